@@ -1,0 +1,101 @@
+//! What the words of the command line ask for.
+
+ghost use Rattle.std.specs.Prelude.{◌<◌, ◌≤◌};
+
+use crate::reports::Stop;
+use clap::error::ErrorKind;
+use clap::{Arg, ArgAction, Command, value_parser};
+use std::alloc::{AllocError, Global};
+
+/// The version that `--version` tells.
+const VERSION: &str = "0.1.0";
+
+/// What the program is, for `--help`.
+const ABOUT: &str = "awk in whole numbers, run over chunks of its input";
+
+/// How many workers there are where `-j` does not tell.
+const WORKERS: u8 = 4;
+
+/// The size of a chunk in bytes where `-c` does not tell.
+const CHUNK: u64 = 1_048_576;
+
+/// What the words ask for.
+#[derive(Drop)]
+pub(crate) struct Request<'a> {
+    /// The program's text.
+    pub(crate) program: &'a str,
+    /// The names of the files; with none standard input is read.
+    pub(crate) files: Vec<&'a str>,
+    /// How many workers there are.
+    pub(crate) workers: u8,
+    /// The size of a chunk in bytes.
+    pub(crate) chunk: u64,
+    /// Whether the route is told.
+    pub(crate) why: bool,
+    ghost some: { 1 ≤ workers },
+    ghost few: { workers ≤ 64 },
+    ghost sized: { 0 < chunk },
+}
+
+fn workers<'a>(alloc: Global) -> Arg<'a> {
+    Arg::new(alloc, "workers")
+        .short('j')
+        .value_name("workers")
+        .help("The number of workers, 1 to 64")
+        .value_parser(value_parser!(u8).range(1..=64))
+        .default_value("4")
+}
+
+fn chunk<'a>(alloc: Global) -> Arg<'a> {
+    Arg::new(alloc, "chunk")
+        .short('c')
+        .value_name("bytes")
+        .help("The size of a chunk in bytes, 1 to 1073741824")
+        .value_parser(value_parser!(u64).range(1..=1_073_741_824))
+        .default_value("1048576")
+}
+
+fn why<'a>(alloc: Global) -> Arg<'a> {
+    Arg::new(alloc, "why")
+        .long("why")
+        .help("Tell on standard error which way the run went")
+        .action(ArgAction::SetTrue)
+}
+
+fn operands<'a>(alloc: Global) -> Arg<'a> {
+    Arg::new(alloc, "operands")
+        .value_name("program> [file]..")
+        .help("The program, and the files that are its input; without files it is standard input")
+        .action(ArgAction::Append)
+        .num_args(0..)
+}
+
+fn definition<'a>(alloc: Global) -> Result<Command<'a>, AllocError> {
+    Command::new(alloc, "pawk")
+        .version(VERSION)
+        .about(ABOUT)
+        .arg(workers(alloc))?
+        .arg(chunk(alloc))?
+        .arg(why(alloc))?
+        .arg(operands(alloc))
+}
+
+/// Reads the words, of which the first is the program's name.
+///
+/// `Line` comes where the words are at fault or ask for help, `Memory` where memory was refused.
+pub(crate) fn read_words<'a>(alloc: Global, words: &'a [String]) -> Result<Request<'a>, Stop> {
+    let mut command = definition(alloc)?;
+    let matches = command.try_get_matches_from_mut(words)?;
+    let operands = matches.get_strs("operands").unwrap_or(&[]);
+    let Some((program, files)) = operands.split_first() else {
+        let error = command.error(ErrorKind::MissingRequiredArgument, "no program")?;
+        return Err(Stop::Line(error));
+    };
+    Ok(Request {
+        program: *program,
+        files: Vec::from_slice(alloc, files)?,
+        workers: matches.get_one::<u8>("workers").unwrap_or(WORKERS).clamp(1, 64),
+        chunk: matches.get_one::<u64>("chunk").unwrap_or(CHUNK).max(1),
+        why: matches.get_flag("why"),
+    })
+}

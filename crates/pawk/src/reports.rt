@@ -1,0 +1,136 @@
+//! What the program tells beside the output.
+
+use clap::Error;
+use clap::error::ErrorKind;
+use pawk_par::{Ending, Place, Report, Route, StreamRefusal, SyntaxRefusal};
+use std::alloc::{AllocError, AllocFailed, Global};
+use std::io;
+use std::io::Write;
+
+/// Why nothing was run to its end.
+#[derive(Debug, Drop)]
+pub(crate) enum Stop {
+    /// Memory was refused.
+    Memory,
+    /// A worker could not be started.
+    Thread,
+    /// The cutting has no plan.
+    Cutting,
+    /// The input is too large.
+    Input,
+    /// The text is no program that is read.
+    Program(SyntaxRefusal),
+    /// An assignment or the budget is refused, by this number.
+    Settings(u8),
+    /// A file of this name could not be read; standard input has none.
+    Read(String),
+    /// The output could not be written.
+    Write,
+    /// The command line is at fault, or asks for help.
+    Line(Error),
+}
+
+impl From<AllocError> for Stop {
+    fn from(_error: AllocError) -> Stop {
+        Stop::Memory
+    }
+}
+
+impl<T: Drop> From<AllocFailed<T>> for Stop {
+    fn from(_error: AllocFailed<T>) -> Stop {
+        Stop::Memory
+    }
+}
+
+impl From<Error> for Stop {
+    fn from(error: Error) -> Stop {
+        if error.kind() == ErrorKind::OutOfMemory {
+            Stop::Memory
+        } else {
+            Stop::Line(error)
+        }
+    }
+}
+
+impl Stop {
+    /// A file that could not be read, or want of memory where the name cannot be kept or the error says so.
+    pub(crate) fn read(alloc: Global, name: &str, error: &io::Error) -> Stop {
+        if error.kind() == io::ErrorKind::OutOfMemory {
+            return Stop::Memory;
+        }
+        match String::from_str(alloc, name) {
+            Ok(name) => Stop::Read(name),
+            Err(_) => Stop::Memory,
+        }
+    }
+
+    /// The same of a run over standard input, which has no name.
+    pub(crate) fn of_streams(alloc: Global, refusal: StreamRefusal) -> Stop {
+        match refusal {
+            StreamRefusal::Memory => Stop::Memory,
+            StreamRefusal::Thread => Stop::Thread,
+            StreamRefusal::Cutting => Stop::Cutting,
+            StreamRefusal::Program(refusal) => Stop::Program(refusal),
+            StreamRefusal::Settings(refusal) => Stop::Settings(refusal as u8),
+            StreamRefusal::Read => Stop::Read(String::new(alloc)),
+            StreamRefusal::Write(_) => Stop::Write,
+            StreamRefusal::Input => Stop::Input,
+        }
+    }
+}
+
+/// Tells why nothing was run to its end, and gives the exit status.
+pub(crate) fn tell_stop<O: Write, E: Write>(stop: &Stop, output: &mut O, errors: &mut E) -> io::Result<u8> {
+    match stop {
+        Stop::Memory => errors.write_all(b"pawk: refused: memory\n")?,
+        Stop::Thread => errors.write_all(b"pawk: refused: thread\n")?,
+        Stop::Cutting => errors.write_all(b"pawk: refused: cutting\n")?,
+        Stop::Input => errors.write_all(b"pawk: refused: input\n")?,
+        Stop::Program(SyntaxRefusal::Memory) => errors.write_all(b"pawk: refused: memory\n")?,
+        Stop::Program(refusal) => tell_program(*refusal, errors)?,
+        Stop::Settings(number) => writeln!(errors, "pawk: bad assignment: {number}")?,
+        Stop::Read(name) => writeln!(errors, "pawk: cannot read {name}")?,
+        Stop::Write => errors.write_all(b"pawk: cannot write\n")?,
+        Stop::Line(error) => return tell_line(error, output, errors),
+    }
+    Ok(2)
+}
+
+fn tell_program<E: Write>(refusal: SyntaxRefusal, errors: &mut E) -> io::Result<()> {
+    let number = refusal.number();
+    let place = refusal.place();
+    writeln!(errors, "pawk: program refused: {number} at byte {place}")
+}
+
+/// The command line's own text: help that was asked for goes to the output.
+fn tell_line<O: Write, E: Write>(error: &Error, output: &mut O, errors: &mut E) -> io::Result<u8> {
+    if error.use_stderr() {
+        write!(errors, "{error}")?;
+        return Ok(2);
+    }
+    write!(output, "{error}")?;
+    output.flush()?;
+    Ok(0)
+}
+
+/// Tells the route where it is asked for, and a fault, and gives the exit status.
+pub(crate) fn tell_ending<E: Write>(ending: Ending, report: Report, why: bool, errors: &mut E) -> io::Result<u8> {
+    if why {
+        match report.route {
+            Route::Redo => errors.write_all(b"pawk: route redo\n")?,
+            Route::Parallel => errors.write_all(b"pawk: route parallel\n")?,
+        }
+    }
+    match ending {
+        Ending::Status(status) => Ok(status),
+        Ending::Fault(fault, place) => {
+            let name = fault.name();
+            match place {
+                Place::Begin => writeln!(errors, "pawk: fault {name} in BEGIN")?,
+                Place::Record(number) => writeln!(errors, "pawk: fault {name} at record {number}")?,
+                Place::End => writeln!(errors, "pawk: fault {name} in END")?,
+            }
+            Ok(2)
+        }
+    }
+}

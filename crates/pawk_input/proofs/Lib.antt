@@ -1,0 +1,10 @@
+pub mod RecordsLemmas
+pub mod RecordsLawLemmas
+pub mod FieldsLemmas
+pub mod FieldsLawLemmas
+pub mod ItemsLemmas
+pub mod CutLemmas
+pub mod SizeLemmas
+pub mod PlanLemmas
+pub mod CutPlanLemmas
+pub mod DraftLemmas

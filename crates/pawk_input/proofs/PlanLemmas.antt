@@ -1,0 +1,274 @@
+-- The chunks of a plan hold the records in order, with their numbers.
+use Rattle.std.proofs.Common.{◌≡◌, inl, inr, ℕ, zero, suc, ◌+◌, ◌-◌, ◌<◌, ◌≤◌, Bool, true, false, cond, eqb, leb, List, [], ◌∷◌, ◌++◌, length, take, drop, get_or, refl, ap, arith, sym, ◌∙◌, subst, All, append_assoc, length-append}
+use Rattle.std.proofs.lemmas.Bool.{eqb-true}
+use Rattle.std.proofs.lemmas.List.{append-nil, take_rest, drop-drop, get_or-drop, length-drop, length-take-le, drop_more}
+use Rattle.std.proofs.lemmas.List.Elements.{All-nil, All-cons, All-head, All-tail, All-append}
+use Rattle.std.proofs.lemmas.List.Concat.{flat_map-append}
+use Rattle.std.specs.List.{flat_map, slice_range, Contains}
+use Rattle.pawk_input.specs.Records.{records, records_by, begins_by, begins_from, separator_of}
+use Rattle.pawk_input.specs.Input.{File, Item, file_at, empty_file, numbered, items_from, total_size}
+use Rattle.pawk_input.specs.Plan.{IsPlanOf, IsChunkOf, Rises, chunk_bytes, chunk_items, chunks_at, planned, spaced, spaced_from}
+use Rattle.pawk_input.specs.declared.cutting.Chunk.{Chunk}
+use Rattle.pawk_input.proofs.RecordsLemmas.{some_records}
+use Rattle.pawk_input.proofs.CutLemmas.{IsCut, records_parts, length-records-part, contains_cut}
+use Rattle.pawk_input.proofs.ItemsLemmas.{length-numbered, length-items_from}
+
+numbered-append : (file : ℕ) (name : List ℕ) (nr fnr : ℕ) (xs ys : List (List ℕ)) → numbered file name nr fnr (xs ++ ys) ≡ numbered file name nr fnr xs ++ numbered file name (nr + length xs) (fnr + length xs) ys
+numbered-append file name nr fnr [] ys =
+    let a : nr ≡ nr + 0 = omega arith in
+    let b : fnr ≡ fnr + 0 = omega arith in
+    ap (λ n. numbered file name n fnr ys) a ∙ ap (λ n. numbered file name (nr + 0) n ys) b
+numbered-append file name nr fnr (x ∷ xs) ys =
+    let a : nr + 1 + length xs ≡ nr + length (x ∷ xs) = omega arith in
+    let b : fnr + 1 + length xs ≡ fnr + length (x ∷ xs) = omega arith in
+    let front = record { bytes = x; file = file; name = name; nr = nr + 1; fnr = fnr + 1 } ∷ numbered file name (nr + 1) (fnr + 1) xs in
+    ap (λ l. record { bytes = x; file = file; name = name; nr = nr + 1; fnr = fnr + 1 } ∷ l) (numbered-append file name (nr + 1) (fnr + 1) xs ys)
+    ∙ ap (λ n. front ++ numbered file name n (fnr + 1 + length xs) ys) a
+    ∙ ap (λ n. front ++ numbered file name (nr + length (x ∷ xs)) n ys) b
+
+-- ---- the chunks of one file
+
+module _ (rs : List ℕ) (files : List File) (k nr : ℕ) (name bytes : List ℕ) (is_file : file_at files k ≡ record { name = name; bytes = bytes }) where
+  abbrev before : ℕ → ℕ
+  before p = length (records_by rs (take p bytes))
+
+  abbrev chunk_of : ℕ → ℕ → Chunk
+  chunk_of p q = record { file = k; range = record { start = p; end = q }; nr = nr + before p; fnr = before p }
+
+  items_of_chunk : (p q : ℕ) → chunk_items rs files (chunk_of p q) ≡ numbered k name (nr + before p) (before p) (records_by rs (take (q - p) (drop p bytes)))
+  items_of_chunk p q = ap (λ (f : File). numbered k f.name (nr + before p) (before p) (records_by rs (slice_range f.bytes p q))) is_file
+
+  abbrev e : ℕ
+  e = separator_of rs
+
+  items_of_chunks : (p : ℕ) (qs : List ℕ) → IsCut e bytes p → p < length bytes → Rises e bytes p qs
+      → flat_map (chunk_items rs files) (chunks_at rs k bytes nr (p ∷ qs)) ≡ numbered k name (nr + before p) (before p) (records_by rs (drop p bytes))
+  items_of_chunks p [] cut lt rising =
+      append-nil _ ∙ items_of_chunk p (length bytes) ∙ ap (λ l. numbered k name (nr + before p) (before p) (records_by rs l)) (take_rest bytes p)
+  items_of_chunks p (q ∷ qs) cut lt rising =
+      let part = take (q - p) (drop p bytes) in
+      let rest = drop p bytes in
+      let there : p + (q - p) ≡ q = omega (arith, rising.0) in
+      let read : get_or rest (q - p - 1) 0 ≡ e = get_or-drop p bytes (q - p - 1) 0 ∙ ap (λ i. get_or bytes i 0) (let i : p + (q - p - 1) ≡ q - 1 = omega (arith, rising.0) in i) ∙ rising.2 in
+      let parted : records_by rs rest ≡ records_by rs part ++ records_by rs (drop q bytes) =
+      records_parts e rest (q - p) (inr (omega (arith, rising.0), omega (arith, length-drop p bytes, rising.1), read))
+      ∙ ap (λ l. records_by rs part ++ records_by rs l) (drop-drop (q - p) p bytes ∙ ap (λ i. drop i bytes) there) in
+      let count : before q ≡ before p + length (records_by rs part) =
+      ap before (sym there) ∙ length-records-part e bytes p (q - p) cut (omega (arith, rising.0, rising.1)) in
+      let nrs : nr + before q ≡ nr + before p + length (records_by rs part) = omega arith in
+      let later = items_of_chunks q qs (inr (omega (arith, rising.0), omega (arith, rising.1), rising.2)) rising.1 rising.3 in
+      ap (λ l. l ++ flat_map (chunk_items rs files) (chunks_at rs k bytes nr (q ∷ qs))) (items_of_chunk p q)
+      ∙ ap (λ l. numbered k name (nr + before p) (before p) (records_by rs part) ++ l) (later
+      ∙ ap (λ n. numbered k name n (before q) (records_by rs (drop q bytes))) nrs
+      ∙ ap (λ n. numbered k name (nr + before p + length (records_by rs part)) n (records_by rs (drop q bytes))) count)
+      ∙ sym (numbered-append k name (nr + before p) (before p) (records_by rs part) (records_by rs (drop q bytes)))
+      ∙ ap (numbered k name (nr + before p) (before p)) (sym parted)
+
+  module _ (exists : k < length files) where
+    is_chunk : (p q : ℕ) → IsCut e bytes p → p < q → q ≤ length bytes → IsChunkOf rs files (chunk_of p q)
+    is_chunk p q cut lt le =
+        let part = take (q - p) (drop p bytes) in
+        let long : length part ≡ q - p = length-take-le (q - p) (drop p bytes) (omega (arith, length-drop p bytes)) in
+        let some = some_records e part (omega (arith, long)) in
+        let count = ap length (items_of_chunk p q) ∙ length-numbered k name (nr + before p) (before p) (records_by rs part) in
+        record {
+          exists = exists;
+          rises = lt;
+          within = subst (λ (f : File). q ≤ length f.bytes) (sym is_file) le;
+          begins = subst (λ (f : File). Contains (begins_by rs f.bytes) p) (sym is_file) (contains_cut e bytes p cut (omega arith));
+          some = omega (arith, count, some);
+        }
+
+    each_chunk : (p : ℕ) (qs : List ℕ) → IsCut e bytes p → p < length bytes → Rises e bytes p qs → All (λ c. IsChunkOf rs files c) (chunks_at rs k bytes nr (p ∷ qs))
+    each_chunk p [] cut lt rising =
+        All-cons (λ c. IsChunkOf rs files c) (chunk_of p (length bytes)) [] (is_chunk p (length bytes) cut lt (omega arith)) (All-nil (λ c. IsChunkOf rs files c))
+    each_chunk p (q ∷ qs) cut lt rising =
+        All-cons (λ c. IsChunkOf rs files c) (chunk_of p q) (chunks_at rs k bytes nr (q ∷ qs))
+        (is_chunk p q cut rising.0 (omega (arith, rising.1)))
+        (each_chunk q qs (inr (omega (arith, rising.0), omega (arith, rising.1), rising.2)) rising.1 rising.3)
+
+-- the places at which a file's chunks begin: with its first record, and at records after it
+abbrev pub Picked : ℕ → List ℕ → List ℕ → Type 0
+Picked e [] ps = ps ≡ []
+Picked e (b ∷ s) [] = ⊥
+Picked e (b ∷ s) (p ∷ ps) = (p ≡ 0) × Rises e (b ∷ s) 0 ps
+
+module _ (rs : List ℕ) (files : List File) (k nr : ℕ) (name : List ℕ) where
+  items_of_file : (bytes ps : List ℕ) → file_at files k ≡ record { name = name; bytes = bytes } → Picked (separator_of rs) bytes ps
+      → flat_map (chunk_items rs files) (chunks_at rs k bytes nr ps) ≡ numbered k name nr 0 (records_by rs bytes)
+  items_of_file [] ps is_file h = rw h refl
+  items_of_file (b ∷ s) [] is_file h = absurd h
+  items_of_file (b ∷ s) (p ∷ ps) is_file h =
+      rw h.0 (items_of_chunks rs files k nr name (b ∷ s) is_file 0 ps (inl refl) (omega arith) h.1
+      ∙ ap (λ n. numbered k name n 0 (records_by rs (b ∷ s))) (let z : nr + 0 ≡ nr = omega arith in z))
+
+  each_of_file : (bytes ps : List ℕ) → file_at files k ≡ record { name = name; bytes = bytes } → k < length files → Picked (separator_of rs) bytes ps
+      → All (λ c. IsChunkOf rs files c) (chunks_at rs k bytes nr ps)
+  each_of_file [] ps is_file exists h = rw h (All-nil (λ c. IsChunkOf rs files c))
+  each_of_file (b ∷ s) [] is_file exists h = absurd h
+  each_of_file (b ∷ s) (p ∷ ps) is_file exists h =
+      let P : ℕ → Type 0 = λ q. All (λ c. IsChunkOf rs files c) (chunks_at rs k (b ∷ s) nr (q ∷ ps)) in
+      subst P (sym h.0) (each_chunk rs files k nr name (b ∷ s) is_file exists 0 ps (inl refl) (omega arith) h.1)
+
+-- ---- the chunks of all files
+
+module _ (rs : List ℕ) (files : List File) (chosen : ℕ → List ℕ → List ℕ)
+    (picked : (j : ℕ) → Picked (separator_of rs) (file_at files j).bytes (chosen j (begins_by rs (file_at files j).bytes))) where
+  first_left : (k : ℕ) (f : File) (fs : List File) → drop k files ≡ f ∷ fs → file_at files k ≡ f
+  first_left k f fs h =
+      let z : k ≡ k + 0 = omega arith in
+      ap (λ i. get_or files i empty_file) z ∙ sym (get_or-drop k files 0 empty_file) ∙ ap (λ l. get_or l 0 empty_file) h
+
+  later_left : (k : ℕ) (f : File) (fs : List File) → drop k files ≡ f ∷ fs → drop (k + 1) files ≡ fs
+  later_left k f fs h = sym (drop-drop 1 k files) ∙ ap (drop 1) h
+
+  is_there : (k : ℕ) (f : File) (fs : List File) → drop k files ≡ f ∷ fs → k < length files
+  is_there k f fs h = omega (arith, length-drop k files, ap length h)
+
+  picked_of : (k : ℕ) (f : File) → file_at files k ≡ f → Picked (separator_of rs) f.bytes (chosen k (begins_by rs f.bytes))
+  picked_of k f h = subst (λ (g : File). Picked (separator_of rs) g.bytes (chosen k (begins_by rs g.bytes))) h (picked k)
+
+  items_of_plan : (k nr : ℕ) (fs : List File) → drop k files ≡ fs → flat_map (chunk_items rs files) (planned rs chosen k nr fs) ≡ items_from rs k nr fs
+  items_of_plan k nr [] h = refl
+  items_of_plan k nr (f ∷ fs) h =
+      let here = first_left k f fs h in
+      let count = nr + length (records_by rs f.bytes) in
+      flat_map-append (chunk_items rs files) (chunks_at rs k f.bytes nr (chosen k (begins_by rs f.bytes))) (planned rs chosen (k + 1) count fs)
+      ∙ ap (λ l. l ++ flat_map (chunk_items rs files) (planned rs chosen (k + 1) count fs)) (items_of_file rs files k nr f.name f.bytes (chosen k (begins_by rs f.bytes)) here (picked_of k f here))
+      ∙ ap (λ l. numbered k f.name nr 0 (records_by rs f.bytes) ++ l) (items_of_plan (k + 1) count fs (later_left k f fs h))
+
+  each_of_plan : (k nr : ℕ) (fs : List File) → drop k files ≡ fs → All (λ c. IsChunkOf rs files c) (planned rs chosen k nr fs)
+  each_of_plan k nr [] h = All-nil (λ c. IsChunkOf rs files c)
+  each_of_plan k nr (f ∷ fs) h =
+      let here = first_left k f fs h in
+      let count = nr + length (records_by rs f.bytes) in
+      All-append (λ c. IsChunkOf rs files c) (chunks_at rs k f.bytes nr (chosen k (begins_by rs f.bytes))) (planned rs chosen (k + 1) count fs)
+      (each_of_file rs files k nr f.name f.bytes (chosen k (begins_by rs f.bytes)) here (is_there k f fs h) (picked_of k f here))
+      (each_of_plan (k + 1) count fs (later_left k f fs h))
+
+  pub is_plan : IsPlanOf rs files (planned rs chosen 0 0 files)
+  is_plan = record { whole = items_of_plan 0 0 files refl; each = each_of_plan 0 0 files refl }
+
+-- ---- by size
+
+module _ (e : ℕ) (s : List ℕ) where
+  Rises-lower : (p q : ℕ) (xs : List ℕ) → p ≤ q → Rises e s q xs → Rises e s p xs
+  Rises-lower p q [] le h = tt
+  Rises-lower p q (x ∷ xs) le h = (omega (arith, h.0), h.1, h.2, h.3)
+
+  Rises-spaced : (size from p : ℕ) (xs : List ℕ) → Rises e s p xs → Rises e s p (spaced_from size from xs)
+  Rises-spaced size from p [] h = tt
+  Rises-spaced size from p (x ∷ xs) h =
+      let kept = Rises-spaced size x x xs h.3 in
+      let later = Rises-lower p x (spaced_from size from xs) (omega (arith, h.0)) (Rises-spaced size from x xs h.3) in
+      elim (leb (from + size) x) as (λ v. Rises e s p (cond v (x ∷ spaced_from size x xs) (spaced_from size from xs))) [
+        | true ↦ (h.0, h.1, h.2, kept)
+        | false ↦ later
+      ]
+
+  Rises-begins : (t : List ℕ) (at p : ℕ) (fresh : Bool) → drop at s ≡ t → p < at → (fresh ≡ true → get_or s (at - 1) 0 ≡ e) → Rises e s p (begins_from e at fresh t)
+  Rises-begins [] at p fresh left lt h = tt
+  Rises-begins (b ∷ t) at p fresh left lt h =
+      let there : at < length s = omega (arith, length-drop at s, ap length left) in
+      let z : at ≡ at + 0 = omega arith in
+      let read : get_or s at 0 ≡ b = ap (λ i. get_or s i 0) z ∙ sym (get_or-drop at s 0 0) ∙ ap (λ l. get_or l 0 0) left in
+      let more : drop (at + 1) s ≡ t = sym (drop-drop 1 at s) ∙ ap (drop 1) left in
+      let same : at + 1 - 1 ≡ at = omega arith in
+      let ends : eqb b e ≡ true → get_or s (at + 1 - 1) 0 ≡ e = λ is. ap (λ i. get_or s i 0) same ∙ read ∙ eqb-true b e is in
+      elim fresh as (λ v. (v ≡ true → get_or s (at - 1) 0 ≡ e) → Rises e s p (cond v (at ∷ begins_from e (at + 1) (eqb b e) t) (begins_from e (at + 1) (eqb b e) t))) [
+        | true ↦ (λ f. (lt, there, f refl, Rises-begins t (at + 1) at (eqb b e) more (omega arith) ends))
+        | false ↦ (λ f. Rises-begins t (at + 1) p (eqb b e) more (omega arith) ends)
+      ] h
+
+pub picked_by_size : (e size : ℕ) (s : List ℕ) → Picked e s (spaced size (begins_from e 0 true s))
+picked_by_size e size [] = refl
+picked_by_size e size (b ∷ s) =
+    (refl, Rises-spaced e (b ∷ s) size 0 0 (begins_from e (0 + 1) (eqb b e) s) (Rises-begins e (b ∷ s) s (0 + 1) 0 (eqb b e) refl (omega arith) (λ is. eqb-true b e is)))
+
+-- ---- a loop over the files
+
+module _ (rs : List ℕ) (files : List File) (chosen : ℕ → List ℕ → List ℕ) (file nr : ℕ) (bytes : List ℕ)
+    (there : file < length files) (is_bytes : bytes ≡ (file_at files file).bytes) where
+  -- the chunks of what is left are those of the next file, and those after it
+  pub planned_next : (later : ℕ) → later ≡ nr + length (records_by rs bytes)
+      → planned rs chosen file nr (drop file files) ≡ chunks_at rs file bytes nr (chosen file (begins_by rs bytes)) ++ planned rs chosen (file + 1) later (drop (file + 1) files)
+  planned_next later count =
+      ap (planned rs chosen file nr) (drop_more files file empty_file there)
+      ∙ ap (λ s. chunks_at rs file s nr (chosen file (begins_by rs s)) ++ planned rs chosen (file + 1) (nr + length (records_by rs s)) (drop (file + 1) files)) (sym is_bytes)
+      ∙ ap (λ n. chunks_at rs file bytes nr (chosen file (begins_by rs bytes)) ++ planned rs chosen (file + 1) n (drop (file + 1) files)) (sym count)
+
+  -- once the next file's chunks are there, those of the files after it are left
+  pub planned_turn : (later : ℕ) (old new all : List Chunk) → later ≡ nr + length (records_by rs bytes) → new ≡ old ++ chunks_at rs file bytes nr (chosen file (begins_by rs bytes))
+      → old ++ planned rs chosen file nr (drop file files) ≡ all → new ++ planned rs chosen (file + 1) later (drop (file + 1) files) ≡ all
+  planned_turn later old new all count added is =
+      let rest = planned rs chosen (file + 1) later (drop (file + 1) files) in
+      ap (λ l. l ++ rest) added ∙ append_assoc old (chunks_at rs file bytes nr (chosen file (begins_by rs bytes))) rest
+      ∙ ap (λ l. old ++ l) (sym (planned_next later count)) ∙ is
+
+  -- and the bytes that are left
+  pub total_size_next : total_size (drop file files) ≡ length bytes + total_size (drop (file + 1) files)
+  total_size_next = ap total_size (drop_more files file empty_file there) ∙ ap (λ s. length s + total_size (drop (file + 1) files)) (sym is_bytes)
+
+-- ---- a chunk of a plan
+
+-- numbered items rise by one from the n before them, and no number in a file passes the number among all
+abbrev pub Counted : ℕ → List Item → Type 0
+Counted n [] = Unit {0}
+Counted n (i ∷ is) = (i.nr ≡ n + 1) × (i.fnr ≤ i.nr) × Counted (n + 1) is
+
+Counted-append : (n : ℕ) (xs ys : List Item) → Counted n xs → Counted (n + length xs) ys → Counted n (xs ++ ys)
+Counted-append n [] ys h k = subst (λ m. Counted m ys) (let z : n + 0 ≡ n = omega arith in z) k
+Counted-append n (x ∷ xs) ys h k =
+    let same : n + length (x ∷ xs) ≡ n + 1 + length xs = omega arith in
+    (h.0, h.1, Counted-append (n + 1) xs ys h.2 (subst (λ m. Counted m ys) same k))
+
+Counted-after : (n : ℕ) (xs ys : List Item) → Counted n (xs ++ ys) → Counted (n + length xs) ys
+Counted-after n [] ys h = subst (λ m. Counted m ys) (let z : n ≡ n + 0 = omega arith in z) h
+Counted-after n (x ∷ xs) ys h =
+    let same : n + 1 + length xs ≡ n + length (x ∷ xs) = omega arith in
+    subst (λ m. Counted m ys) same (Counted-after (n + 1) xs ys h.2)
+
+Counted-numbered : (file : ℕ) (name : List ℕ) (nr fnr : ℕ) (rs : List (List ℕ)) → fnr ≤ nr → Counted nr (numbered file name nr fnr rs)
+Counted-numbered file name nr fnr [] le = tt
+Counted-numbered file name nr fnr (r ∷ rs) le = (refl, omega arith, Counted-numbered file name (nr + 1) (fnr + 1) rs (omega arith))
+
+Counted-items_from : (rs : List ℕ) (file nr : ℕ) (fs : List File) → Counted nr (items_from rs file nr fs)
+Counted-items_from rs file nr [] = tt
+Counted-items_from rs file nr (f ∷ fs) =
+    let front = numbered file f.name nr 0 (records_by rs f.bytes) in
+    let same : nr + length (records_by rs f.bytes) ≡ nr + length front = omega (arith, length-numbered file f.name nr 0 (records_by rs f.bytes)) in
+    let later = items_from rs (file + 1) (nr + length (records_by rs f.bytes)) fs in
+    Counted-append nr front later (Counted-numbered file f.name nr 0 (records_by rs f.bytes) (omega arith))
+    (subst (λ m. Counted m later) same (Counted-items_from rs (file + 1) (nr + length (records_by rs f.bytes)) fs))
+
+module _ (rs : List ℕ) (files : List File) where
+  -- of numbered records that are some, the ones before them are counted right
+  counted_first : (n file : ℕ) (name : List ℕ) (nr fnr : ℕ) (records : List (List ℕ)) (more : List Item) → 0 < length (numbered file name nr fnr records)
+      → Counted n (numbered file name nr fnr records ++ more) → (nr ≡ n) × (fnr ≤ nr)
+  counted_first n file name nr fnr [] more some h = absurd (omega arith)
+  counted_first n file name nr fnr (r ∷ records) more some h = (omega (arith, h.0), omega (arith, h.1))
+
+  counted_chunk : (n : ℕ) (chunks : List Chunk) (i : ℕ) (d : Chunk) → i < length chunks → All (λ c. IsChunkOf rs files c) chunks
+      → Counted n (flat_map (chunk_items rs files) chunks)
+      → ((get_or chunks i d).nr + length (records_by rs (chunk_bytes files (get_or chunks i d))) ≤ n + length (flat_map (chunk_items rs files) chunks))
+      × ((get_or chunks i d).fnr ≤ (get_or chunks i d).nr)
+  counted_chunk n [] i d lt each h = absurd (omega arith)
+  counted_chunk n (c ∷ cs) zero d lt each h =
+      let first = All-head (λ c. IsChunkOf rs files c) c cs each in
+      let front = numbered c.file (file_at files c.file).name c.nr c.fnr (records_by rs (chunk_bytes files c)) in
+      let right = counted_first n c.file (file_at files c.file).name c.nr c.fnr (records_by rs (chunk_bytes files c)) (flat_map (chunk_items rs files) cs) first.some h in
+      let long = length-append front (flat_map (chunk_items rs files) cs) in
+      let count = length-numbered c.file (file_at files c.file).name c.nr c.fnr (records_by rs (chunk_bytes files c)) in
+      (omega (arith, right.0, long, count), right.1)
+  counted_chunk n (c ∷ cs) (suc i) d lt each h =
+      let front = chunk_items rs files c in
+      let rest = counted_chunk (n + length front) cs i d (omega arith) (All-tail (λ c. IsChunkOf rs files c) c cs each) (Counted-after n front (flat_map (chunk_items rs files) cs) h) in
+      (omega (arith, rest.0, length-append front (flat_map (chunk_items rs files) cs)), rest.1)
+
+  -- the numbers of a plan's chunk stay below the count of all bytes
+  pub plan_fits : (chunks : List Chunk) (i : ℕ) (d : Chunk) → i < length chunks → IsPlanOf rs files chunks
+      → ((get_or chunks i d).nr + length (records_by rs (chunk_bytes files (get_or chunks i d))) ≤ total_size files)
+      × ((get_or chunks i d).fnr ≤ (get_or chunks i d).nr)
+  plan_fits chunks i d lt plan =
+      let counted = counted_chunk 0 chunks i d lt plan.each (subst (Counted 0) (sym plan.whole) (Counted-items_from rs 0 0 files)) in
+      (omega (arith, counted.0, ap length plan.whole, length-items_from rs 0 0 files), counted.1)

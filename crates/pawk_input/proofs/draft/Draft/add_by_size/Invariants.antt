@@ -1,0 +1,21 @@
+use Rattle.std.proofs.Common.{◌≡◌, ◌⊎◌, ◌-◌, ◌≤◌, ◌++◌, true, length, take, drop, vec_len}
+use Rattle.pawk_input.specs.declared.cutting.TheConstants.{MOST_CHUNKS}
+use Rattle.pawk_input.specs.Records.{records_by, begins_by, begins_from, separator_of}
+use Rattle.pawk_input.specs.Plan.{chunks_at, spaced}
+use Rattle.pawk_input.proofs.CutLemmas.{IsCut}
+use Rattle.pawk_input.proofs.draft.Draft.add_by_size.Given as goal
+
+abbrev pub invariant-loop-start : goal.invariant-loop-start
+invariant-loop-start l = record {
+  nr : l.self.nr ≡ l.initial.self.nr;
+  counted : l.fnr ≡ length (records_by l.rs (take l.start l.bytes));
+  room : l.fnr ≤ l.start;
+  within : l.start ≤ length l.bytes;
+  cut : (l.start ≡ length l.bytes) ⊎ IsCut (separator_of l.rs) l.bytes l.start;
+  few : vec_len l.self.chunks ≤ MOST_CHUNKS;
+  chunks : l.self.chunks.items ++ chunks_at l.rs l.file l.bytes l.self.nr (spaced l.size (begins_from (separator_of l.rs) l.start true (drop l.start l.bytes)))
+      ≡ l.initial.self.chunks.items ++ chunks_at l.rs l.file l.bytes l.initial.self.nr (spaced l.size (begins_by l.rs l.bytes));
+}
+
+abbrev pub decreases-loop-start : goal.decreases-loop-start
+decreases-loop-start l = length l.bytes - l.start

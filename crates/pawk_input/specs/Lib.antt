@@ -1,0 +1,5 @@
+pub mod Records
+pub mod Input
+pub mod Walk
+pub mod Fields
+pub mod Plan

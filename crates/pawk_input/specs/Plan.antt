@@ -1,0 +1,131 @@
+-- Chunks of the input: a plan writes the list of all records as consecutive runs, none over two files.
+use Rattle.std.specs.Prelude.{ℕ, ◌+◌, ◌-◌, ◌≡◌, ◌≢◌, ◌⊎◌, ◌<◌, ◌≤◌, Bool, true, nat_lt, nat_le, ◌==◌, ◌||◌, ◌&&◌, if◌then◌else◌, List, [], ◌∷◌, ◌++◌, length, take, drop, All, Contains, Option, None, Some, MatchOption, slice_range, slice_index}
+use Rattle.std.specs.List.{slice_index_or, flat_map, list_any}
+use Rattle.pawk_input.specs.Records.{records_by, begins_by}
+use Rattle.pawk_input.specs.Input.{File, Item, file_at, numbered, items}
+use Rattle.pawk_input.specs.declared.cutting.Chunk.{Chunk}
+use Rattle.pawk_input.specs.declared.cutting.CutRefusal.{CutRefusal}
+use Rattle.pawk_input.specs.declared.cutting.CutRefusal.TheVariants.{NoRecord, NotRising, TooMany, Memory}
+
+-- the bytes of a chunk's range
+abbrev pub chunk_bytes : List File → Chunk → List ℕ
+chunk_bytes files c = slice_range (file_at files c.file).bytes c.range.start c.range.end
+
+-- the records of a chunk's range, with their numbers: before the first came c.nr records, c.fnr of them in this file
+abbrev pub chunk_items : List ℕ → List File → Chunk → List Item
+chunk_items rs files c = numbered c.file (file_at files c.file).name c.nr c.fnr (records_by rs (chunk_bytes files c))
+
+-- a chunk lies in a file, its first record begins where its range begins, and it has one
+pub record IsChunkOf (rs : List ℕ) (files : List File) (c : Chunk) : Type 0 where
+  pub exists : c.file < length files
+  pub rises : c.range.start < c.range.end
+  pub within : c.range.end ≤ length (file_at files c.file).bytes
+  pub begins : Contains (begins_by rs (file_at files c.file).bytes) c.range.start
+  pub some : 0 < length (chunk_items rs files c)
+
+-- the chunks' records one after the other are all records, with the same numbers
+pub record IsPlanOf (rs : List ℕ) (files : List File) (chunks : List Chunk) : Type 0 where
+  pub whole : flat_map (chunk_items rs files) chunks ≡ items rs files
+  pub each : All (λ c. IsChunkOf rs files c) chunks
+
+-- The chunks of a file that begin at these places: each reaches to the next place, the last to the file's end.
+-- Before the file came nr records; those of the bytes before a chunk are the ones before it in its file.
+abbrev pub chunks_at : List ℕ → ℕ → List ℕ → ℕ → List ℕ → List Chunk
+chunks_at rs file bytes nr [] = []
+chunks_at rs file bytes nr (p ∷ ps) =
+    record {
+      file = file;
+      range = record { start = p; end = slice_index_or ps 0 (length bytes) };
+      nr = nr + length (records_by rs (take p bytes));
+      fnr = length (records_by rs (take p bytes));
+    }
+    ∷ chunks_at rs file bytes nr ps
+
+-- the chunks of files of which the first stands at place `file` and before which nr records came, where `chosen` takes a file's place and the places where its records begin to those where its chunks do
+abbrev pub planned : List ℕ → (ℕ → List ℕ → List ℕ) → ℕ → ℕ → List File → List Chunk
+planned rs chosen file nr [] = []
+planned rs chosen file nr (f ∷ fs) =
+    chunks_at rs file f.bytes nr (chosen file (begins_by rs f.bytes))
+    ++ planned rs chosen (file + 1) (nr + length (records_by rs f.bytes)) fs
+
+-- ---- by size
+
+-- of places that rise, each first one that lies at least `size` past the one taken before it, which is `from` at the beginning
+abbrev pub spaced_from : ℕ → ℕ → List ℕ → List ℕ
+spaced_from size from [] = []
+spaced_from size from (p ∷ ps) =
+    if nat_le (from + size) p then p ∷ spaced_from size p ps else spaced_from size from ps
+
+-- the first place, and each first one that lies at least `size` past the one taken before it
+abbrev pub spaced : ℕ → List ℕ → List ℕ
+spaced size [] = []
+spaced size (p ∷ ps) = p ∷ spaced_from size p ps
+
+-- The plan by size: a chunk ends before the first record that begins at least `size` bytes past the chunk's begin,
+-- or at the end of the file; a file with records always begins a chunk.
+abbrev pub sized : List ℕ → List File → ℕ → List Chunk
+sized rs files size = planned rs (λ _ places. spaced size places) 0 0 files
+
+-- ---- at cuts, each a file's place and an offset in it, both counted from 0
+
+-- the offsets of the cuts in this file
+abbrev pub offsets : ℕ → List (ℕ × ℕ) → List ℕ
+offsets file [] = []
+offsets file (cut ∷ cuts) = if cut.0 == file then cut.1 ∷ offsets file cuts else offsets file cuts
+
+-- a file with records begins a chunk, and one more begins at each cut in it
+abbrev pub cut_places : List (ℕ × ℕ) → ℕ → List ℕ → List ℕ
+cut_places cuts file [] = []
+cut_places cuts file (p ∷ ps) = p ∷ offsets file cuts
+
+abbrev pub cut_at : List ℕ → List File → List (ℕ × ℕ) → List Chunk
+cut_at rs files cuts = planned rs (cut_places cuts) 0 0 files
+
+-- whether a record after its file's first begins at the cut
+abbrev pub begins_record : List ℕ → List File → ℕ × ℕ → Bool
+begins_record rs files cut = list_any (λ p. cut.1 == p) (drop 1 (begins_by rs (file_at files cut.0).bytes))
+
+-- whether a cut comes after the cut before it, if there is one: by files first, then by offsets
+abbrev pub is_after : Option (ℕ × ℕ) → ℕ × ℕ → Bool
+is_after None cut = true
+is_after (Some before) cut = nat_lt before.0 cut.0 || ((before.0 == cut.0) && nat_lt before.1 cut.1)
+
+-- what is wrong with the first cut at fault, where `before` is the cut before these
+abbrev pub cut_fault_from : List ℕ → List File → Option (ℕ × ℕ) → List (ℕ × ℕ) → Option CutRefusal
+cut_fault_from rs files before [] = None
+cut_fault_from rs files before (cut ∷ cuts) =
+    if begins_record rs files cut then
+    (if is_after before cut then cut_fault_from rs files (Some cut) cuts else Some NotRising)
+    else Some NoRecord
+
+abbrev pub cut_fault : List ℕ → List File → List (ℕ × ℕ) → Option CutRefusal
+cut_fault rs files cuts = cut_fault_from rs files None cuts
+
+-- ---- what the two plans are refused with
+
+-- a list of so many chunks is refused because that is more than `most`, or because memory was refused
+abbrev pub RefusesMany : ℕ → ℕ → CutRefusal → Type 0
+RefusesMany count most NoRecord = ⊥
+RefusesMany count most NotRising = ⊥
+RefusesMany count most TooMany = most < count
+RefusesMany count most Memory = Unit {0}
+
+-- a cutting is refused with what is wrong with the first cut at fault; where none is, because it has more than `most` chunks, or because memory was refused
+abbrev pub RefusesCuts : List ℕ → List File → List (ℕ × ℕ) → ℕ → CutRefusal → Type 0
+RefusesCuts rs files cuts most refusal =
+    MatchOption (cut_fault rs files cuts) (RefusesMany (length (cut_at rs files cuts)) most refusal) (λ fault. refusal ≡ fault)
+
+-- ---- steps of the plans
+
+-- of the rest s of a file a chunk takes the first n bytes: it ends where a record begins at least `size` bytes on, or at the end, and no record begins between
+pub record IsPiece (separator size : ℕ) (s : List ℕ) (n : ℕ) : Type 0 where
+  pub some : 0 < n
+  pub within : n ≤ length s
+  pub ends : (n ≡ length s) ⊎ ((size ≤ n) × (slice_index s (n - 1) ≡ separator))
+  pub first : (p : ℕ) → size ≤ p → p < n → slice_index s (p - 1) ≢ separator
+
+-- these places rise from p on, and a record begins at each
+abbrev pub Rises : ℕ → List ℕ → ℕ → List ℕ → Type 0
+Rises separator bytes p [] = Unit {0}
+Rises separator bytes p (q ∷ qs) =
+    (p < q) × (q < length bytes) × (slice_index bytes (q - 1) ≡ separator) × Rises separator bytes q qs

@@ -1,0 +1,54 @@
+-- The records of a file, and where they begin.
+-- POSIX.1-2017, awk, "Input Files" and "Variables and Special Variables" (RS).
+use Rattle.std.specs.Prelude.{◌⊎◌, ◌≢◌, ◌++◌, ◌≡◌, ℕ, ◌+◌, Bool, true, ◌==◌, if◌then◌else◌, List, [], ◌∷◌, slice_index}
+use Rattle.std.specs.List.{onto_first}
+
+-- no byte of r is the separator
+abbrev pub NoSeparator : ℕ → List ℕ → Type 0
+NoSeparator separator [] = Unit {0}
+NoSeparator separator (b ∷ r) = (b ≢ separator) × NoSeparator separator r
+
+-- The bytes are the records, each followed by the separator, which no record holds.
+-- Only the last may lack it, and then is not empty.
+abbrev pub Spelled : ℕ → List ℕ → List (List ℕ) → Type 0
+Spelled separator bytes [] = bytes ≡ []
+Spelled separator bytes (r ∷ rs) =
+    NoSeparator separator r
+    × (((rs ≡ []) × (r ≢ []) × (bytes ≡ r))
+    ⊎ ((rest : List ℕ) × (bytes ≡ r ++ separator ∷ rest) × Spelled separator rest rs))
+
+-- the records of a file: each ends at the separator; a last one without it counts if it is not empty
+abbrev pub records : ℕ → List ℕ → List (List ℕ)
+records separator [] = []
+records separator (b ∷ s) =
+    if b == separator then [] ∷ records separator s else onto_first b (records separator s)
+
+-- the records are the one list that the bytes are spelled by
+abbrev pub RecordsLaw : ℕ → List ℕ → Type 0
+RecordsLaw separator bytes =
+    Spelled separator bytes (records separator bytes)
+    × ((rs : List (List ℕ)) → Spelled separator bytes rs → rs ≡ records separator bytes)
+
+-- The places at which records begin in bytes that stand from place `at` on, counted as `at` is;
+-- `fresh` tells whether one begins at their first byte.
+abbrev pub begins_from : ℕ → ℕ → Bool → List ℕ → List ℕ
+begins_from separator at fresh [] = []
+begins_from separator at fresh (b ∷ s) =
+    if fresh then at ∷ begins_from separator (at + 1) (b == separator) s
+    else begins_from separator (at + 1) (b == separator) s
+
+-- the places, counted from 0, at which records of a file begin: its first byte, and each byte after a separator
+abbrev pub begins : ℕ → List ℕ → List ℕ
+begins separator bytes = begins_from separator 0 true bytes
+
+-- ---- by the bytes of RS, of which there is one
+
+-- the byte at which records end
+abbrev pub separator_of : List ℕ → ℕ
+separator_of rs = slice_index rs 0
+
+abbrev pub records_by : List ℕ → List ℕ → List (List ℕ)
+records_by rs bytes = records (separator_of rs) bytes
+
+abbrev pub begins_by : List ℕ → List ℕ → List ℕ
+begins_by rs bytes = begins (separator_of rs) bytes

@@ -1,0 +1,21 @@
+//! The input of awk: files, their records, the fields that blanks separate, and plans that cut the
+//! records into chunks.
+#![tactic(auto)]
+
+mod blanks;
+mod cuts;
+mod cutting;
+mod draft;
+mod files;
+mod item;
+mod planning;
+mod walk;
+mod words;
+
+pub use blanks::{count_fields, field, fields, fields_law};
+pub use cutting::{Chunk, CutRefusal, MOST_CHUNKS};
+pub use files::{Input, LIMIT, TooLarge};
+pub use item::Item;
+pub use planning::Plan;
+pub use walk::{Records, records_law};
+pub use words::Fields;

@@ -1,0 +1,13 @@
+pub mod Program
+pub mod Meaning
+pub mod Outcome
+pub mod Cutting
+pub mod Run
+pub mod Device
+pub mod Streams
+pub mod Small
+pub mod Sums
+pub mod Chunks
+pub mod Merge
+pub mod MergeSteps
+pub mod Sequence

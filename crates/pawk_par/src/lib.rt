@@ -1,0 +1,38 @@
+//! Programs run over chunks of their input.
+#![tactic(auto)]
+
+mod chunk;
+mod chunk_run;
+mod count;
+mod cutting;
+mod device;
+mod finish;
+mod merging;
+mod outcome;
+mod program;
+mod reading;
+mod report;
+mod running;
+mod sequence;
+mod settings;
+mod slices;
+mod state;
+mod streaming;
+mod streams;
+mod sums;
+
+pub use chunk::{ChunkResult, Left};
+pub use chunk_run::run_chunk;
+pub use cutting::Cutting;
+pub use device::{Failed, Reader, Sink, Source, Writer};
+pub use merging::{MergeStop, Merged, merge};
+pub use outcome::{Ending, Global, Outcome, Place};
+pub use pawk_input::{Input, TooLarge};
+pub use program::{Program, SyntaxRefusal, parse};
+pub use report::{Refusal, Report, Route};
+pub use running::run;
+pub use settings::{Assignment, Settings, SettingsRefusal};
+pub use state::{RecordState, Store};
+pub use streaming::run_streams;
+pub use streams::StreamRefusal;
+pub use sums::Sums;

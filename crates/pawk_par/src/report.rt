@@ -1,0 +1,42 @@
+//! How a run went, and why one was refused.
+
+use pawk_input::CutRefusal;
+use std::alloc::AllocError;
+
+/// Which way a run went.
+#[derive(Clone, Copy, Debug, PartialEq, Eq)]
+pub enum Route {
+    /// The record phase faults, so the input was run again, one record after the other.
+    Redo,
+    /// The chunks' results were merged.
+    Parallel,
+}
+
+/// How a run went.
+#[derive(Clone, Copy, Debug, PartialEq, Eq)]
+pub struct Report {
+    /// Which way it went.
+    pub route: Route,
+}
+
+/// Why a run was refused.
+#[derive(Clone, Copy, Debug, PartialEq, Eq)]
+pub enum Refusal {
+    /// Memory was refused.
+    Memory = 1,
+    /// A worker could not be started.
+    Thread = 2,
+    /// There is no plan of this cutting.
+    Cutting = 3,
+}
+
+impl From<AllocError> for Refusal {
+    ghost use Rattle.std.specs.Prelude.{◌≡◌};
+    ghost use Rattle.pawk_par.specs.declared.report.Refusal.TheVariants.{Memory};
+
+    ghost from_gives = { λ _ e. e ≡ Memory };
+
+    fn from(_error: AllocError) -> Refusal {
+        Refusal::Memory
+    }
+}

@@ -1,0 +1,209 @@
+//! A run from a source to a sink.
+
+ghost use Rattle.std.specs.Prelude.{◌≡◌, ◌≤◌, ◌<◌, [], take, drop, length, Some, Ok, Err, IfOk, IfErr, IfSome, OnOk};
+ghost use Rattle.std.specs.Io.KnownBytes.{Appends, Keeps};
+ghost use Rattle.pawk_par.specs.Cutting.{IsSized, IsRefused};
+ghost use Rattle.pawk_par.specs.Outcome.{meaning, shown_outcome};
+ghost use Rattle.pawk_par.specs.Program.{Spells};
+ghost use Rattle.pawk_par.specs.Run.{route_over};
+ghost use Rattle.pawk_par.specs.Streams.{Answers, WhyRefused, WhyUnprepared, WhyUnread, standard_input};
+
+use crate::cutting::Cutting;
+use crate::device::{Failed, Sink, Source};
+use crate::outcome::Ending;
+use crate::program::{Program, SyntaxRefusal, parse};
+use crate::report::{Refusal, Report};
+use crate::running::run;
+use crate::settings::{Assignment, Settings, SettingsRefusal};
+use crate::slices::past;
+use crate::streams::StreamRefusal;
+use pawk_input::{Input, LIMIT, TooLarge};
+use std::alloc::{AllocError, AllocFailed, Global};
+
+/// How many bytes are asked of a source at once.
+const PIECE: usize = 131_072;
+
+/// Why a source was not read to its end.
+#[derive(Clone, Copy, Debug, PartialEq, Eq)]
+enum ReadStop {
+    Memory,
+    Failed,
+    TooLarge,
+}
+
+impl From<AllocError> for ReadStop {
+    ghost use Rattle.pawk_par.specs.declared.streaming.ReadStop.TheVariants.{Memory};
+
+    ghost from_gives = { λ _ e. e ≡ Memory };
+
+    fn from(_error: AllocError) -> ReadStop {
+        ReadStop::Memory
+    }
+}
+
+/// So many zero bytes.
+fn zeros(alloc: Global, count: usize) -> Result<Vec<u8>, AllocError>
+    ensures { IfOk result (λ v. length v.items ≡ count) }
+{
+    vec![in alloc; 0u8; count]
+}
+
+/// Reads a source to its end, a piece at a time.
+fn read_pieces<S: Source>(
+    alloc: Global,
+    source: &mut S,
+    piece: &mut [u8],
+) -> Result<Vec<u8>, ReadStop>
+    requires { 0 < length piece.old }
+    ensures bytes { IfOk result (λ v. IfSome (S.left source.old) (λ bytes. v.items ≡ bytes)) }
+    ensures small { IfOk result (λ v. length v.items ≤ LIMIT) }
+    ensures failed { result ≡ Err ReadStop.Failed → S.failures source.old < S.failures source.new }
+    ensures large { result ≡ Err ReadStop.TooLarge → IfSome (S.left source.old) (λ bytes. LIMIT < length bytes) }
+{
+    let mut bytes = Vec::new(alloc);
+    loop {
+        let count = match source.read(piece) {
+            Ok(count) => count,
+            Err(Failed) => return Err(ReadStop::Failed),
+        };
+        if count == 0 {
+            return Ok(bytes);
+        }
+        bytes.extend_from_slice(&piece[..count])?;
+        if bytes.len() as u64 > LIMIT {
+            return Err(ReadStop::TooLarge);
+        }
+    }
+}
+
+/// Reads a source to its end.
+fn read_all<S: Source>(alloc: Global, source: &mut S) -> Result<Vec<u8>, ReadStop>
+    ensures bytes { IfOk result (λ v. IfSome (S.left source.old) (λ bytes. v.items ≡ bytes)) }
+    ensures small { IfOk result (λ v. length v.items ≤ LIMIT) }
+    ensures failed { result ≡ Err ReadStop.Failed → S.failures source.old < S.failures source.new }
+    ensures large { result ≡ Err ReadStop.TooLarge → IfSome (S.left source.old) (λ bytes. LIMIT < length bytes) }
+{
+    let mut piece = zeros(alloc, PIECE)?;
+    read_pieces(alloc, source, &mut piece)
+}
+
+/// Writes all the bytes, or tells how many went out before a write failed.
+fn write_all<K: Sink>(sink: &mut K, bytes: &[u8]) -> Result<(), u64>
+    ensures all { OnOk result (Appends (K.taken sink.old) (K.taken sink.new) bytes.now) }
+    ensures failed { IfErr result (λ _. K.failures sink.old < K.failures sink.new) }
+    ensures part { IfErr result (λ n. (n < length bytes.now) × Appends (K.taken sink.old) (K.taken sink.new) (take n bytes.now)) }
+{
+    let mut done = 0;
+    while done < bytes.len() {
+        let count = match sink.write(past(bytes, done)) {
+            Ok(count) => count,
+            Err(Failed) => return Err(done as u64),
+        };
+        if count == 0 {
+            return Err(done as u64);
+        }
+        done += count;
+    }
+    Ok(())
+}
+
+/// The program and the settings.
+fn prepare(
+    alloc: Global,
+    text: &[u8],
+    assigns: &[Assignment<'_>],
+    budget: u64,
+) -> Result<(Program, Settings), StreamRefusal>
+    requires none { assigns.now ≡ [] }
+    ensures program { IfOk result (λ p. Spells text.now p.0) }
+    ensures refused { IfErr result (WhyUnprepared text.now budget) }
+{
+    let program = match parse(alloc, text) {
+        Ok(program) => program,
+        Err(SyntaxRefusal::Memory) => return Err(StreamRefusal::Memory),
+        Err(SyntaxRefusal::OutsideFirstPath) => return Err(StreamRefusal::Program(
+            SyntaxRefusal::OutsideFirstPath,
+        )),
+    };
+    match Settings::new(alloc, &program, assigns, budget) {
+        Ok(settings) => Ok((program, settings)),
+        Err(SettingsRefusal::Memory) => Err(StreamRefusal::Memory),
+        Err(SettingsRefusal::Budget) => Err(StreamRefusal::Settings(SettingsRefusal::Budget)),
+    }
+}
+
+/// One file without a name.
+fn nameless(alloc: Global, bytes: Vec<u8>) -> Result<Input, StreamRefusal>
+    ensures input { IfOk result (λ input. input ≡ standard_input bytes.items) }
+    ensures refused { IfErr result (WhyUnread (Some bytes.items) 0 0) }
+{
+    let mut files = Vec::new(alloc);
+    if files.push((Vec::new(alloc), bytes)).is_err() {
+        return Err(StreamRefusal::Memory);
+    }
+    match Input::new(files) {
+        Ok(input) => Ok(input),
+        Err(TooLarge) => Err(StreamRefusal::Input),
+    }
+}
+
+/// A source's bytes as the one file of an input.
+fn read_input<S: Source>(alloc: Global, source: &mut S) -> Result<Input, StreamRefusal>
+    ensures input { IfOk result (λ input. IfSome (S.left source.old) (λ bytes. input ≡ standard_input bytes)) }
+    ensures refused { IfErr result (WhyUnread (S.left source.old) (S.failures source.old) (S.failures source.new)) }
+{
+    match read_all(alloc, source) {
+        Ok(bytes) => nameless(alloc, bytes),
+        Err(ReadStop::Memory) => Err(StreamRefusal::Memory),
+        Err(ReadStop::Failed) => Err(StreamRefusal::Read),
+        Err(ReadStop::TooLarge) => Err(StreamRefusal::Input),
+    }
+}
+
+/// Runs a program's text over what a source gives, as one file without a name, and writes the output to a sink: the
+/// output and the ending are those of the sequential definition, as of [`run`].
+///
+/// Refusals, in the order in which they are met: `Program` where the text is no program that is read, `Settings` where the
+/// budget is refused (nothing was read then), `Read` where a read failed, `Input` where the input is too large, `Cutting`
+/// where the cutting has no plan, `Write` where a write failed, after so many bytes; `Memory` where memory was refused.
+/// Nothing was written but with `Write`. So far no assignments can be given.
+pub fn run_streams<S: Source, K: Sink>(
+    alloc: Global,
+    text: &[u8],
+    assigns: &[Assignment<'_>],
+    budget: u64,
+    source: &mut S,
+    sink: &mut K,
+    cutting: &Cutting,
+    workers: usize,
+) -> Result<(Ending, Report), StreamRefusal>
+    requires none { assigns.now ≡ [] }
+    requires sized { IsSized cutting.now }
+    requires workers { (1 ≤ workers) × (workers ≤ 64) }
+    ensures answered { IfOk result (λ r. Answers text.now
+        (record { left = S.left source.old; read_failures = S.failures source.old; taken = K.taken sink.old; write_failures = K.failures sink.old })
+        (record { left = S.left source.new; read_failures = S.failures source.new; taken = K.taken sink.new; write_failures = K.failures sink.new })
+        r.0 r.1) }
+    ensures refused { IfErr result (WhyRefused text.now budget cutting.now
+        (record { left = S.left source.old; read_failures = S.failures source.old; taken = K.taken sink.old; write_failures = K.failures sink.old })
+        (record { left = S.left source.new; read_failures = S.failures source.new; taken = K.taken sink.new; write_failures = K.failures sink.new })) }
+{
+    let (program, settings) = match prepare(alloc, text, assigns, budget) {
+        Ok(prepared) => prepared,
+        Err(refusal) => return Err(refusal),
+    };
+    let input = match read_input(alloc, source) {
+        Ok(input) => input,
+        Err(refusal) => return Err(refusal),
+    };
+    let (outcome, report) = match run(alloc, &program, &settings, &input, cutting, workers) {
+        Ok(answer) => answer,
+        Err(Refusal::Memory) => return Err(StreamRefusal::Memory),
+        Err(Refusal::Thread) => return Err(StreamRefusal::Thread),
+        Err(Refusal::Cutting) => return Err(StreamRefusal::Cutting),
+    };
+    match write_all(sink, &outcome.output) {
+        Ok(()) => Ok((outcome.ending, report)),
+        Err(count) => Err(StreamRefusal::Write(count)),
+    }
+}

@@ -1,0 +1,18 @@
+-- The values (POSIX.1-2017, awk, "Expressions in awk"), with texts as lists of bytes.
+use Rattle.std.specs.Prelude.{ℕ, ℤ, List}
+use Rattle.pawk_value.specs.declared.values.Value.{Value}
+use Rattle.pawk_value.specs.declared.values.Value.TheVariants as value
+
+-- a text from outside is Maybe: it is numeric where it looks like a numeral
+pub data Val : Type 0 where
+  Uninit : Val
+  Num : ℤ → Val
+  Text : List ℕ → Val
+  Maybe : List ℕ → Val
+
+-- what a value of the program shows
+abbrev pub shown : Value → Val
+shown value.Uninit = Uninit
+shown (value.Num z) = Num z
+shown (value.Text t) = Text t.items
+shown (value.Maybe t) = Maybe t.items
