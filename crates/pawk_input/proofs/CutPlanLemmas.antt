@@ -63,7 +63,8 @@ offsets_later k file (cut ∷ cuts) lt = elim (eqb_tells cut.0 file) [
 
 -- ---- cuts that are not at fault
 
--- a cut that is not at fault: a record after its file's first begins there, and it comes after the cut before it
+-- a cut that is not at fault: a record after its file's first begins there, and it comes after the cut
+-- before it
 parts_of : (b : Bool) (v : Bool) (rest : Option CutRefusal) → cond b (cond v rest (Some NotRising)) (Some NoRecord) ≡ None → (b ≡ true) × (v ≡ true) × (rest ≡ None)
 parts_of true true rest h = (refl, refl, h)
 parts_of true false rest h = cc

@@ -8,3 +8,4 @@ pub mod SizeLemmas
 pub mod PlanLemmas
 pub mod CutPlanLemmas
 pub mod DraftLemmas
+pub mod BeginsLawLemmas

@@ -166,7 +166,7 @@ module _ (e : ℕ) (s : List ℕ) where
         | false ↦ later
       ]
 
-  Rises-begins : (t : List ℕ) (at p : ℕ) (fresh : Bool) → drop at s ≡ t → p < at → (fresh ≡ true → get_or s (at - 1) 0 ≡ e) → Rises e s p (begins_from e at fresh t)
+  pub Rises-begins : (t : List ℕ) (at p : ℕ) (fresh : Bool) → drop at s ≡ t → p < at → (fresh ≡ true → get_or s (at - 1) 0 ≡ e) → Rises e s p (begins_from e at fresh t)
   Rises-begins [] at p fresh left lt h = tt
   Rises-begins (b ∷ t) at p fresh left lt h =
       let there : at < length s = omega (arith, length-drop at s, ap length left) in
@@ -211,7 +211,8 @@ module _ (rs : List ℕ) (files : List File) (chosen : ℕ → List ℕ → List
 
 -- ---- a chunk of a plan
 
--- numbered items rise by one from the n before them, and no number in a file passes the number among all
+-- numbered items rise by one from the n before them, and no number in a file passes the number among
+-- all
 abbrev pub Counted : ℕ → List Item → Type 0
 Counted n [] = Unit {0}
 Counted n (i ∷ is) = (i.nr ≡ n + 1) × (i.fnr ≤ i.nr) × Counted (n + 1) is

@@ -7,10 +7,12 @@ use Rattle.pawk_value.specs.Bytes.{is_blank}
 abbrev pub is_not_blank : ℕ → Bool
 is_not_blank b = not (is_blank b)
 
+-- s is blanks
 abbrev pub AllBlank : List ℕ → Type 0
 AllBlank [] = Unit {0}
 AllBlank (b ∷ s) = (is_blank b ≡ true) × AllBlank s
 
+-- s holds no blank
 abbrev pub NoBlank : List ℕ → Type 0
 NoBlank [] = Unit {0}
 NoBlank (b ∷ s) = (is_blank b ≡ false) × NoBlank s

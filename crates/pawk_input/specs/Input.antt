@@ -11,6 +11,7 @@ pub record File : Type 0 where
   pub name : List ℕ
   pub bytes : List ℕ
 
+-- the file of a name and its bytes
 abbrev pub file_of : Vec ℕ Global × Vec ℕ Global → File
 file_of pair = record { name = pair.0.items; bytes = pair.1.items }
 
@@ -23,6 +24,7 @@ abbrev pub total_size : List File → ℕ
 total_size [] = 0
 total_size (f ∷ fs) = length f.bytes + total_size fs
 
+-- no bytes under no name
 abbrev pub empty_file : File
 empty_file = record { name = []; bytes = [] }
 
@@ -43,20 +45,23 @@ pub record Item : Type 0 where
 abbrev pub item_of : LentItem → Item
 item_of i = record { bytes = i.bytes.now; file = i.file; name = i.name.now; nr = i.nr; fnr = i.fnr }
 
--- records of one file with their numbers: each has numbers greater by one than the record before it, and before the first came nr records, fnr of them in this file
+-- records of one file with their numbers: each has numbers greater by one than the record before it,
+-- and before the first came nr records, fnr of them in this file
 abbrev pub numbered : ℕ → List ℕ → ℕ → ℕ → List (List ℕ) → List Item
 numbered file name nr fnr [] = []
 numbered file name nr fnr (r ∷ rs) =
     record { bytes = r; file = file; name = name; nr = nr + 1; fnr = fnr + 1 }
     ∷ numbered file name (nr + 1) (fnr + 1) rs
 
--- the records of files of which the first stands at place `file` and before which nr records came; fnr begins anew in each
+-- the records of files of which the first stands at place `file` and before which nr records came; fnr
+-- begins anew in each
 abbrev pub items_from : List ℕ → ℕ → ℕ → List File → List Item
 items_from rs file nr [] = []
 items_from rs file nr (f ∷ fs) =
     numbered file f.name nr 0 (records_by rs f.bytes)
     ++ items_from rs (file + 1) (nr + length (records_by rs f.bytes)) fs
 
--- all records of all files in order, by the bytes of RS: no record spans two files, and a file without records changes nothing
+-- all records of all files in order, by the bytes of RS: no record spans two files, and a file without
+-- records changes nothing
 abbrev pub items : List ℕ → List File → List Item
 items rs files = items_from rs 0 0 files

@@ -11,7 +11,8 @@ use Rattle.pawk_input.specs.declared.cutting.CutRefusal.TheVariants.{NoRecord, N
 abbrev pub chunk_bytes : List File → Chunk → List ℕ
 chunk_bytes files c = slice_range (file_at files c.file).bytes c.range.start c.range.end
 
--- the records of a chunk's range, with their numbers: before the first came c.nr records, c.fnr of them in this file
+-- the records of a chunk's range, with their numbers: before the first came c.nr records, c.fnr of
+-- them in this file
 abbrev pub chunk_items : List ℕ → List File → Chunk → List Item
 chunk_items rs files c = numbered c.file (file_at files c.file).name c.nr c.fnr (records_by rs (chunk_bytes files c))
 
@@ -28,8 +29,9 @@ pub record IsPlanOf (rs : List ℕ) (files : List File) (chunks : List Chunk) : 
   pub whole : flat_map (chunk_items rs files) chunks ≡ items rs files
   pub each : All (λ c. IsChunkOf rs files c) chunks
 
--- The chunks of a file that begin at these places: each reaches to the next place, the last to the file's end.
--- Before the file came nr records; those of the bytes before a chunk are the ones before it in its file.
+-- The chunks of a file that begin at these places: each reaches to the next place, the last to the
+-- file's end. Before the file came nr records; those of the bytes before a chunk are the ones before
+-- it in its file.
 abbrev pub chunks_at : List ℕ → ℕ → List ℕ → ℕ → List ℕ → List Chunk
 chunks_at rs file bytes nr [] = []
 chunks_at rs file bytes nr (p ∷ ps) =
@@ -41,7 +43,8 @@ chunks_at rs file bytes nr (p ∷ ps) =
     }
     ∷ chunks_at rs file bytes nr ps
 
--- the chunks of files of which the first stands at place `file` and before which nr records came, where `chosen` takes a file's place and the places where its records begin to those where its chunks do
+-- The chunks of files of which the first stands at place `file` and before which nr records came.
+-- `chosen` takes a file's place and the places where its records begin to those where its chunks do.
 abbrev pub planned : List ℕ → (ℕ → List ℕ → List ℕ) → ℕ → ℕ → List File → List Chunk
 planned rs chosen file nr [] = []
 planned rs chosen file nr (f ∷ fs) =
@@ -50,7 +53,8 @@ planned rs chosen file nr (f ∷ fs) =
 
 -- ---- by size
 
--- of places that rise, each first one that lies at least `size` past the one taken before it, which is `from` at the beginning
+-- of places that rise, each first one that lies at least `size` past the one taken before it; the one
+-- before the first is `from`
 abbrev pub spaced_from : ℕ → ℕ → List ℕ → List ℕ
 spaced_from size from [] = []
 spaced_from size from (p ∷ ps) =
@@ -61,8 +65,8 @@ abbrev pub spaced : ℕ → List ℕ → List ℕ
 spaced size [] = []
 spaced size (p ∷ ps) = p ∷ spaced_from size p ps
 
--- The plan by size: a chunk ends before the first record that begins at least `size` bytes past the chunk's begin,
--- or at the end of the file; a file with records always begins a chunk.
+-- The plan by size: a chunk ends before the first record that begins at least `size` bytes past the
+-- chunk's begin, or at the end of the file; a file with records always begins a chunk.
 abbrev pub sized : List ℕ → List File → ℕ → List Chunk
 sized rs files size = planned rs (λ _ places. spaced size places) 0 0 files
 
@@ -78,6 +82,7 @@ abbrev pub cut_places : List (ℕ × ℕ) → ℕ → List ℕ → List ℕ
 cut_places cuts file [] = []
 cut_places cuts file (p ∷ ps) = p ∷ offsets file cuts
 
+-- the plan at cuts
 abbrev pub cut_at : List ℕ → List File → List (ℕ × ℕ) → List Chunk
 cut_at rs files cuts = planned rs (cut_places cuts) 0 0 files
 
@@ -90,7 +95,7 @@ abbrev pub is_after : Option (ℕ × ℕ) → ℕ × ℕ → Bool
 is_after None cut = true
 is_after (Some before) cut = nat_lt before.0 cut.0 || ((before.0 == cut.0) && nat_lt before.1 cut.1)
 
--- what is wrong with the first cut at fault, where `before` is the cut before these
+-- what is wrong with the first of these cuts at fault, where `before` is the cut before them
 abbrev pub cut_fault_from : List ℕ → List File → Option (ℕ × ℕ) → List (ℕ × ℕ) → Option CutRefusal
 cut_fault_from rs files before [] = None
 cut_fault_from rs files before (cut ∷ cuts) =
@@ -98,6 +103,7 @@ cut_fault_from rs files before (cut ∷ cuts) =
     (if is_after before cut then cut_fault_from rs files (Some cut) cuts else Some NotRising)
     else Some NoRecord
 
+-- what is wrong with the first cut at fault, if one is
 abbrev pub cut_fault : List ℕ → List File → List (ℕ × ℕ) → Option CutRefusal
 cut_fault rs files cuts = cut_fault_from rs files None cuts
 
@@ -110,14 +116,16 @@ RefusesMany count most NotRising = ⊥
 RefusesMany count most TooMany = most < count
 RefusesMany count most Memory = Unit {0}
 
--- a cutting is refused with what is wrong with the first cut at fault; where none is, because it has more than `most` chunks, or because memory was refused
+-- a cutting is refused with what is wrong with the first cut at fault; where none is, because it has
+-- more than `most` chunks, or because memory was refused
 abbrev pub RefusesCuts : List ℕ → List File → List (ℕ × ℕ) → ℕ → CutRefusal → Type 0
 RefusesCuts rs files cuts most refusal =
     MatchOption (cut_fault rs files cuts) (RefusesMany (length (cut_at rs files cuts)) most refusal) (λ fault. refusal ≡ fault)
 
 -- ---- steps of the plans
 
--- of the rest s of a file a chunk takes the first n bytes: it ends where a record begins at least `size` bytes on, or at the end, and no record begins between
+-- of the rest s of a file a chunk takes the first n bytes: it ends where a record begins at least
+-- `size` bytes on, or at the end, and no record begins between
 pub record IsPiece (separator size : ℕ) (s : List ℕ) (n : ℕ) : Type 0 where
   pub some : 0 < n
   pub within : n ≤ length s

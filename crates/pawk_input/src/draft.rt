@@ -4,25 +4,11 @@ ghost use Rattle.std.specs.Prelude.{◌≡◌, ℕ, ◌+◌, ◌<◌, ◌≤◌,
 ghost use Rattle.pawk_input.specs.Records.{records, records_by, begins_by, separator_of};
 ghost use Rattle.pawk_input.specs.Plan.{IsPiece, RefusesMany, Rises, chunks_at, cut_places, offsets, spaced};
 
+use crate::count::count_records;
 use crate::cutting::{Chunk, CutRefusal, MOST_CHUNKS};
 use crate::files::LIMIT;
-use memchr::{memchr, memchr_iter};
+use memchr::memchr;
 use std::alloc::Global;
-
-/// How many records the bytes hold.
-fn count_records(bytes: &[u8], separator: u8) -> usize
-    ensures { result ≡ length (records separator bytes.now) }
-{
-    if bytes.is_empty() {
-        return 0;
-    }
-    let ended = memchr_iter(separator, bytes).count();
-    if bytes[bytes.len() - 1] == separator {
-        ended
-    } else {
-        ended + 1
-    }
-}
 
 /// How many bytes a chunk takes of the rest of a file: up to the first record that begins at least
 /// `size` bytes past the first byte, or all.
@@ -123,11 +109,14 @@ impl Draft {
         requires room { self.old.nr + length bytes.now ≤ LIMIT }
         requires few { vec_len self.old.chunks ≤ MOST_CHUNKS }
         ensures chunks { OnOk result (self.new.chunks.items
-            ≡ self.old.chunks.items ++ chunks_at rs.now file bytes.now self.old.nr (spaced size (begins_by rs.now bytes.now))) }
+            ≡ self.old.chunks.items
+            ++ chunks_at rs.now file bytes.now self.old.nr (spaced size (begins_by rs.now bytes.now))) }
         ensures counted { OnOk result (self.new.nr ≡ self.old.nr + length (records_by rs.now bytes.now)) }
         ensures few { OnOk result (vec_len self.new.chunks ≤ MOST_CHUNKS) }
         ensures refused { IfErr result (RefusesMany
-            (vec_len self.old.chunks + length (chunks_at rs.now file bytes.now self.old.nr (spaced size (begins_by rs.now bytes.now))))
+            (vec_len self.old.chunks
+            + length (chunks_at rs.now file bytes.now self.old.nr
+            (spaced size (begins_by rs.now bytes.now))))
             MOST_CHUNKS) }
     {
         let mut start = 0;
@@ -157,11 +146,15 @@ impl Draft {
         requires here { offsets file cuts.now ≡ map (λ cut. cut.1) cuts.now }
         requires rising { Rises (separator_of rs.now) bytes.now 0 (offsets file cuts.now) }
         ensures chunks { OnOk result (self.new.chunks.items
-            ≡ self.old.chunks.items ++ chunks_at rs.now file bytes.now self.old.nr (cut_places cuts.now file (begins_by rs.now bytes.now))) }
+            ≡ self.old.chunks.items
+            ++ chunks_at rs.now file bytes.now self.old.nr
+            (cut_places cuts.now file (begins_by rs.now bytes.now))) }
         ensures counted { OnOk result (self.new.nr ≡ self.old.nr + length (records_by rs.now bytes.now)) }
         ensures few { OnOk result (vec_len self.new.chunks ≤ MOST_CHUNKS) }
         ensures refused { IfErr result (RefusesMany
-            (vec_len self.old.chunks + length (chunks_at rs.now file bytes.now self.old.nr (cut_places cuts.now file (begins_by rs.now bytes.now))))
+            (vec_len self.old.chunks
+            + length (chunks_at rs.now file bytes.now self.old.nr
+            (cut_places cuts.now file (begins_by rs.now bytes.now))))
             MOST_CHUNKS) }
     {
         if bytes.is_empty() {

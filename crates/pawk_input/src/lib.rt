@@ -3,12 +3,15 @@
 #![tactic(auto)]
 
 mod blanks;
+mod count;
 mod cuts;
 mod cutting;
 mod draft;
 mod files;
 mod item;
 mod planning;
+#[cfg(test)]
+mod tests;
 mod walk;
 mod words;
 
@@ -17,5 +20,5 @@ pub use cutting::{Chunk, CutRefusal, MOST_CHUNKS};
 pub use files::{Input, LIMIT, TooLarge};
 pub use item::Item;
 pub use planning::Plan;
-pub use walk::{Records, records_law};
+pub use walk::{Records, begins_law, records_law};
 pub use words::Fields;

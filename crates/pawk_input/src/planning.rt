@@ -111,7 +111,7 @@ impl Plan {
         requires one_byte { length rs.now ≡ 1 }
         ensures { IfSome (slice_get self.now i) (λ c. items_left result ≡ chunk_items rs.now input.now c) }
     {
-        let chunk = &self.chunks[i];
+        let chunk = self.chunk(i);
         let bytes = input.bytes(chunk.file);
         Records::of_part(
             rs[0],

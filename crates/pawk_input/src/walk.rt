@@ -2,7 +2,7 @@
 
 ghost use Rattle.std.specs.Prelude.{◌≡◌, ℕ, ◌+◌, ◌^◌, ◌<◌, ◌≤◌, [], ◌∷◌, length};
 ghost use Rattle.std.specs.Iterator.{YieldsFirstBy, item_count};
-ghost use Rattle.pawk_input.specs.Records.{records, RecordsLaw};
+ghost use Rattle.pawk_input.specs.Records.{records, BeginsLaw, RecordsLaw};
 ghost use Rattle.pawk_input.specs.Input.{files_of, total_size, items, item_of, numbered};
 ghost use Rattle.pawk_input.specs.Walk.{items_left};
 
@@ -31,10 +31,12 @@ impl<'a> Model for Records<'a> {
 
     ghost Value = { List Item };
 
-    ghost view = { λ r. items_ahead (r.separator ∷ []) r.file r.name.now r.nr r.fnr r.rest.now (files_of r.later.now) };
+    ghost view = { λ r. items_ahead
+        (r.separator ∷ []) r.file r.name.now r.nr r.fnr r.rest.now (files_of r.later.now) };
 
     ghost invariant = { λ r.
-        (r.nr + length (items_ahead (r.separator ∷ []) r.file r.name.now r.nr r.fnr r.rest.now (files_of r.later.now)) ≤ LIMIT)
+        (r.nr + length (items_ahead
+        (r.separator ∷ []) r.file r.name.now r.nr r.fnr r.rest.now (files_of r.later.now)) ≤ LIMIT)
         × (r.fnr ≤ r.nr)
         × (r.file + length r.later.now < 2 ^ 64)
         × (length r.rest.now + total_size (files_of r.later.now) ≤ LIMIT) };
@@ -60,17 +62,8 @@ impl<'a> Records<'a> {
         requires few { length files.now < 2 ^ 64 }
         ensures { items_left result ≡ items (separator ∷ []) (files_of files.entry.now) }
     {
-        match files.split_first() {
-            Some((first, later)) => Records {
-                separator,
-                rest: &first.1,
-                file: 0,
-                name: &first.0,
-                nr: 0,
-                fnr: 0,
-                later,
-            },
-            None => Records {
+        let Some((first, later)) = files.split_first() else {
+            return Records {
                 separator,
                 rest: &[],
                 file: 0,
@@ -78,7 +71,16 @@ impl<'a> Records<'a> {
                 nr: 0,
                 fnr: 0,
                 later: &[],
-            },
+            };
+        };
+        Records {
+            separator,
+            rest: &first.1,
+            file: 0,
+            name: &first.0,
+            nr: 0,
+            fnr: 0,
+            later,
         }
     }
 
@@ -95,7 +97,8 @@ impl<'a> Records<'a> {
         requires counted { nr + length (records separator bytes.now) ≤ LIMIT }
         requires in_file { fnr ≤ nr }
         requires short { length bytes.now ≤ LIMIT }
-        ensures { items_left result ≡ numbered file name.entry.now nr fnr (records separator bytes.entry.now) }
+        ensures { items_left result
+            ≡ numbered file name.entry.now nr fnr (records separator bytes.entry.now) }
     {
         Records {
             separator,
@@ -144,6 +147,15 @@ impl<'a> Iterator for Records<'a> {
 /// of them followed by it; only the last may lack it, and then is not empty.
 pub fn records_law(separator: u8, text: &[u8])
     ensures { RecordsLaw separator text.now }
+{
+    let _ = separator;
+    let _ = text;
+}
+
+/// The places at which a text's records begin are its first byte and each byte after a separator;
+/// they rise, and there are as many as records.
+pub fn begins_law(separator: u8, text: &[u8])
+    ensures { BeginsLaw separator text.now }
 {
     let _ = separator;
     let _ = text;

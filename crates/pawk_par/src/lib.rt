@@ -20,6 +20,8 @@ mod state;
 mod streaming;
 mod streams;
 mod sums;
+#[cfg(test)]
+mod tests;
 
 pub use chunk::{ChunkResult, Left};
 pub use chunk_run::run_chunk;

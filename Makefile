@@ -1,0 +1,45 @@
+# pawk: `make` proves and builds the program, and leaves it as build/pawk.
+#
+#   make            prove and build build/pawk
+#   make demo       build it and run it on three lines: the last line is 6
+#   make test       the whole gate, and then what stands beside it (tests/run)
+#   make bench      compare its user time with that of mawk and gawk
+#   make install    put it at $(PREFIX)/bin/pawk (PREFIX is /usr/local)
+#   make clean      remove what was built, and what the proofs keep
+
+PREFIX = /usr/local
+BENCH_DATA = bench/files
+MAKEFLAGS += --no-print-directory
+
+.PHONY: all build demo test bench install clean toolchain
+
+all: build
+
+toolchain:
+	$(if $(shell command -v rt 2>/dev/null),@:,$(error the command rt of the Rattle kit is missing on PATH))
+
+# The check keeps its work in crates/*/out, so a build without a change takes a few seconds. Running the program with
+# --version is how rt is asked to build it.
+build: toolchain
+	cd crates/pawk && rt run -- --version </dev/null
+	@mkdir -p build
+	@cp crates/pawk/out/pawk build/pawk.new && mv build/pawk.new build/pawk
+
+demo: build
+	@printf '1\n2\n3\n' | build/pawk -j 2 -c 1 '{ n += $$1 } END { print n }'
+
+test: toolchain
+	rt ci
+	@$(MAKE) build
+	tests/run
+
+bench: build
+	@test -e $(BENCH_DATA)/ten.txt || bench/data $(BENCH_DATA)
+	bench/run $(BENCH_DATA)
+
+install: build
+	mkdir -p $(DESTDIR)$(PREFIX)/bin
+	install -m 755 build/pawk $(DESTDIR)$(PREFIX)/bin/pawk
+
+clean:
+	rm -rf build crates/*/out $(BENCH_DATA)

@@ -1,0 +1,5 @@
+pub mod History
+pub mod Rule
+pub mod Views
+pub mod Claims
+pub use Rattle.atomic_table.specs.Seated

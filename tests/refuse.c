@@ -1,0 +1,83 @@
+/*
+ * Preloaded into a program, this refuses one of its requests for memory: the
+ * Nth call of malloc, calloc, realloc, aligned_alloc, memalign or
+ * posix_memalign, counted from 1 over all threads, where N is the number in
+ * the environment variable REFUSE. Without it, or with 0, none is refused.
+ *
+ * Where that request was met, a line "refused" is written to the file that the
+ * variable REFUSE_NOTE names, so that a driver knows when it has seen them all.
+ */
+#define _GNU_SOURCE
+#include <errno.h>
+#include <fcntl.h>
+#include <stdatomic.h>
+#include <stddef.h>
+#include <stdlib.h>
+#include <unistd.h>
+
+extern void *__libc_malloc(size_t size);
+extern void *__libc_calloc(size_t count, size_t size);
+extern void *__libc_realloc(void *block, size_t size);
+extern void *__libc_memalign(size_t alignment, size_t size);
+
+static long refused_request;
+static const char *note;
+static atomic_long requests;
+
+/* Runs before main. What the loader asked for before is not counted. */
+__attribute__((constructor)) static void read_environment(void)
+{
+    const char *number = getenv("REFUSE");
+    note = getenv("REFUSE_NOTE");
+    refused_request = number ? strtol(number, NULL, 10) : 0;
+    atomic_store(&requests, 0);
+}
+
+/* Whether this request is the one to refuse. */
+static int is_refused(void)
+{
+    if (refused_request == 0 || atomic_fetch_add(&requests, 1) + 1 != refused_request)
+        return 0;
+    if (note) {
+        int file = open(note, O_WRONLY | O_CREAT | O_APPEND, 0600);
+        if (file < 0 || write(file, "refused\n", 8) != 8)
+            _exit(99);
+        close(file);
+    }
+    errno = ENOMEM;
+    return 1;
+}
+
+void *malloc(size_t size)
+{
+    return is_refused() ? NULL : __libc_malloc(size);
+}
+
+void *calloc(size_t count, size_t size)
+{
+    return is_refused() ? NULL : __libc_calloc(count, size);
+}
+
+void *realloc(void *block, size_t size)
+{
+    return is_refused() ? NULL : __libc_realloc(block, size);
+}
+
+void *memalign(size_t alignment, size_t size)
+{
+    return is_refused() ? NULL : __libc_memalign(alignment, size);
+}
+
+void *aligned_alloc(size_t alignment, size_t size)
+{
+    return is_refused() ? NULL : __libc_memalign(alignment, size);
+}
+
+int posix_memalign(void **block, size_t alignment, size_t size)
+{
+    void *given = is_refused() ? NULL : __libc_memalign(alignment, size);
+    if (given == NULL)
+        return ENOMEM;
+    *block = given;
+    return 0;
+}
