@@ -4,7 +4,8 @@ use crate::command_line::{Request, read_words};
 use crate::files::read_files;
 use crate::reports::{Stop, tell_ending, tell_stop};
 use pawk_par::{
-    Cutting, Ending, Reader, Refusal, Report, Settings, SettingsRefusal, Writer, parse, run, run_streams,
+    Cutting, Ending, Reader, Refusal, Report, Settings, SettingsRefusal, Writer, parse, run,
+    run_streams,
 };
 use std::alloc::Global;
 use std::io;
@@ -29,7 +30,16 @@ where
     let workers = usize::from(request.workers);
     let mut source = Reader::new(input);
     let mut sink = Writer::new(output);
-    match run_streams(alloc, text, &[], STEPS, &mut source, &mut sink, &cutting, workers) {
+    match run_streams(
+        alloc,
+        text,
+        &[],
+        STEPS,
+        &mut source,
+        &mut sink,
+        &cutting,
+        workers,
+    ) {
         Ok(answer) => Ok(answer),
         Err(refusal) => Err(Stop::of_streams(alloc, refusal)),
     }
@@ -110,7 +120,13 @@ where
 
 /// Does what the words ask for, the first of which is the program's name, and gives the exit status: the output goes to
 /// `output`, what else there is to tell to `errors`. Without files in the words, `input` is the one file without a name.
-pub(crate) fn command<R, I, O, E>(rt: &R, words: &[String], input: I, mut output: O, mut errors: E) -> u8
+pub(crate) fn command<R, I, O, E>(
+    rt: &R,
+    words: &[String],
+    input: I,
+    mut output: O,
+    mut errors: E,
+) -> u8
 where
     R: Files + AllocGlobal,
     I: Read + Drop,

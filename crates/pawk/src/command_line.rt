@@ -4,7 +4,7 @@ ghost use Rattle.std.specs.Prelude.{◌<◌, ◌≤◌};
 
 use crate::reports::Stop;
 use clap::error::ErrorKind;
-use clap::{Arg, ArgAction, Command, value_parser};
+use clap::{Arg, ArgAction, ArgMatches, Command, value_parser};
 use std::alloc::{AllocError, Global};
 
 /// The version that `--version` tells.
@@ -64,7 +64,7 @@ fn why<'a>(alloc: Global) -> Arg<'a> {
 
 fn operands<'a>(alloc: Global) -> Arg<'a> {
     Arg::new(alloc, "operands")
-        .value_name("program> [file]..")
+        .value_name("program file")
         .help("The program, and the files that are its input; without files it is standard input")
         .action(ArgAction::Append)
         .num_args(0..)
@@ -80,6 +80,14 @@ fn definition<'a>(alloc: Global) -> Result<Command<'a>, AllocError> {
         .arg(operands(alloc))
 }
 
+/// Whether an option's value is written in digits alone.
+fn is_plain(matches: &ArgMatches<'_>, id: &str) -> bool {
+    match matches.get_str(id) {
+        Some(text) => text.bytes().all(|byte| byte.is_ascii_digit()),
+        None => true,
+    }
+}
+
 /// Reads the words, of which the first is the program's name.
 ///
 /// `Line` comes where the words are at fault or ask for help, `Memory` where memory was refused.
@@ -91,10 +99,20 @@ pub(crate) fn read_words<'a>(alloc: Global, words: &'a [String]) -> Result<Reque
         let error = command.error(ErrorKind::MissingRequiredArgument, "no program")?;
         return Err(Stop::Line(error));
     };
+    if !is_plain(&matches, "workers") || !is_plain(&matches, "chunk") {
+        let error = command.error(
+            ErrorKind::ValueValidation,
+            "a number is written in digits alone",
+        )?;
+        return Err(Stop::Line(error));
+    }
     Ok(Request {
         program: *program,
         files: Vec::from_slice(alloc, files)?,
-        workers: matches.get_one::<u8>("workers").unwrap_or(WORKERS).clamp(1, 64),
+        workers: matches
+            .get_one::<u8>("workers")
+            .unwrap_or(WORKERS)
+            .clamp(1, 64),
         chunk: matches.get_one::<u64>("chunk").unwrap_or(CHUNK).max(1),
         why: matches.get_flag("why"),
     })

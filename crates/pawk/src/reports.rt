@@ -80,7 +80,11 @@ impl Stop {
 }
 
 /// Tells why nothing was run to its end, and gives the exit status.
-pub(crate) fn tell_stop<O: Write, E: Write>(stop: &Stop, output: &mut O, errors: &mut E) -> io::Result<u8> {
+pub(crate) fn tell_stop<O: Write, E: Write>(
+    stop: &Stop,
+    output: &mut O,
+    errors: &mut E,
+) -> io::Result<u8> {
     match stop {
         Stop::Memory => errors.write_all(b"pawk: refused: memory\n")?,
         Stop::Thread => errors.write_all(b"pawk: refused: thread\n")?,
@@ -114,7 +118,12 @@ fn tell_line<O: Write, E: Write>(error: &Error, output: &mut O, errors: &mut E) 
 }
 
 /// Tells the route where it is asked for, and a fault, and gives the exit status.
-pub(crate) fn tell_ending<E: Write>(ending: Ending, report: Report, why: bool, errors: &mut E) -> io::Result<u8> {
+pub(crate) fn tell_ending<E: Write>(
+    ending: Ending,
+    report: Report,
+    why: bool,
+    errors: &mut E,
+) -> io::Result<u8> {
     if why {
         match report.route {
             Route::Redo => errors.write_all(b"pawk: route redo\n")?,

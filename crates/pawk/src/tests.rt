@@ -220,6 +220,14 @@ fn tells_a_command_line_at_fault(rt: HostRuntime) -> Result<(), Fail> {
             "error: invalid value 'x' for '-j <workers>': invalid digit found in string\n",
         ),
         (
+            ["-j", "+2", SUM].as_slice(),
+            "error: a number is written in digits alone\n",
+        ),
+        (
+            ["-c", "+5", SUM].as_slice(),
+            "error: a number is written in digits alone\n",
+        ),
+        (
             ["-c", "0", SUM].as_slice(),
             "error: invalid value '0' for '-c <bytes>': 0 is not in 1..=1073741824\n",
         ),
