@@ -1,0 +1,11 @@
+pub mod Passing
+pub mod Decoding
+pub mod Runs
+pub mod Numerals
+pub mod Insides
+pub mod Within
+pub mod Fronts
+pub mod Sound
+pub mod Turns
+pub mod CutLaws
+pub mod Readings

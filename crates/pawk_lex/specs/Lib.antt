@@ -1,0 +1,12 @@
+pub mod Bytes
+pub mod Words
+pub mod Tokens
+pub mod Gaps
+pub mod Strings
+pub mod Next
+pub mod Cut
+pub mod Canonical
+pub mod Refusals
+pub mod Reads
+pub mod Lexing
+pub mod Reading

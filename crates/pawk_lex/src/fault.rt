@@ -1,0 +1,50 @@
+//! What is at fault in a text, before its place is known.
+
+ghost use Rattle.std.specs.Prelude.{◌≡◌, ◌<◌, ◌^◌};
+ghost use Rattle.pawk_lex.specs.declared.fault.Fault.TheVariants as fault;
+
+use crate::refusal::{Cause, SyntaxRefusal};
+use std::alloc::{AllocError, AllocFailed};
+
+/// A fault: `left` counts the bytes from the one at fault to the end of the text.
+#[derive(Clone, Copy, Debug, PartialEq, Eq)]
+pub enum Fault {
+    At { cause: Cause, left: usize },
+    Memory,
+}
+
+impl Fault {
+    ghost use Rattle.pawk_lex.specs.Reads.{refusal_of};
+
+    /// The refusal of this fault in a text of this many bytes.
+    pub fn refusal(self, size: usize) -> SyntaxRefusal
+        requires { size < 2 ^ 63 }
+        ensures { result ≡ refusal_of size self }
+    {
+        match self {
+            Fault::At { cause, left } => {
+                SyntaxRefusal::At {
+                    cause,
+                    place: size.saturating_sub(left) + 1,
+                }
+            }
+            Fault::Memory => SyntaxRefusal::Memory,
+        }
+    }
+}
+
+impl From<AllocError> for Fault {
+    ghost from_gives = { λ _ e. e ≡ fault.Memory };
+
+    fn from(_: AllocError) -> Fault {
+        Fault::Memory
+    }
+}
+
+impl<T: Drop> From<AllocFailed<T>> for Fault {
+    ghost from_gives = { λ _ e. e ≡ fault.Memory };
+
+    fn from(_: AllocFailed<T>) -> Fault {
+        Fault::Memory
+    }
+}

@@ -1,0 +1,100 @@
+//! Names that have a meaning of their own.
+
+ghost use Rattle.std.specs.Prelude.{◌≡◌, find};
+ghost use Rattle.std.specs.List.{list_any};
+ghost use Rattle.std.specs.Str.{bytes_eq};
+ghost use Rattle.pawk_lex.specs.Words as spec;
+
+use crate::token::{Builtin, Mark};
+
+static RESERVED: [Mark; 18] = [
+    Mark::Begin,
+    Mark::End,
+    Mark::Function,
+    Mark::If,
+    Mark::Else,
+    Mark::While,
+    Mark::For,
+    Mark::Do,
+    Mark::In,
+    Mark::Break,
+    Mark::Continue,
+    Mark::Next,
+    Mark::NextFile,
+    Mark::Exit,
+    Mark::Return,
+    Mark::Delete,
+    Mark::Print,
+    Mark::Printf,
+];
+
+static BUILTINS: [Builtin; 11] = [
+    Builtin::Length,
+    Builtin::Index,
+    Builtin::Substr,
+    Builtin::Split,
+    Builtin::Sub,
+    Builtin::Gsub,
+    Builtin::Match,
+    Builtin::Sprintf,
+    Builtin::Tolower,
+    Builtin::Toupper,
+    Builtin::Int,
+];
+
+/// The reserved word that is written so, if there is one.
+#[tactic(auto, unfolding(crate::specs::Words::reserved))]
+pub fn reserved(word: &[u8]) -> Option<Mark>
+    ensures { result ≡ spec.reserved word.now }
+{
+    RESERVED.iter().copied().find(|mark| mark.text() == word)
+}
+
+/// The built-in function that has this name, if there is one.
+#[tactic(auto, unfolding(crate::specs::Words::builtin))]
+pub fn builtin(word: &[u8]) -> Option<Builtin>
+    ensures { result ≡ spec.builtin word.now }
+{
+    BUILTINS
+        .iter()
+        .copied()
+        .find(|function| function.name() == word)
+}
+
+/// Whether this is an arithmetic function of the standard that the language leaves out.
+#[tactic(auto, unfolding(crate::specs::Words::is_left_out_arithmetic))]
+fn is_left_out_arithmetic(word: &[u8]) -> bool
+    ensures { result ≡ spec.is_left_out_arithmetic word.now }
+{
+    word == b"sin".as_slice()
+        || word == b"cos".as_slice()
+        || word == b"atan2".as_slice()
+        || word == b"exp".as_slice()
+        || word == b"log".as_slice()
+        || word == b"sqrt".as_slice()
+        || word == b"rand".as_slice()
+        || word == b"srand".as_slice()
+}
+
+/// Whether this is an input or output function of the standard that the language leaves out.
+#[tactic(auto, unfolding(crate::specs::Words::is_left_out_output))]
+fn is_left_out_output(word: &[u8]) -> bool
+    ensures { result ≡ spec.is_left_out_output word.now }
+{
+    word == b"system".as_slice() || word == b"close".as_slice() || word == b"fflush".as_slice()
+}
+
+/// Whether this is a variable of the standard that the language leaves out.
+#[tactic(auto, unfolding(crate::specs::Words::is_left_out_variable))]
+fn is_left_out_variable(word: &[u8]) -> bool
+    ensures { result ≡ spec.is_left_out_variable word.now }
+{
+    word == b"ENVIRON".as_slice() || word == b"ARGC".as_slice() || word == b"ARGV".as_slice()
+}
+
+/// Whether this is a name of the standard that the language leaves out.
+pub fn is_left_out(word: &[u8]) -> bool
+    ensures { result ≡ spec.is_left_out word.now }
+{
+    is_left_out_arithmetic(word) || is_left_out_output(word) || is_left_out_variable(word)
+}
