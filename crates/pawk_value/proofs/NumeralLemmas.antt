@@ -1,5 +1,5 @@
 -- The number of a text is that of its longest numeral.
-use Rattle.std.proofs.Common.{◌≡◌, inl, inr, ℕ, ℤ, pos, suc, ◌+◌, ◌-◌, ◌*◌, ◌<◌, ◌≤◌, Bool, true, false, not, cond, eqb, ◌&&◌, List, [], ◌∷◌, ◌++◌, length, take, drop, slice_range, Option, Some, None, IfSome, is_some, option_to_list, Result, Ok, Err, refl, ap, sym, ◌∙◌, subst, arith, append_assoc, length-append, length-drop, one-add, add-zero}
+use Rattle.std.proofs.Common.{◌≡◌, inl, inr, ℕ, ℤ, pos, suc, ◌+◌, ◌-◌, ◌*◌, ◌<◌, ◌≤◌, Bool, true, false, not, cond, eqb, ◌&&◌, ◌||◌, List, [], ◌∷◌, ◌++◌, length, take, drop, slice_range, Option, Some, None, IfSome, is_some, option_to_list, Result, Ok, Err, refl, ap, sym, ◌∙◌, subst, arith, append_assoc, length-append, length-drop, one-add, add-zero}
 use Rattle.std.proofs.lemmas.Bool.Decides.{nat_tests, eqb_tells}
 use Rattle.std.proofs.lemmas.List.{take-append-drop, length-take-le}
 use Rattle.std.specs.List.{prefix_len}
@@ -9,11 +9,12 @@ use Rattle.pawk_value.specs.declared.faults.Fault.{Fault}
 use Rattle.pawk_value.specs.declared.faults.Fault.TheVariants.{Numeral}
 use Rattle.pawk_value.specs.Bytes.{is_blank, is_digit, is_minus, is_sign, is_point, is_e}
 use Rattle.pawk_value.specs.Range.{in_range_or_fault}
+use Rattle.pawk_value.specs.Look.{has_digit, without_fraction, without_exponent}
 use Rattle.pawk_value.specs.Numeral.{AreDigits, IsSign, Exponent, IsExponent, Parts, fraction_digits, IsProper, fraction_text, exponent_text, spelling, Spells, IsFirstPlace, IsNumeral, digits_value, signed, has_minus, number_of_parts, NumberIs, without, numeral, after_while, begins, without_sign, without_point, has_fraction, has_exponent, unsigned_number, number_of, NumeralLaw}
 
 -- ---- bytes apart
 
-digit_no_sign : (b : ℕ) → is_digit b ≡ true → is_sign b ≡ false
+pub digit_no_sign : (b : ℕ) → is_digit b ≡ true → is_sign b ≡ false
 digit_no_sign b h = grind (arith, nat_tests)
 
 digit_no_e : (b : ℕ) → is_digit b ≡ true → is_e b ≡ false
@@ -22,19 +23,19 @@ digit_no_e b h = grind (arith, nat_tests)
 point_no_sign : (b : ℕ) (v : Bool) → (is_point b && v) ≡ true → is_sign b ≡ false
 point_no_sign b v h = grind (arith, nat_tests)
 
-e_no_digit : (b : ℕ) → is_e b ≡ true → is_digit b ≡ false
+pub e_no_digit : (b : ℕ) → is_e b ≡ true → is_digit b ≡ false
 e_no_digit b h = grind (arith, nat_tests)
 
-e_no_point : (b : ℕ) → is_e b ≡ true → is_point b ≡ false
+pub e_no_point : (b : ℕ) → is_e b ≡ true → is_point b ≡ false
 e_no_point b h = grind (arith, nat_tests)
 
 -- ---- digits in front
 
-digits_prefix : (ds r : List ℕ) → AreDigits ds → prefix_len is_digit (ds ++ r) ≡ length ds + prefix_len is_digit r
+pub digits_prefix : (ds r : List ℕ) → AreDigits ds → prefix_len is_digit (ds ++ r) ≡ length ds + prefix_len is_digit r
 digits_prefix [] r h = omega arith
 digits_prefix (d ∷ ds) r h = rw h.0 (omega (arith, digits_prefix ds r h.1))
 
-drop_front : (ds r : List ℕ) (n : ℕ) → drop (length ds + n) (ds ++ r) ≡ drop n r
+pub drop_front : (ds r : List ℕ) (n : ℕ) → drop (length ds + n) (ds ++ r) ≡ drop n r
 drop_front [] r n = let e : length {A = ℕ} [] + n ≡ n = omega arith in rw e refl
 drop_front (d ∷ ds) r n = let e : length (d ∷ ds) + n ≡ suc (length ds + n) = omega arith in rw e (drop_front ds r n)
 
@@ -42,7 +43,7 @@ take_front : (ds r : List ℕ) → take (length ds) (ds ++ r) ≡ ds
 take_front [] r = refl
 take_front (d ∷ ds) r = ap (λ l. d ∷ l) (take_front ds r)
 
-digits_after : (ds r : List ℕ) → AreDigits ds → after_while is_digit (ds ++ r) ≡ after_while is_digit r
+pub digits_after : (ds r : List ℕ) → AreDigits ds → after_while is_digit (ds ++ r) ≡ after_while is_digit r
 digits_after ds r h = rw (digits_prefix ds r h) (drop_front ds r (prefix_len is_digit r))
 
 -- ---- the length of the longest numeral in front
@@ -59,9 +60,6 @@ exponent_len x = cond (has_exponent x) (1 + (sign_len (drop 1 x) + prefix_len is
 abbrev tail_len : List ℕ → ℕ
 tail_len u = prefix_len is_digit u + (fraction_len (after_while is_digit u) + exponent_len (drop (fraction_len (after_while is_digit u)) (after_while is_digit u)))
 
-abbrev has_digit : List ℕ → Bool
-has_digit u = cond (begins is_digit u) true (has_fraction u)
-
 -- ---- what is spelled is read: the parts in front of a rest
 
 no_minus : (u : List ℕ) → begins is_sign u ≡ false → begins is_minus u ≡ false
@@ -72,7 +70,7 @@ no_sign_length : (sg : Option ℕ) (u : List ℕ) → IfSome sg IsSign → begin
 no_sign_length None u h n = rw n refl
 no_sign_length (Some b) u h n = rw h refl
 
-after_sign : (sg : Option ℕ) (u : List ℕ) → IfSome sg IsSign → begins is_sign u ≡ false → without_sign (option_to_list sg ++ u) ≡ u
+pub after_sign : (sg : Option ℕ) (u : List ℕ) → IfSome sg IsSign → begins is_sign u ≡ false → without_sign (option_to_list sg ++ u) ≡ u
 after_sign None u h n = rw n refl
 after_sign (Some b) u h n = rw h refl
 
@@ -80,18 +78,18 @@ minus_of : (sg : Option ℕ) (u : List ℕ) → begins is_sign u ≡ false → b
 minus_of None u n = no_minus u n
 minus_of (Some b) u n = refl
 
-digits_begin : (ds r : List ℕ) → AreDigits ds → 0 < length ds → begins is_digit (ds ++ r) ≡ true
+pub digits_begin : (ds r : List ℕ) → AreDigits ds → 0 < length ds → begins is_digit (ds ++ r) ≡ true
 digits_begin [] r h l = absurd (omega arith)
 digits_begin (d ∷ ds) r h l = h.0
 
-no_sign : (u : List ℕ) → begins is_digit u ≡ true → begins is_sign u ≡ false
+pub no_sign : (u : List ℕ) → begins is_digit u ≡ true → begins is_sign u ≡ false
 no_sign [] h = refl
 no_sign (b ∷ u) h = digit_no_sign b h
 
 exponent_len_of : (x : List ℕ) → has_exponent x ≡ true → exponent_len x ≡ 1 + (sign_len (drop 1 x) + prefix_len is_digit (without_sign (drop 1 x)))
 exponent_len_of x h = rw h refl
 
-e_len : (e : Exponent) (rest : List ℕ) → IsExponent e → (has_exponent (exponent_text (Some e) ++ rest) ≡ true) × (exponent_len (exponent_text (Some e) ++ rest) ≡ length (exponent_text (Some e)) + prefix_len is_digit rest)
+pub e_len : (e : Exponent) (rest : List ℕ) → IsExponent e → (has_exponent (exponent_text (Some e) ++ rest) ≡ true) × (exponent_len (exponent_text (Some e) ++ rest) ≡ length (exponent_text (Some e)) + prefix_len is_digit rest)
 e_len e rest h =
     let first = digits_begin e.digits rest h.digits h.some in
     let plain = no_sign (e.digits ++ rest) first in
@@ -112,7 +110,7 @@ point_tail ds w h =
     rw (digits_prefix ds w h, past) (omega arith)
 
 -- what follows the sign
-abbrev unsigned_text : List ℕ → Option (List ℕ) → Option Exponent → List ℕ → List ℕ
+abbrev pub unsigned_text : List ℕ → Option (List ℕ) → Option Exponent → List ℕ → List ℕ
 unsigned_text whole fr ex rest = whole ++ (fraction_text fr ++ (exponent_text ex ++ rest))
 
 -- it is at most the longest
@@ -125,19 +123,19 @@ tail_spelled whole (Some ds) (Some e) rest w f h =
     rw (whole_tail whole (46 ∷ (ds ++ (exponent_text (Some e) ++ rest))) w, point_tail ds (exponent_text (Some e) ++ rest) f, none, (e_len e rest h).1) (omega arith)
 
 -- a digit stands before or after the point
-digit_spelled : (whole : List ℕ) (fr : Option (List ℕ)) (x : List ℕ) → AreDigits whole → AreDigits (fraction_digits fr) → 0 < length whole + length (fraction_digits fr) → has_digit (whole ++ (fraction_text fr ++ x)) ≡ true
+pub digit_spelled : (whole : List ℕ) (fr : Option (List ℕ)) (x : List ℕ) → AreDigits whole → AreDigits (fraction_digits fr) → 0 < length whole + length (fraction_digits fr) → has_digit (whole ++ (fraction_text fr ++ x)) ≡ true
 digit_spelled (d ∷ whole) fr x w f h = rw w.0 refl
 digit_spelled [] None x w f h = absurd (omega arith)
 digit_spelled [] (Some []) x w f h = absurd (omega arith)
 digit_spelled [] (Some (d ∷ ds)) x w f h = f.0
 
-no_sign_spelled : (u : List ℕ) → has_digit u ≡ true → begins is_sign u ≡ false
+pub no_sign_spelled : (u : List ℕ) → has_digit u ≡ true → begins is_sign u ≡ false
 no_sign_spelled [] h = refl
 no_sign_spelled (b ∷ u) h =
     elim (is_digit b) as (λ v. (is_digit b ≡ v) → is_sign b ≡ false) [ true ↦ (λ e. digit_no_sign b e) | false ↦ (λ e. point_no_sign b (begins is_digit u) (rw e at h)) ] refl
 
 -- the text before a rest
-read_back : (p : Parts) (rest : List ℕ) → spelling p ++ rest ≡ option_to_list p.sign ++ unsigned_text p.whole p.fraction p.exponent rest
+pub read_back : (p : Parts) (rest : List ℕ) → spelling p ++ rest ≡ option_to_list p.sign ++ unsigned_text p.whole p.fraction p.exponent rest
 read_back p rest = simp append_assoc
 
 length-spelling : (p : Parts) → length (spelling p) ≡ length (option_to_list p.sign) + (length p.whole + (length (fraction_text p.fraction) + length (exponent_text p.exponent)))
@@ -244,9 +242,12 @@ digits_in_front (b ∷ s) =
       | false ↦ (λ e. ([], b ∷ s, tt, e, refl))
     ] refl
 
-none_in_front : (r : List ℕ) → begins is_digit r ≡ false → prefix_len is_digit r ≡ 0
+pub none_in_front : (r : List ℕ) → begins is_digit r ≡ false → prefix_len is_digit r ≡ 0
 none_in_front [] h = refl
 none_in_front (b ∷ r) h = rw h refl
+
+pub after_front : (s ds r : List ℕ) → AreDigits ds → begins is_digit r ≡ false → s ≡ ds ++ r → after_while is_digit s ≡ r
+after_front s ds r d n e = let none = none_in_front r n in rw (e, digits_after ds r d) (rw none refl)
 
 sign_in_front : (s : List ℕ) → (sg : Option ℕ) × IfSome sg IsSign × (s ≡ option_to_list sg ++ without_sign s) × (sign_len s ≡ length (option_to_list sg))
 sign_in_front [] = (None, tt, refl, refl)
@@ -260,11 +261,11 @@ some_digits : (ds r : List ℕ) → begins is_digit (ds ++ r) ≡ true → begin
 some_digits [] r h n = absurd (cc)
 some_digits (d ∷ ds) r h n = omega arith
 
-both_true : (a b : Bool) → (a && b) ≡ true → (a ≡ true) × (b ≡ true)
+pub both_true : (a b : Bool) → (a && b) ≡ true → (a ≡ true) × (b ≡ true)
 both_true true b h = (refl, h)
 both_true false b h = absurd cc
 
-exponent_here : (b : ℕ) (y : List ℕ) → has_exponent (b ∷ y) ≡ true → (ex : Option Exponent) × (r : List ℕ) × IfSome ex IsExponent × (b ∷ y ≡ exponent_text ex ++ r) × (length (exponent_text ex) ≡ exponent_len (b ∷ y))
+exponent_here : (b : ℕ) (y : List ℕ) → has_exponent (b ∷ y) ≡ true → (ex : Option Exponent) × (r : List ℕ) × IfSome ex IsExponent × (b ∷ y ≡ exponent_text ex ++ r) × (length (exponent_text ex) ≡ exponent_len (b ∷ y)) × (without_exponent (b ∷ y) ≡ r)
 exponent_here b y h =
     let both = both_true (is_e b) (begins is_digit (without_sign y)) h in
     let sg = sign_in_front y in
@@ -275,25 +276,26 @@ exponent_here b y h =
     let is : IsExponent e = record { letter = both.0; sign = sg.1; digits = ds.2; some = some } in
     let text : y ≡ (option_to_list sg.0 ++ ds.0) ++ ds.1 = sg.2 ∙ ap (λ l. option_to_list sg.0 ++ l) ds.4 ∙ sym (append_assoc (option_to_list sg.0) ds.0 ds.1) in
     let digits : prefix_len is_digit (without_sign y) ≡ length ds.0 = ap (prefix_len is_digit) ds.4 ∙ digits_prefix ds.0 ds.1 ds.2 ∙ (let n = none_in_front ds.1 ds.3 in omega arith) in
-    (Some e, ds.1, is, ap (λ l. b ∷ l) text, rw (exponent_len_of (b ∷ y) h, sg.3, digits) (omega (arith, length-append (option_to_list sg.0) ds.0)))
+    let past : after_while is_digit (without_sign y) ≡ ds.1 = after_front (without_sign y) ds.0 ds.1 ds.2 ds.3 ds.4 in
+    (Some e, ds.1, is, ap (λ l. b ∷ l) text, rw (exponent_len_of (b ∷ y) h, sg.3, digits) (omega (arith, length-append (option_to_list sg.0) ds.0)), rw h past)
 
-exponent_in_front : (x : List ℕ) → (ex : Option Exponent) × (r : List ℕ) × IfSome ex IsExponent × (x ≡ exponent_text ex ++ r) × (length (exponent_text ex) ≡ exponent_len x)
-exponent_in_front [] = (None, [], tt, refl, refl)
+exponent_in_front : (x : List ℕ) → (ex : Option Exponent) × (r : List ℕ) × IfSome ex IsExponent × (x ≡ exponent_text ex ++ r) × (length (exponent_text ex) ≡ exponent_len x) × (without_exponent x ≡ r)
+exponent_in_front [] = (None, [], tt, refl, refl, refl)
 exponent_in_front (b ∷ y) =
-    elim (has_exponent (b ∷ y)) as (λ v. (has_exponent (b ∷ y) ≡ v) → (ex : Option Exponent) × (r : List ℕ) × IfSome ex IsExponent × (b ∷ y ≡ exponent_text ex ++ r) × (length (exponent_text ex) ≡ exponent_len (b ∷ y))) [
+    elim (has_exponent (b ∷ y)) as (λ v. (has_exponent (b ∷ y) ≡ v) → (ex : Option Exponent) × (r : List ℕ) × IfSome ex IsExponent × (b ∷ y ≡ exponent_text ex ++ r) × (length (exponent_text ex) ≡ exponent_len (b ∷ y)) × (without_exponent (b ∷ y) ≡ r)) [
       | true ↦ (λ e. exponent_here b y e)
-      | false ↦ (λ e. (None, b ∷ y, tt, refl, rw e refl))
+      | false ↦ (λ e. (None, b ∷ y, tt, refl, rw e refl, rw e refl))
     ] refl
 
 -- a fraction, and what follows it
-fraction_in_front : (v : List ℕ) → (fr : Option (List ℕ)) × (r : List ℕ) × AreDigits (fraction_digits fr) × (v ≡ fraction_text fr ++ r) × (length (fraction_text fr) ≡ fraction_len v)
-fraction_in_front [] = (None, [], tt, refl, refl)
+fraction_in_front : (v : List ℕ) → (fr : Option (List ℕ)) × (r : List ℕ) × AreDigits (fraction_digits fr) × (v ≡ fraction_text fr ++ r) × (length (fraction_text fr) ≡ fraction_len v) × (without_fraction v ≡ r)
+fraction_in_front [] = (None, [], tt, refl, refl, refl)
 fraction_in_front (b ∷ v) =
     let ds = digits_in_front v in
     let digits : prefix_len is_digit v ≡ length ds.0 = ap (prefix_len is_digit) ds.4 ∙ digits_prefix ds.0 ds.1 ds.2 ∙ (let n = none_in_front ds.1 ds.3 in omega arith) in
     elim (eqb_tells b 46) [
-      | inl y ↦ (Some ds.0, ds.1, ds.2, rw y.1 (ap (λ l. 46 ∷ l) ds.4), rw (y.0, digits) (omega arith))
-      | inr f ↦ (None, b ∷ v, tt, refl, rw f.0 refl)
+      | inl y ↦ (Some ds.0, ds.1, ds.2, rw y.1 (ap (λ l. 46 ∷ l) ds.4), rw (y.0, digits) (omega arith), rw y.0 (after_front v ds.0 ds.1 ds.2 ds.3 ds.4))
+      | inr f ↦ (None, b ∷ v, tt, refl, rw f.0 refl, rw f.0 refl)
     ]
 
 some_prefix : (u : List ℕ) → begins is_digit u ≡ true → 1 ≤ prefix_len is_digit u
@@ -315,7 +317,7 @@ some_text None = omega arith
 some_text (Some ds) = omega arith
 
 -- a digit in front of the point, or after it
-some_digit : (u : List ℕ) → has_digit u ≡ true → 2 ≤ 2 * prefix_len is_digit u + fraction_len (after_while is_digit u)
+pub some_digit : (u : List ℕ) → has_digit u ≡ true → 2 ≤ 2 * prefix_len is_digit u + fraction_len (after_while is_digit u)
 some_digit u h =
     elim (begins is_digit u) as (λ v. (begins is_digit u ≡ v) → 2 ≤ 2 * prefix_len is_digit u + fraction_len (after_while is_digit u)) [
       | true ↦ (λ e. let some = some_prefix u e in omega arith)
@@ -332,25 +334,26 @@ parts_in_front u ds v fr x ex r d n eu ev lf ex_is le h =
     let point = some_point fr in
     (omega arith, eu ∙ ap (λ l. ds ++ l) (ev ∙ ap (λ l. fraction_text fr ++ l) ex_is), rw (after, digits, past) (omega arith))
 
-tail_in_front : (u : List ℕ) → has_digit u ≡ true → (whole : List ℕ) × (fr : Option (List ℕ)) × (ex : Option Exponent) × (r : List ℕ) × AreDigits whole × AreDigits (fraction_digits fr) × IfSome ex IsExponent × (0 < length whole + length (fraction_digits fr)) × (u ≡ unsigned_text whole fr ex r) × (length whole + (length (fraction_text fr) + length (exponent_text ex)) ≡ tail_len u)
+tail_in_front : (u : List ℕ) → has_digit u ≡ true → (whole : List ℕ) × (fr : Option (List ℕ)) × (ex : Option Exponent) × (r : List ℕ) × AreDigits whole × AreDigits (fraction_digits fr) × IfSome ex IsExponent × (0 < length whole + length (fraction_digits fr)) × (u ≡ unsigned_text whole fr ex r) × (length whole + (length (fraction_text fr) + length (exponent_text ex)) ≡ tail_len u) × (without_exponent (without_fraction (after_while is_digit u)) ≡ r)
 tail_in_front u h =
     let ds = digits_in_front u in
     let fr = fraction_in_front ds.1 in
     let ex = exponent_in_front fr.1 in
     let all = parts_in_front u ds.0 ds.1 fr.0 fr.1 ex.0 ex.1 ds.2 ds.3 ds.4 fr.3 fr.4 ex.3 ex.4 h in
-    (ds.0, fr.0, ex.0, ex.1, ds.2, fr.2, ex.2, all.0, all.1, all.2)
+    let rest = ap without_exponent (ap without_fraction (after_front u ds.0 ds.1 ds.2 ds.3 ds.4) ∙ fr.5) ∙ ex.5 in
+    (ds.0, fr.0, ex.0, ex.1, ds.2, fr.2, ex.2, all.0, all.1, all.2, rest)
 
 -- the longest numeral in front
-numeral_in_front : (t : List ℕ) → has_digit (without_sign t) ≡ true → (p : Parts) × (r : List ℕ) × IsProper p × (t ≡ spelling p ++ r) × (length (spelling p) ≡ numeral_len t)
+pub numeral_in_front : (t : List ℕ) → has_digit (without_sign t) ≡ true → (p : Parts) × (r : List ℕ) × IsProper p × (t ≡ spelling p ++ r) × (length (spelling p) ≡ numeral_len t) × (without_exponent (without_fraction (after_while is_digit (without_sign t))) ≡ r)
 numeral_in_front t h =
     let sg = sign_in_front t in
     let tail = tail_in_front (without_sign t) h in
     let p : Parts = record { sign = sg.0; whole = tail.0; fraction = tail.1; exponent = tail.2 } in
     let is : IsProper p = record { sign = sg.1; whole = tail.4; fraction = tail.5; exponent = tail.6; some = tail.7 } in
-    (p, tail.3, is, sg.2 ∙ ap (λ l. option_to_list sg.0 ++ l) tail.8 ∙ sym (read_back p tail.3), length-spelling p ∙ rw (sg.3, ← tail.9) refl)
+    (p, tail.3, is, sg.2 ∙ ap (λ l. option_to_list sg.0 ++ l) tail.8 ∙ sym (read_back p tail.3), length-spelling p ∙ rw (sg.3, ← tail.9) refl, tail.10)
 
 not_either : (u : List ℕ) → has_digit u ≡ false → (begins is_digit u ≡ false) × (has_fraction u ≡ false)
-not_either u h = elim (begins is_digit u) as (λ v. cond v true (has_fraction u) ≡ false → (v ≡ false) × (has_fraction u ≡ false)) [ true ↦ (λ e. absurd cc) | false ↦ (λ e. (refl, e)) ] h
+not_either u h = elim (begins is_digit u) as (λ v. (v || has_fraction u) ≡ false → (v ≡ false) × (has_fraction u ≡ false)) [ true ↦ (λ e. absurd cc) | false ↦ (λ e. (refl, e)) ] h
 
 no_numeral : (n : Bool) (u : List ℕ) → has_digit u ≡ false → unsigned_number n u ≡ Ok (pos 0)
 no_numeral n u h =
@@ -387,7 +390,7 @@ from_place s i j p w h =
 abbrev past_blanks : List ℕ → List ℕ
 past_blanks s = after_while is_blank s
 
-spelled_here : (t : List ℕ) (p : Parts) (r : List ℕ) → IsProper p → t ≡ spelling p ++ r → (has_digit (without_sign t) ≡ true) × (length (spelling p) ≤ numeral_len t)
+pub spelled_here : (t : List ℕ) (p : Parts) (r : List ℕ) → IsProper p → t ≡ spelling p ++ r → (has_digit (without_sign t) ≡ true) × (length (spelling p) ≤ numeral_len t)
 spelled_here t p r h e = rw e (spelled p r h)
 
 numbered_here : (t : List ℕ) (p : Parts) (r : List ℕ) → IsProper p → t ≡ spelling p ++ r → length (spelling p) ≡ numeral_len t → unsigned_number (begins is_minus t) (without_sign t) ≡ number_of_parts p

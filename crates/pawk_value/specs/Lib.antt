@@ -5,3 +5,10 @@ pub mod Value
 pub mod Numeral
 pub mod Look
 pub mod Conversion
+pub mod Comparison
+pub mod Arithmetic
+pub mod Format
+pub mod FormatViews
+pub mod FormatResults
+pub mod FormatLaw
+pub mod ArithmeticLaw

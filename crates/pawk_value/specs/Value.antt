@@ -2,6 +2,8 @@
 use Rattle.std.specs.Prelude.{ℕ, ℤ, List}
 use Rattle.pawk_value.specs.declared.values.Value.{Value}
 use Rattle.pawk_value.specs.declared.values.Value.TheVariants as value
+use Rattle.pawk_value.specs.declared.values.ValueRef.{ValueRef}
+use Rattle.pawk_value.specs.declared.values.ValueRef.TheVariants as value_ref
 
 -- a text from outside is Maybe: it is numeric where it looks like a numeral
 pub data Val : Type 0 where
@@ -16,3 +18,10 @@ shown value.Uninit = Uninit
 shown (value.Num z) = Num z
 shown (value.Text t) = Text t.items
 shown (value.Maybe t) = Maybe t.items
+
+-- what a lent value shows
+abbrev pub lent : ValueRef → Val
+lent value_ref.Uninit = Uninit
+lent (value_ref.Num z) = Num z
+lent (value_ref.Text t) = Text t.now
+lent (value_ref.Maybe t) = Maybe t.now

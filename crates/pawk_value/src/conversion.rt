@@ -2,9 +2,10 @@
 
 ghost use Rattle.std.specs.Prelude.{◌≡◌, ◌++◌, ◌+◌, ◌<◌, length, vec_len, vec_capacity, IfOk, OnErr, is_ok, if◌then◌else◌};
 ghost use Rattle.pawk_value.specs.Value.{shown};
-ghost use Rattle.pawk_value.specs.Conversion.{num_of, text_of};
+ghost use Rattle.pawk_value.specs.Conversion.{num_of, text_of, truth_of, truth_of_candidate};
 
 use crate::faults::Fault;
+use crate::look::looks;
 use crate::numeral::number_of;
 use crate::values::Value;
 use itoa::Buffer;
@@ -19,6 +20,32 @@ pub fn to_num(value: &Value) -> Result<i64, Fault>
         Value::Uninit => Ok(0),
         Value::Num(number) => Ok(*number),
         Value::Text(text) | Value::Maybe(text) => number_of(text.as_slice()),
+    }
+}
+
+/// Whether a text from outside holds: as a number where it is numeric, and then with the faults of
+/// `number_of`, else where it is not empty. It takes no memory.
+pub fn candidate_truth(text: &[u8]) -> Result<bool, Fault>
+    ensures { result ≡ truth_of_candidate text.now }
+{
+    if looks(text) {
+        Ok(number_of(text)? != 0)
+    } else {
+        Ok(!text.is_empty())
+    }
+}
+
+/// Whether a value holds: a number or a numeric candidate where it is not 0, a text or another
+/// candidate where it is not empty. The faults are those of a numeric candidate's number. It takes no
+/// memory.
+pub fn truth(value: &Value) -> Result<bool, Fault>
+    ensures { result ≡ truth_of (shown value.now) }
+{
+    match value {
+        Value::Uninit => Ok(false),
+        Value::Num(number) => Ok(*number != 0),
+        Value::Text(text) => Ok(!text.is_empty()),
+        Value::Maybe(text) => candidate_truth(text.as_slice()),
     }
 }
 

@@ -18,15 +18,16 @@ const PAST_LIMIT: u64 = 9_223_372_036_854_775_809;
 
 /// The digits in front of a text.
 #[derive(Clone, Copy)]
-struct Digits {
+pub(crate) struct Digits {
     /// How many they are.
-    count: usize,
+    pub(crate) count: usize,
     /// The number that they write, if it is at most `LIMIT`, else `PAST_LIMIT`.
-    value: u64,
+    pub(crate) value: u64,
 }
 
 /// How many blanks are in front of a text.
-fn count_blanks(text: &[u8]) -> usize
+#[inline]
+pub(crate) fn count_blanks(text: &[u8]) -> usize
     ensures value { result ≡ prefix_len is_blank text.now }
     ensures bound { result ≤ length text.now }
 {
@@ -39,6 +40,7 @@ fn count_blanks(text: &[u8]) -> usize
 }
 
 /// The number that a digit makes of the one that the digits before it write.
+#[inline]
 fn with_digit(value: u64, digit: u8) -> u64
     requires value { value ≤ PAST_LIMIT }
     requires digit { digit < 58 }
@@ -52,7 +54,8 @@ fn with_digit(value: u64, digit: u8) -> u64
 }
 
 /// The digits in front of a text, in one pass.
-fn leading_digits(text: &[u8]) -> Digits
+#[inline]
+pub(crate) fn leading_digits(text: &[u8]) -> Digits
     ensures count { result.count ≡ prefix_len is_digit text.now }
     ensures bound { result.count ≤ length text.now }
     ensures value { result.value
@@ -70,7 +73,7 @@ fn leading_digits(text: &[u8]) -> Digits
 }
 
 /// The bytes after a sign in front.
-fn past_sign(text: &[u8]) -> &[u8]
+pub(crate) fn past_sign(text: &[u8]) -> &[u8]
     ensures { result.now ≡ without_sign text.now }
 {
     match text {
@@ -90,7 +93,7 @@ fn past_point(text: &[u8]) -> &[u8]
 }
 
 /// Whether a point and a digit are in front.
-fn shows_fraction(text: &[u8]) -> bool
+pub(crate) fn shows_fraction(text: &[u8]) -> bool
     ensures { result ≡ has_fraction text.now }
 {
     match text {
@@ -100,7 +103,7 @@ fn shows_fraction(text: &[u8]) -> bool
 }
 
 /// Whether an exponent is in front.
-fn shows_exponent(text: &[u8]) -> bool
+pub(crate) fn shows_exponent(text: &[u8]) -> bool
     ensures { result ≡ has_exponent text.now }
 {
     match text {

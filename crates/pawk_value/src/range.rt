@@ -6,6 +6,7 @@ ghost use Rattle.pawk_value.specs.Range.{in_range_or_fault};
 use crate::faults::Fault;
 
 /// The number itself where it is one of 64 bits with a sign, else the fault `overflow`.
+#[inline]
 pub fn whole_number(wide: i128) -> Result<i64, Fault>
     ensures { result ≡ in_range_or_fault wide }
 {
