@@ -4,20 +4,21 @@ use crate::command_line::{Request, read_words};
 use crate::files::read_files;
 use crate::reports::{Stop, tell_ending, tell_stop};
 use pawk_par::{
-    Cutting, Ending, Reader, Refusal, Report, Settings, SettingsRefusal, Writer, parse, run,
+    Cutting, Ending, Open, Reader, Refusal, Report, Settings, SettingsRefusal, Writer, parse, run,
     run_streams,
 };
-use std::alloc::Global;
 use std::io;
 use std::io::{Read, Write};
 use std::rt::Files;
+use std::sync::Wait;
+use std::thread::Threads;
 
 /// How many steps each record may take where nothing else is asked for.
 const STEPS: u64 = 10_000_000;
 
 /// Runs the program over standard input.
-fn run_input<I: Read, O: Write>(
-    alloc: Global,
+fn run_input<R: AllocGlobal + Threads + Wait, I: Read, O: Write>(
+    rt: &R,
     request: &Request<'_>,
     input: I,
     output: &mut O,
@@ -25,12 +26,14 @@ fn run_input<I: Read, O: Write>(
 where
     I: Drop,
 {
+    let alloc = rt.alloc();
     let text = request.program.as_bytes();
     let cutting = Cutting::Size(request.chunk);
     let workers = usize::from(request.workers);
     let mut source = Reader::new(input);
     let mut sink = Writer::new(output);
     match run_streams(
+        rt,
         alloc,
         text,
         &[],
@@ -39,6 +42,7 @@ where
         &mut sink,
         &cutting,
         workers,
+        &Open,
     ) {
         Ok(answer) => Ok(answer),
         Err(refusal) => Err(Stop::of_streams(alloc, refusal)),
@@ -46,7 +50,7 @@ where
 }
 
 /// Runs the program over the files that were named.
-fn run_files<R: Files + AllocGlobal, O: Write>(
+fn run_files<R: Files + AllocGlobal + Threads + Wait, O: Write>(
     rt: &R,
     request: &Request<'_>,
     output: &mut O,
@@ -64,7 +68,9 @@ fn run_files<R: Files + AllocGlobal, O: Write>(
     let input = read_files(rt, &request.files)?;
     let cutting = Cutting::Size(request.chunk);
     let workers = usize::from(request.workers);
-    let (outcome, report) = match run(alloc, &program, &settings, &input, &cutting, workers) {
+    let (outcome, report) = match run(
+        rt, alloc, &program, &settings, &input, &cutting, workers, &Open,
+    ) {
         Ok(answer) => answer,
         Err(Refusal::Memory) => return Err(Stop::Memory),
         Err(Refusal::Thread) => return Err(Stop::Thread),
@@ -85,13 +91,13 @@ fn do_request<R, I, O, E>(
     errors: &mut E,
 ) -> Result<io::Result<u8>, Stop>
 where
-    R: Files + AllocGlobal,
+    R: Files + AllocGlobal + Threads + Wait,
     I: Read + Drop,
     O: Write,
     E: Write,
 {
     let (ending, report) = if request.files.is_empty() {
-        run_input(rt.alloc(), request, input, output)?
+        run_input(rt, request, input, output)?
     } else {
         run_files(rt, request, output)?
     };
@@ -109,7 +115,7 @@ fn do_words<R, I, O, E>(
     errors: &mut E,
 ) -> Result<io::Result<u8>, Stop>
 where
-    R: Files + AllocGlobal,
+    R: Files + AllocGlobal + Threads + Wait,
     I: Read + Drop,
     O: Write,
     E: Write,
@@ -128,7 +134,7 @@ pub(crate) fn command<R, I, O, E>(
     mut errors: E,
 ) -> u8
 where
-    R: Files + AllocGlobal,
+    R: Files + AllocGlobal + Threads + Wait,
     I: Read + Drop,
     O: Write + Drop,
     E: Write + Drop,

@@ -5,7 +5,9 @@ use std::alloc::{AllocError, Global};
 use std::io::{ErrorKind, Read, Write};
 use std::process::Abort;
 use std::rt::Files;
+use std::sync::Wait;
 use std::test::Fail;
+use std::thread::Threads;
 use std::{env, fs, io, process};
 
 /// The program that adds up the first field.
@@ -99,7 +101,10 @@ fn line_of(alloc: Global, words: &[&str]) -> Result<Vec<String>, AllocError> {
 }
 
 /// Runs the case and compares all that it wrote.
-fn compare<R: Files + AllocGlobal + Abort>(rt: &R, case: &Case<'_>) -> Result<(), Fail> {
+fn compare<R: Files + AllocGlobal + Abort + Threads + Wait>(
+    rt: &R,
+    case: &Case<'_>,
+) -> Result<(), Fail> {
     let line = line_of(rt.alloc(), case.words)?;
     let mut output = Vec::new(rt.alloc());
     let mut errors = Vec::new(rt.alloc());

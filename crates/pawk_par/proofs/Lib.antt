@@ -6,3 +6,6 @@ pub mod OutcomeLemmas
 pub mod PhaseLemmas
 pub mod PlanRunLemmas
 pub mod StreamLemmas
+pub mod WorkerLemmas
+pub mod ShiftLemmas
+pub mod GatheringLemmas

@@ -1,58 +1,27 @@
--- The chunks of a plan, run one after the other.
-use Rattle.std.proofs.Common.{◌≡◌, ◌≢◌, ℕ, ℤ, ◌+◌, ◌<◌, List, [], ◌∷◌, ◌++◌, length, map, take, drop, get_or, zero, suc, Option, Some, None, refl, subst, ap, sym, ◌∙◌, arith, add-one}
-use Rattle.std.specs.List.{slice_get, flat_map}
+-- The chunks of a plan that were run, and their merge.
+use Rattle.std.proofs.Common.{◌≡◌, ◌≢◌, ℕ, ℤ, ◌<◌, ◌≤◌, List, [], ◌∷◌, ◌++◌, length, map, get_or, zero, suc, true, true≢false, All, Option, Some, None, refl, subst, ap, sym, ◌∙◌, arith}
+use Rattle.std.specs.List.{slice_get, flat_map, range_with_len}
 use Rattle.std.specs.Option.{IfSome, IsSome}
-use Rattle.pawk_par.specs.Meaning.{State, opening, record_phase}
-use Rattle.pawk_par.specs.Merge.{end_to_end, HaveTables, CanMerge, StopsAt}
+use Rattle.std.proofs.lemmas.Bool.Decides.{nat_tests}
+use Rattle.std.proofs.lemmas.List.{get_or-map, length-map}
+use Rattle.std.proofs.lemmas.List.FromFn.{length-range_with_len, get_or-range_with_len}
 use Rattle.pawk_value.specs.Value.{Uninit}
+use Rattle.pawk_input.specs.Input.{File, Item}
+use Rattle.pawk_input.specs.Plan.{chunk_items}
+use Rattle.pawk_input.specs.declared.cutting.Chunk.{Chunk}
+use Rattle.pawk_par.specs.Program.{Shape}
+use Rattle.pawk_par.specs.Outcome.{newline}
+use Rattle.pawk_par.specs.Meaning.{State, opening, record_phase}
+use Rattle.pawk_par.specs.Merge.{end_to_end, HaveTables, CanMerge, StopsAt as MergeStopsAt}
+use Rattle.pawk_par.specs.Chunks.{Told, RanChunk, Ran, told}
+use Rattle.pawk_par.specs.Worker.{Numbered, IsResultOf, numbers, stops}
+use Rattle.pawk_par.specs.Shifts.{limit_of}
 use Rattle.pawk_par.specs.declared.merging.MergeStop.{MergeStop}
 use Rattle.pawk_par.specs.declared.merging.MergeStop.TheVariants as stop
-use Rattle.pawk_par.proofs.PhaseLemmas.{tables_of, fault_of_stop}
-use Rattle.std.proofs.lemmas.List.{map-append, take-append-drop}
-use Rattle.std.proofs.Math.Seq.{drop-cons}
-use Rattle.std.proofs.lemmas.Grind.{take_at_read}
-use Rattle.pawk_input.specs.Input.{Item}
-use Rattle.pawk_input.specs.declared.cutting.Chunk.{Chunk}
-use Rattle.pawk_par.specs.Chunks.{Told, RanChunk, Ran}
+use Rattle.pawk_par.specs.declared.chunk.Left.{Left}
 use Rattle.pawk_par.specs.declared.chunk.Left.TheVariants as left
-
--- each of these chunks ran through, and these are their results
-abbrev pub RanAll : ℕ → List (List Item) → List Told → Type 0
-RanAll k [] [] = Unit {0}
-RanAll k [] (c ∷ cs) = ⊥
-RanAll k (is ∷ iss) [] = ⊥
-RanAll k (is ∷ iss) (c ∷ cs) = RanChunk k is c × (c.ending ≡ left.Through) × RanAll k iss cs
-
-pub RanAll-push : (k : ℕ) (iss : List (List Item)) (cs : List Told) (is : List Item) (c : Told) → RanAll k iss cs → RanChunk k is c → c.ending ≡ left.Through → RanAll k (iss ++ is ∷ []) (cs ++ c ∷ [])
-RanAll-push k [] [] is c h j e = (j, e, tt)
-RanAll-push k [] (d ∷ cs) is c h j e = absurd h
-RanAll-push k (js ∷ iss) [] is c h j e = absurd h
-RanAll-push k (js ∷ iss) (d ∷ cs) is c h j e = (h.0, h.1, RanAll-push k iss cs is c h.2 j e)
-
--- all chunks ran through
-pub Ran-all : (k : ℕ) (iss : List (List Item)) (cs : List Told) → RanAll k iss cs → Ran k iss cs
-Ran-all k [] [] h = tt
-Ran-all k [] (c ∷ cs) h = absurd h
-Ran-all k (is ∷ iss) [] h = absurd h
-Ran-all k (is ∷ iss) (c ∷ cs) h =
-    (h.0, λ _. Ran-all k iss cs h.2, λ f e. let bad : left.Through ≡ left.Fault f = sym h.1 ∙ e in absurd (cc))
-
--- the last chunk that was run did not run through
-pub Ran-stopped : (k : ℕ) (iss : List (List Item)) (cs : List Told) (is : List Item) (c : Told) (jss : List (List Item)) → RanAll k iss cs → RanChunk k is c → (c.ending ≡ left.Through → ⊥) → Ran k (iss ++ is ∷ jss) (cs ++ c ∷ [])
-Ran-stopped k [] [] is c jss h j e = (j, λ through. absurd (e through), λ f _. refl)
-Ran-stopped k [] (d ∷ cs) is c jss h j e = absurd h
-Ran-stopped k (js ∷ iss) [] is c jss h j e = absurd h
-Ran-stopped k (js ∷ iss) (d ∷ cs) is c jss h j e =
-    (h.0, λ _. Ran-stopped k iss cs is c jss h.2 j e, λ f at. let bad : left.Through ≡ left.Fault f = sym h.1 ∙ at in absurd (cc))
-
--- one more item of a list that is mapped
-pub map_take : {X Y : Type 0} (f : X → Y) (xs : List X) (i : ℕ) (d : X) → i < length xs → map f (take (i + 1) xs) ≡ map f (take i xs) ++ f (get_or xs i d) ∷ []
-map_take f xs i d h = ap (map f) ((take_at_read xs i d h).1) ∙ map-append f (take i xs) (get_or xs i d ∷ [])
-
--- the items before one, it, and those after it
-pub map_parts : {X Y : Type 0} (f : X → Y) (xs : List X) (i : ℕ) (d : X) → i < length xs → map f xs ≡ map f (take i xs) ++ f (get_or xs i d) ∷ map f (drop (i + 1) xs)
-map_parts f xs i d h =
-    ap (map f) (sym (take-append-drop i xs) ∙ ap (λ l. take i xs ++ l) (drop-cons xs i d h ∙ rw add-one refl)) ∙ map-append f (take i xs) (get_or xs i d ∷ drop (i + 1) xs)
+use Rattle.pawk_par.proofs.PhaseLemmas.{tables_of, fault_of_stop}
+use Rattle.pawk_par.proofs.GatheringLemmas.{StopsAt}
 
 abbrev pub no_chunk : Chunk
 no_chunk = record { file = 0; range = record { start = 0; end = 0 }; nr = 0; fnr = 0 }
@@ -62,6 +31,70 @@ pub at_index : {X : Type 0} (P : X → Type 0) (xs : List X) (i : ℕ) (d : X) �
 at_index P [] i d h p = absurd (omega arith)
 at_index P (x ∷ xs) zero d h p = p
 at_index P (x ∷ xs) (suc i) d h p = at_index P xs i d (omega arith) p
+
+-- the chunks that count are counted down
+limit_some : (stop n : ℕ) → 0 < limit_of stop (suc n)
+limit_some stop n = grind (arith, nat_tests)
+
+limit_first : (n : ℕ) → limit_of zero (suc n) ≡ 1
+limit_first n = grind (arith, nat_tests)
+
+limit_next : (stop n : ℕ) → limit_of (suc stop) (suc n) ≡ suc (limit_of stop n)
+limit_next stop n = grind (arith, nat_tests)
+
+through_of : (e : Left) → (stops e ≡ true → ⊥) → e ≡ left.Through
+through_of left.Through h = refl
+through_of (left.Fault f) h = absurd (h refl)
+
+no_stop : (e : Left) → e ≡ left.Through → stops e ≡ true → ⊥
+no_stop left.Through e s = true≢false (sym s)
+no_stop (left.Fault f) e s = cc
+
+-- these are the results of the first chunks, all ran through but the one at the stop, and there are no more
+pub Ran-upto : (k : ℕ) (records : Chunk → List Item) (stop : ℕ) (plan : List Chunk) (rs : List Numbered) → length rs ≡ limit_of stop (length plan)
+    → ((i : ℕ) (d : Numbered) → i < length rs → RanChunk k (records (get_or plan i no_chunk)) (told (get_or rs i d).1))
+    → ((i : ℕ) (d : Numbered) → i < length rs → i < stop → (get_or rs i d).1.ending ≡ left.Through)
+    → (stop < length plan → (d : Numbered) × (stops (get_or rs stop d).1.ending ≡ true))
+    → Ran k (map records plan) (map told (map (λ (r : Numbered). r.1) rs))
+Ran-upto k records stop [] [] len ran through last = tt
+Ran-upto k records stop [] (r ∷ rs) len ran through last = absurd (let none : limit_of stop 0 ≤ 0 = grind (arith, nat_tests) in omega (arith, len, none))
+Ran-upto k records stop (c ∷ plan) [] len ran through last = absurd (omega (arith, len, limit_some stop (length plan)))
+Ran-upto k records zero (c ∷ plan) (r ∷ []) len ran through last =
+    (ran 0 r (omega arith), λ e. absurd (no_stop r.1.ending e (last (omega arith)).1), λ f e. refl)
+Ran-upto k records zero (c ∷ plan) (r ∷ q ∷ rs) len ran through last = absurd (omega (arith, len, limit_first (length plan)))
+Ran-upto k records (suc stop) (c ∷ plan) (r ∷ rs) len ran through last = (
+  ran 0 r (omega arith),
+  λ _. Ran-upto k records stop plan rs (omega (arith, len, limit_next stop (length plan))) (λ i d h. ran (suc i) d (omega arith)) (λ i d h l. through (suc i) d (omega arith) (omega arith))
+      (λ small. last (omega arith)),
+  λ f e. let bad : left.Through ≡ left.Fault f = sym (through 0 r (omega arith) (omega arith)) ∙ e in absurd (cc),
+)
+
+-- results that have the numbers of the first chunks, in order
+pub key_at : (n : ℕ) (rs : List Numbered) → numbers rs ≡ range_with_len 0 n → (i : ℕ) (d : Numbered) → i < length rs → (get_or rs i d).0 ≡ i
+key_at n rs e i d h =
+    let long : length rs ≡ n = sym (length-map rs (λ (r : Numbered). r.0)) ∙ (ap length e ∙ length-range_with_len 0 n) in
+    let there : get_or (range_with_len 0 n) i 0 ≡ i = get_or-range_with_len 0 n i 0 (omega arith) ∙ (omega arith) in
+    sym (get_or-map (λ (r : Numbered). r.0) rs i d 0 h) ∙ (ap (λ l. get_or l i 0) e ∙ there)
+
+-- results of the first chunks in order, up to the one that did not run through
+pub Ran-numbered : (s : Shape) (files : List File) (stop : ℕ) (plan : List Chunk) (rs : List Numbered) → numbers rs ≡ range_with_len 0 (limit_of stop (length plan))
+    → All (IsResultOf s files plan) rs → All (λ (r : Numbered). stops r.1.ending ≡ true → r.0 ≡ stop) rs → (stop < length plan → StopsAt stop rs)
+    → Ran s.field (map (chunk_items newline files) plan) (map told (map (λ (r : Numbered). r.1) rs))
+Ran-numbered s files stop plan rs order made settled last =
+    let n = limit_of stop (length plan) in
+    let long : length rs ≡ n = sym (length-map rs (λ (r : Numbered). r.0)) ∙ (ap length order ∙ length-range_with_len 0 n) in
+    let key = key_at n rs order in
+    Ran-upto s.field (chunk_items newline files) stop plan rs long
+    (λ i d h. one i (get_or rs i d) (key i d h) (made i d h))
+    (λ i d h l. through_of (get_or rs i d).1.ending (λ e. let a = settled i d h e in let b = key i d h in omega arith))
+    (λ small. let at = last small in
+    let where_ : at.1.0 ≡ stop = sym (key at.1.0 at.0 at.1.1) ∙ (ap (λ (r : Numbered). r.0) at.1.2 ∙ at.3) in
+    (at.0, subst (λ (i : ℕ). stops (get_or rs i at.0).1.ending ≡ true) where_ (ap (λ (r : Numbered). stops r.1.ending) at.1.2 ∙ at.2)))
+  where
+    one : (i : ℕ) (r : Numbered) → r.0 ≡ i → IsResultOf s files plan r → RanChunk s.field (chunk_items newline files (get_or plan i no_chunk)) (told r.1)
+    one i r e m =
+        let P : Chunk → Type 0 = λ c. RanChunk s.field (chunk_items newline files c) (told r.1) in
+        subst (λ (j : ℕ). P (get_or plan j no_chunk)) e (at_index P plan r.0 no_chunk m.0 m.1)
 
 -- lists that are made one from each item, end to end
 pub joined_map : {X Y : Type 0} (f : X → List Y) (xs : List X) → end_to_end (map f xs) ≡ flat_map f xs
@@ -74,7 +107,7 @@ some_of (Some x) h = refl
 
 -- what a merge that stops says of one run over all records
 pub fault_of_merge : (k : ℕ) (iss : List (List Item)) (cs : List Told) (whole : List Item) (st : State) (s : MergeStop) → end_to_end iss ≡ whole → st ≡ opening → Ran k iss cs → s ≢ stop.Memory
-    → ((adds : List (List ℤ)) → HaveTables cs adds → s ≢ stop.Memory → StopsAt st.value cs adds s × (¬ CanMerge st.value cs adds)) → IsSome (record_phase k opening whole).fault
+    → ((adds : List (List ℤ)) → HaveTables cs adds → s ≢ stop.Memory → MergeStopsAt st.value cs adds s × (¬ CanMerge st.value cs adds)) → IsSome (record_phase k opening whole).fault
 fault_of_merge k iss cs whole st s joined opened ran memory stops =
     let tables = tables_of k iss cs ran in
     let cannot : CanMerge Uninit cs tables.0 → ⊥ = λ can. (stops tables.0 tables.1 memory).1 (subst (λ (t : State). CanMerge t.value cs tables.0) (sym opened) can) in

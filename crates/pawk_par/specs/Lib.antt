@@ -11,3 +11,5 @@ pub mod Chunks
 pub mod Merge
 pub mod MergeSteps
 pub mod Sequence
+pub mod Worker
+pub mod Shifts

@@ -70,7 +70,7 @@ WhyUnread left old new refusal.Input = IfSome left (λ bytes. LIMIT < length byt
 -- what a refusal tells
 abbrev pub WhyRefused : List ℕ → ℕ → Cutting → Devices → Devices → StreamRefusal → Type 0
 WhyRefused text budget cutting old new refusal.Memory = WroteNothing old new
-WhyRefused text budget cutting old new refusal.Thread = ⊥
+WhyRefused text budget cutting old new refusal.Thread = WroteNothing old new
 WhyRefused text budget cutting old new refusal.Cutting = IfSome old.left (λ bytes. IsRefused (standard_input bytes) cutting) × WroteNothing old new
 WhyRefused text budget cutting old new (refusal.Program r) = ((s : Shape) → ¬ Spells text s) × ReadNothing old new × WroteNothing old new
 WhyRefused text budget cutting old new (refusal.Settings r) = (¬ ((1 ≤ budget) × (budget ≤ 1000000000000))) × ReadNothing old new × WroteNothing old new

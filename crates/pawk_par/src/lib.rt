@@ -7,6 +7,10 @@ mod count;
 mod cutting;
 mod device;
 mod finish;
+mod gate;
+#[cfg(test)]
+mod gate_tests;
+mod gathering;
 mod merging;
 mod outcome;
 mod program;
@@ -15,6 +19,7 @@ mod report;
 mod running;
 mod sequence;
 mod settings;
+mod shifts;
 mod slices;
 mod state;
 mod streaming;
@@ -22,11 +27,13 @@ mod streams;
 mod sums;
 #[cfg(test)]
 mod tests;
+mod worker;
 
 pub use chunk::{ChunkResult, Left};
 pub use chunk_run::run_chunk;
 pub use cutting::Cutting;
 pub use device::{Failed, Reader, Sink, Source, Writer};
+pub use gate::{Gate, Open};
 pub use merging::{MergeStop, Merged, merge};
 pub use outcome::{Ending, Global, Outcome, Place};
 pub use pawk_input::{Input, TooLarge};
@@ -38,3 +45,4 @@ pub use state::{RecordState, Store};
 pub use streaming::run_streams;
 pub use streams::StreamRefusal;
 pub use sums::Sums;
+pub use worker::work;

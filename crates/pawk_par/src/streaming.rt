@@ -10,6 +10,7 @@ ghost use Rattle.pawk_par.specs.Streams.{Answers, WhyRefused, WhyUnprepared, Why
 
 use crate::cutting::Cutting;
 use crate::device::{Failed, Sink, Source};
+use crate::gate::Gate;
 use crate::outcome::Ending;
 use crate::program::{Program, SyntaxRefusal, parse};
 use crate::report::{Refusal, Report};
@@ -19,6 +20,8 @@ use crate::slices::past;
 use crate::streams::StreamRefusal;
 use pawk_input::{Input, LIMIT, TooLarge};
 use std::alloc::{AllocError, AllocFailed, Global};
+use std::sync::Wait;
+use std::thread::Threads;
 
 /// How many bytes are asked of a source at once.
 const PIECE: usize = 131_072;
@@ -165,9 +168,11 @@ fn read_input<S: Source>(alloc: Global, source: &mut S) -> Result<Input, StreamR
 ///
 /// Refusals, in the order in which they are met: `Program` where the text is no program that is read, `Settings` where the
 /// budget is refused (nothing was read then), `Read` where a read failed, `Input` where the input is too large, `Cutting`
-/// where the cutting has no plan, `Write` where a write failed, after so many bytes; `Memory` where memory was refused.
+/// where the cutting has no plan, `Thread` where a worker could not be started, `Write` where a write failed, after so many
+/// bytes; `Memory` where memory was refused.
 /// Nothing was written but with `Write`. So far no assignments can be given.
-pub fn run_streams<S: Source, K: Sink>(
+pub fn run_streams<S: Source, K: Sink, G: Gate + Sync, R: Threads + Wait>(
+    rt: &R,
     alloc: Global,
     text: &[u8],
     assigns: &[Assignment<'_>],
@@ -176,6 +181,7 @@ pub fn run_streams<S: Source, K: Sink>(
     sink: &mut K,
     cutting: &Cutting,
     workers: usize,
+    gate: &G,
 ) -> Result<(Ending, Report), StreamRefusal>
     requires none { assigns.now ≡ [] }
     requires sized { IsSized cutting.now }
@@ -196,7 +202,9 @@ pub fn run_streams<S: Source, K: Sink>(
         Ok(input) => input,
         Err(refusal) => return Err(refusal),
     };
-    let (outcome, report) = match run(alloc, &program, &settings, &input, cutting, workers) {
+    let (outcome, report) = match run(
+        rt, alloc, &program, &settings, &input, cutting, workers, gate,
+    ) {
         Ok(answer) => answer,
         Err(Refusal::Memory) => return Err(StreamRefusal::Memory),
         Err(Refusal::Thread) => return Err(StreamRefusal::Thread),

@@ -3,7 +3,7 @@ ghost use Rattle.pawk_par.specs.Cutting.{IsSized};
 
 use crate::sums::{first, next};
 use crate::{
-    ChunkResult, Cutting, Ending, Input, Left, MergeStop, Outcome, Place, Program, Reader,
+    ChunkResult, Cutting, Ending, Input, Left, MergeStop, Open, Outcome, Place, Program, Reader,
     RecordState, Refusal, Route, Settings, SettingsRefusal, Store, StreamRefusal, Sums,
     SyntaxRefusal, Writer, merge, parse, run, run_streams,
 };
@@ -11,7 +11,9 @@ use pawk_value::{Fault, Value};
 use std::alloc::Global;
 use std::io;
 use std::io::{Read, Write};
+use std::sync::Wait;
 use std::test::Fail;
+use std::thread::Threads;
 
 const SUM: &str = "{ n += $1 } END { print n }";
 
@@ -80,7 +82,7 @@ fn is_same(value: &Value, want: &Value) -> bool {
     }
 }
 
-fn one_file(alloc: Global, name: &[u8], bytes: &[u8]) -> Result<Input, Fail> {
+pub(crate) fn one_file(alloc: Global, name: &[u8], bytes: &[u8]) -> Result<Input, Fail> {
     let mut files = Vec::new(alloc);
     files.push((
         Vec::from_slice(alloc, name)?,
@@ -89,31 +91,32 @@ fn one_file(alloc: Global, name: &[u8], bytes: &[u8]) -> Result<Input, Fail> {
     Ok(Input::new(files).map_err(|_| "too large")?)
 }
 
-fn program(alloc: Global) -> Result<Program, Fail> {
+pub(crate) fn program(alloc: Global) -> Result<Program, Fail> {
     Ok(parse(alloc, SUM.as_bytes()).map_err(|_| "refused")?)
 }
 
-fn run_sum(
-    alloc: Global,
+fn run_sum<R: AllocGlobal + Threads + Wait>(
+    rt: &R,
     bytes: &[u8],
     cutting: &Cutting,
 ) -> Result<Result<(Outcome, Route), Refusal>, Fail>
     requires { IsSized cutting.now }
 {
+    let alloc = rt.alloc();
     let program = program(alloc)?;
     let settings = Settings::new(alloc, &program, &[], 1).map_err(|_| "refused")?;
     let input = one_file(alloc, b"", bytes)?;
-    Ok(match run(alloc, &program, &settings, &input, cutting, 2) {
-        Ok((outcome, report)) => Ok((outcome, report.route)),
-        Err(refusal) => Err(refusal),
-    })
+    Ok(
+        match run(rt, alloc, &program, &settings, &input, cutting, 2, &Open) {
+            Ok((outcome, report)) => Ok((outcome, report.route)),
+            Err(refusal) => Err(refusal),
+        },
+    )
 }
 
 #[test]
 fn lists_every_variable(rt: HostRuntime) -> Result<(), Fail> {
-    let (outcome, route) = run_sum(rt.alloc(), b"1\n2\n3\n", &Cutting::Size(1))?.map_err(
-        |_| "refused",
-    )?;
+    let (outcome, route) = run_sum(&rt, b"1\n2\n3\n", &Cutting::Size(1))?.map_err(|_| "refused")?;
     let want: [(&[u8], Value); 14] = [
         (
             b"CONVFMT",
@@ -157,7 +160,7 @@ fn cuts_by_hand(rt: HostRuntime) -> Result<(), Fail> {
     ];
     for (cuts, is_accepted) in cases {
         let cutting = Cutting::At(Vec::from_slice(rt.alloc(), cuts)?);
-        match run_sum(rt.alloc(), b"1\n2\n3\n", &cutting)? {
+        match run_sum(&rt, b"1\n2\n3\n", &cutting)? {
             Ok((outcome, route)) => {
                 assert!(rt; is_accepted);
                 assert!(rt; outcome.output.as_slice() == b"6\n".as_slice());
@@ -204,7 +207,7 @@ fn tells_the_first_fault(rt: HostRuntime) -> Result<(), Fail> {
     ];
     for (input, size, fault, output) in cases {
         let cutting = Cutting::Size(size.max(1));
-        let (outcome, route) = run_sum(rt.alloc(), input, &cutting)?.map_err(|_| "refused")?;
+        let (outcome, route) = run_sum(&rt, input, &cutting)?.map_err(|_| "refused")?;
         assert!(rt; outcome.output.as_slice() == output);
         match fault {
             Some((fault, number)) => {
@@ -232,6 +235,7 @@ fn runs_over_a_slow_source(rt: HostRuntime) -> Result<(), Fail> {
         let mut sink = Writer::new(&mut output);
         let cutting = Cutting::Size(1);
         let answer = run_streams(
+            &rt,
             rt.alloc(),
             SUM.as_bytes(),
             &[],
@@ -240,6 +244,7 @@ fn runs_over_a_slow_source(rt: HostRuntime) -> Result<(), Fail> {
             &mut sink,
             &cutting,
             2,
+            &Open,
         );
         match answer {
             Ok((ending, report)) => {
@@ -269,6 +274,7 @@ fn tells_how_much_was_written(rt: HostRuntime) -> Result<(), Fail> {
         });
         let cutting = Cutting::Size(1);
         let answer = run_streams(
+            &rt,
             rt.alloc(),
             SUM.as_bytes(),
             &[],
@@ -277,6 +283,7 @@ fn tells_how_much_was_written(rt: HostRuntime) -> Result<(), Fail> {
             &mut sink,
             &cutting,
             2,
+            &Open,
         );
         assert!(rt; answer.is_err_and(|refusal| refusal == StreamRefusal::Write(1)));
         assert!(rt; sink.inner.taken.as_slice() == b"6".as_slice());
@@ -307,6 +314,7 @@ fn refuses_before_it_reads(rt: HostRuntime) -> Result<(), Fail> {
         let mut sink = Writer::new(Vec::new(rt.alloc()));
         let cutting = Cutting::Size(1);
         let answer = run_streams(
+            &rt,
             rt.alloc(),
             text.as_bytes(),
             &[],
@@ -315,6 +323,7 @@ fn refuses_before_it_reads(rt: HostRuntime) -> Result<(), Fail> {
             &mut sink,
             &cutting,
             2,
+            &Open,
         );
         assert!(rt; answer.is_err_and(|refusal| refusal == want));
         assert!(rt; sink.inner.is_empty());

@@ -1,0 +1,100 @@
+//! The results of all workers, brought together.
+
+ghost use Rattle.std.specs.Prelude.{◌≡◌, ◌≢◌, ◌<◌, ◌≤◌, nat_lt, length, map, filter, All, IfOk, IfErr, IsOk};
+ghost use Rattle.std.specs.List.{flat_map};
+ghost use Rattle.pawk_input.specs.Plan.{IsPlanOf, chunk_items};
+ghost use Rattle.pawk_par.specs.Chunks.{Ran, told};
+ghost use Rattle.pawk_par.specs.Outcome.{newline};
+ghost use Rattle.pawk_par.specs.Shifts.{limit_of, results_of};
+
+use crate::chunk::ChunkResult;
+use crate::gate::Gate;
+use crate::program::Program;
+use crate::report::Refusal;
+use crate::settings::Settings;
+use crate::shifts::{Shift, all_work};
+use pawk_board::{Board, BoardSeat};
+use pawk_input::{Input, Plan};
+use std::alloc::{AllocError, Global};
+use std::sync::Wait;
+use std::thread::Threads;
+
+/// The seats and the results of all shifts, each result with its chunk's number.
+fn gathered(
+    alloc: Global,
+    shifts: Vec<Shift>,
+) -> Result<(Vec<BoardSeat>, Vec<(u64, ChunkResult)>), AllocError>
+    ensures seats { IfOk result (λ r. r.0.items ≡ map (λ s. s.seat) shifts.items) }
+    ensures results { IfOk result (λ r. r.1.items ≡ flat_map results_of shifts.items) }
+    ensures all { IfOk result (λ r. All (λ s. IsOk s.results) shifts.items) }
+{
+    let mut seats = Vec::with_capacity(alloc, shifts.len())?;
+    let mut results = Vec::new(alloc);
+    for shift in shifts {
+        let Shift {
+            seat,
+            results: done,
+        } = shift;
+        let mut done = done?;
+        seats.push(seat)?;
+        results.append(&mut done)?;
+    }
+    Ok((seats, results))
+}
+
+/// How many chunks count: those up to the stop, or all.
+fn limit(stop: u64, chunks: u64) -> u64
+    ensures { result ≡ limit_of stop chunks }
+{
+    if stop < chunks { stop + 1 } else { chunks }
+}
+
+/// Drops the results of the chunks at the limit and past it.
+fn keep_below(results: &mut Vec<(u64, ChunkResult)>, limit: u64)
+    ensures { results.new.items ≡ filter (λ r. nat_lt r.0 limit) results.old.items }
+{
+    results.retain(|numbered| numbered.0 < limit);
+}
+
+fn without_numbers(
+    alloc: Global,
+    numbered: Vec<(u64, ChunkResult)>,
+) -> Result<Vec<ChunkResult>, AllocError>
+    ensures { IfOk result (λ v. v.items ≡ map (λ r. r.1) numbered.items) }
+{
+    let mut results = Vec::with_capacity(alloc, numbered.len())?;
+    for (_, result) in numbered {
+        results.push(result)?;
+    }
+    Ok(results)
+}
+
+/// The results of the chunks in order, up to the first that did not run through, by so many workers.
+pub(crate) fn run_chunks<G: Gate + Sync, R: Threads + Wait>(
+    rt: &R,
+    alloc: Global,
+    program: &Program,
+    settings: &Settings,
+    input: &Input,
+    plan: &Plan,
+    workers: usize,
+    gate: &G,
+) -> Result<Vec<ChunkResult>, Refusal>
+    requires plan { IsPlanOf newline input.now plan.now }
+    requires few { length plan.now ≤ 1048576 }
+    requires workers { (0 < workers) × (workers ≤ 64) }
+    ensures refused { IfErr result (λ e. e ≢ Refusal.Cutting) }
+    ensures ran { IfOk result (λ rs. Ran program.now.field (map (chunk_items newline input.now) plan.now) (map told rs.items)) }
+{
+    let chunks = plan.len() as u64;
+    let (board, seats) = Board::new(alloc, chunks, workers)?;
+    let shifts = all_work(
+        rt, alloc, &board, seats, program, settings, input, plan, gate,
+    )?;
+    let (seats, mut results) = gathered(alloc, shifts)?;
+    let tally = board.finish(seats);
+    let stop = tally.stop();
+    keep_below(&mut results, limit(stop, chunks));
+    results.sort_unstable_by_key(|numbered| numbered.0);
+    Ok(without_numbers(alloc, results)?)
+}
