@@ -3,7 +3,7 @@
 #   make            prove and build build/pawk
 #   make demo       build it and run it on three lines: the last line is 6
 #   make test       the whole gate, and then what stands beside it (tests/run)
-#   make bench      compare its user time with that of mawk and gawk
+#   make bench      compare its user time with that of mawk and gawk, and its elapsed time by workers
 #   make install    put it at $(PREFIX)/bin/pawk (PREFIX is /usr/local)
 #   make clean      remove what was built, and what the proofs keep
 
@@ -36,6 +36,7 @@ test: toolchain
 bench: build
 	@test -e $(BENCH_DATA)/ten.txt || bench/data $(BENCH_DATA)
 	bench/run $(BENCH_DATA)
+	bench/workers $(BENCH_DATA)
 
 install: build
 	mkdir -p $(DESTDIR)$(PREFIX)/bin

@@ -1,0 +1,14 @@
+-- What a matcher answers.
+use Rattle.std.specs.Prelude.{◌↔◌, ℕ, List, Option}
+use Rattle.pawk_ere.specs.declared.node.Node.{Node}
+use Rattle.pawk_ere.specs.Pattern.{Pattern, Matches, IsFound}
+use Rattle.pawk_ere.specs.Regex.{Takes}
+use Rattle.pawk_ere.specs.Tree.{regex_of}
+
+-- the matcher is one of this expression: what it takes is what the expression matches
+abbrev pub IsFor : Pattern → Node → Type 0
+IsFor e node = (s : List ℕ) (i j : ℕ) → Takes (regex_of node) s i j ↔ Matches e s i j
+
+-- what was found is the leftmost and longest match of the expression from a place of the text on, or that there is none
+abbrev pub IsAnswer : Pattern → List ℕ → ℕ → Option (ℕ × ℕ) → Type 0
+IsAnswer e text start found = IsFound (Matches e text) start found

@@ -1,0 +1,23 @@
+-- What a cache keeps, and what it answers.
+use Rattle.std.specs.Prelude.{ℕ, List, Contains, Option, Vec}
+use Rattle.std.proofs.Common.{Global}
+use Rattle.pawk_ere.specs.Answers.{IsAnswer, IsFor}
+use Rattle.pawk_ere.specs.declared.node.Node.{Node}
+use Rattle.pawk_ere.specs.Pattern.{Pattern}
+use Rattle.pawk_ere.specs.Tokens.{SpellsEre}
+
+-- the matcher is one of the expression that the text spells
+pub record IsOfText (bytes : List ℕ) (matcher : Node) : Type 0 where
+  pub pattern : Pattern
+  pub spelled : SpellsEre bytes pattern
+  pub meaning : IsFor pattern matcher
+
+-- each matcher that is kept is one of its text
+abbrev pub AreOfTexts : List (Vec ℕ Global × Node) → Type 0
+AreOfTexts entries = (e : Vec ℕ Global × Node) → Contains entries e → IsOfText e.0.items e.1
+
+-- the answer of reading the expression and searching for it
+pub record IsAnswerOfText (bytes text : List ℕ) (start : ℕ) (found : Option (ℕ × ℕ)) : Type 0 where
+  pub pattern : Pattern
+  pub spelled : SpellsEre bytes pattern
+  pub answer : IsAnswer pattern text start found

@@ -1,0 +1,100 @@
+// Writing out repetitions.
+
+ghost use Rattle.std.specs.Prelude.{◌≡◌, ◌-◌, ◌≤◌, IfOk};
+ghost use Rattle.pawk_ere.specs.Expand.{at_least, at_most, copies, expand, repeated};
+ghost use Rattle.pawk_ere.specs.Regex.{Bytes};
+ghost use Rattle.pawk_ere.specs.Sets.{none};
+ghost use Rattle.pawk_ere.specs.Tree.{pattern_of, regex_of};
+
+use crate::byte_set::ByteSet;
+use crate::expression::Expression;
+use crate::node::Node;
+use std::alloc::{AllocError, Global};
+
+/// A byte set as a leaf. It stands outside the recursion, whose frames stay small.
+#[inline(never)]
+fn leaf(alloc: Global, set: &ByteSet) -> Result<Node, AllocError>
+    ensures { IfOk result (λ node. regex_of node ≡ Bytes set.now.members) }
+{
+    Ok(Node::Bytes(Box::new(alloc, *set)?))
+}
+
+/// What matches nothing.
+#[inline(never)]
+fn nothing(alloc: Global) -> Result<Node, AllocError>
+    ensures { IfOk result (λ node. regex_of node ≡ Bytes none) }
+{
+    Ok(Node::Bytes(Box::new(alloc, ByteSet::none())?))
+}
+
+/// The expression with its repetitions written out.
+#[cycle(expanding)]
+pub fn expanded(alloc: Global, e: &Expression) -> Result<Node, AllocError>
+    ensures { IfOk result (λ node. regex_of node ≡ expand (pattern_of e.now)) }
+{
+    match e {
+        Expression::Empty => Ok(Node::Empty),
+        Expression::Start => Ok(Node::Start),
+        Expression::End => Ok(Node::End),
+        Expression::Bytes(set) => leaf(alloc, set),
+        Expression::Group(a) => expanded(alloc, a),
+        Expression::Repeat(a, least, None) => or_more(alloc, *least, a),
+        Expression::Repeat(a, least, Some(most)) => {
+            if *least > *most {
+                return nothing(alloc);
+            }
+            let rest = up_to(alloc, *most - *least, a)?;
+            before(alloc, *least, a, rest)
+        }
+        Expression::Sequence(a, b) => {
+            let first = Box::new(alloc, expanded(alloc, a)?)?;
+            let second = Box::new(alloc, expanded(alloc, b)?)?;
+            Ok(Node::Sequence(first, second))
+        }
+        Expression::Either(a, b) => {
+            let first = Box::new(alloc, expanded(alloc, a)?)?;
+            let second = Box::new(alloc, expanded(alloc, b)?)?;
+            Ok(Node::Either(first, second))
+        }
+    }
+}
+
+/// That many copies before the rest.
+#[cycle(expanding)]
+fn before(alloc: Global, count: u8, a: &Expression, rest: Node) -> Result<Node, AllocError>
+    ensures { IfOk result (λ node. regex_of node ≡ copies count (expand (pattern_of a.now)) (regex_of rest)) }
+{
+    let mut all = rest;
+    for _i in 0..count {
+        let first = Box::new(alloc, expanded(alloc, a)?)?;
+        all = Node::Sequence(first, Box::new(alloc, all)?);
+    }
+    Ok(all)
+}
+
+/// At most that many copies.
+#[cycle(expanding)]
+fn up_to(alloc: Global, count: u8, a: &Expression) -> Result<Node, AllocError>
+    ensures { IfOk result (λ node. regex_of node ≡ at_most count (expand (pattern_of a.now))) }
+{
+    let mut all = Node::Empty;
+    for _i in 0..count {
+        let first = Box::new(alloc, expanded(alloc, a)?)?;
+        let more = Node::Sequence(first, Box::new(alloc, all)?);
+        all = Node::Either(Box::new(alloc, Node::Empty)?, Box::new(alloc, more)?);
+    }
+    Ok(all)
+}
+
+/// That many copies or more.
+#[cycle(expanding)]
+fn or_more(alloc: Global, least: u8, a: &Expression) -> Result<Node, AllocError>
+    ensures { IfOk result (λ node. regex_of node ≡ at_least least (expand (pattern_of a.now))) }
+{
+    let turn = Box::new(alloc, expanded(alloc, a)?)?;
+    if least == 0 {
+        Ok(Node::Star(turn))
+    } else {
+        before(alloc, least - 1, a, Node::Plus(turn))
+    }
+}

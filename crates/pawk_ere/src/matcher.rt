@@ -1,0 +1,124 @@
+// A matcher of one expression.
+
+ghost use Rattle.pawk_ere.specs.Answers.{IsAnswer, IsFor};
+ghost use Rattle.pawk_ere.specs.Hints.{IsLiteral};
+ghost use Rattle.pawk_ere.specs.Pattern.{HasMatch, Matches, Pattern};
+ghost use Rattle.pawk_ere.specs.Spelled.{expression};
+ghost use Rattle.pawk_ere.specs.Tree.{regex_of};
+ghost use Rattle.std.specs.Prelude.{◌≡◌, ◌↔◌, ◌≤◌, length, IfOk, IfSome, IsTrue};
+
+use crate::expand::expanded;
+use crate::hints::{first_byte, push_literal};
+use crate::node::Node;
+use crate::parse::Ere;
+use crate::scan::{has_literal, has_match, search, search_literal};
+use crate::table::{Table, begun};
+use memchr::memmem::{Finder, FinderBuilder};
+use std::alloc::{AllocError, Global};
+use std::marker::Model;
+
+/// A matcher of one expression, with a table of the sets of places that it has met.
+#[derive(Drop)]
+pub struct Matcher {
+    alloc: Global,
+    node: Node,
+    table: Table,
+    /// The byte that each match begins with, if one is known.
+    first: Option<u8>,
+    /// What the expression matches, if it is some bytes and nothing else.
+    literal: Option<Finder<'static>>,
+}
+
+impl Model for Matcher {
+    ghost use Rattle.pawk_ere.specs.declared.node.Node.{Node};
+    ghost use Rattle.pawk_ere.specs.contracts.node.Node as tree;
+    ghost use Rattle.std.specs.Coded.{codes};
+
+    ghost Value = { Node };
+
+    ghost coded = { Prim.hlevel (codes, tree.the_row.coded) };
+
+    ghost use Rattle.pawk_ere.specs.Tree.{regex_of};
+    ghost use Rattle.pawk_ere.specs.Holding.{IsMatcher};
+
+    ghost view = { λ m. m.node };
+
+    ghost invariant = { λ m. IsMatcher (regex_of m.node) m.table m.first m.literal };
+}
+
+/// The bytes that an expression matches, if it matches those and nothing else.
+fn literal_of(alloc: Global, node: &Node) -> Result<Option<Finder<'static>>, AllocError>
+    ensures { IfOk result (λ found. IfSome found (λ bytes. IsLiteral (regex_of node.now) bytes)) }
+{
+    let mut bytes = Vec::new(alloc);
+    if !push_literal(node, &mut bytes)? {
+        return Ok(None);
+    }
+    Ok(Some(FinderBuilder::new().build_forward_owned(bytes)))
+}
+
+impl Matcher {
+    /// A matcher of the expression, with a table that is empty but for the states where a match begins.
+    pub fn new(alloc: Global, ere: &Ere) -> Result<Matcher, AllocError>
+        ensures { IfOk result (λ m. IsFor (expression ere.now) m) }
+    {
+        let node = expanded(alloc, ere.root())?;
+        let table = begun(alloc, &node, 0)?;
+        let first = first_byte(&node);
+        let literal = literal_of(alloc, &node)?;
+        Ok(Matcher {
+            alloc,
+            node,
+            table,
+            first,
+            literal,
+        })
+    }
+
+    /// The leftmost match that starts at the byte `from` or later, and of those the longest (XBD 9.1): the byte where it
+    /// starts, and the byte behind it, counted from 0. After an `Err` the matcher answers as before.
+    pub fn find(&mut self, text: &[u8], from: usize) -> Result<Option<(usize, usize)>, AllocError>
+        requires { from ≤ length text.now }
+        ensures answer { (e : Pattern) → IsFor e self.old → IfOk result (λ found. IsAnswer e text.now from found) }
+        ensures same { self.new ≡ self.old }
+    {
+        if let Some(literal) = &self.literal {
+            return Ok(search_literal(literal, text, from));
+        }
+        search(
+            self.alloc,
+            &self.node,
+            &mut self.table,
+            self.first,
+            text,
+            from,
+        )
+    }
+
+    /// Whether a match starts at the byte `from` or later. After an `Err` the matcher answers as before.
+    pub fn is_match(&mut self, text: &[u8], from: usize) -> Result<bool, AllocError>
+        requires { from ≤ length text.now }
+        ensures answer { (e : Pattern) → IsFor e self.old → IfOk result (λ told. IsTrue told ↔ HasMatch (Matches e text.now) from) }
+        ensures same { self.new ≡ self.old }
+    {
+        if let Some(literal) = &self.literal {
+            return Ok(has_literal(literal, text, from));
+        }
+        has_match(
+            self.alloc,
+            &self.node,
+            &mut self.table,
+            self.first,
+            text,
+            from,
+        )
+    }
+}
+
+#[cfg(test)]
+impl Matcher {
+    /// How often the table was emptied.
+    pub fn emptyings(&self) -> u64 {
+        self.table.emptied
+    }
+}

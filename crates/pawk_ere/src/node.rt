@@ -1,0 +1,16 @@
+// Expressions as the matcher runs them.
+
+use crate::byte_set::ByteSet;
+
+/// An expression whose repetitions are expanded.
+#[derive(Drop)]
+pub enum Node {
+    Empty,
+    Start,
+    End,
+    Bytes(Box<ByteSet>),
+    Sequence(Box<Node>, Box<Node>),
+    Either(Box<Node>, Box<Node>),
+    Star(Box<Node>),
+    Plus(Box<Node>),
+}
