@@ -1,11 +1,12 @@
 //! Workers that a gate watches.
 
-ghost use Rattle.std.specs.Prelude.{◌≡◌, ◌≤◌, length};
+ghost use Rattle.std.specs.Prelude.{◌≡◌, ◌≤◌, length, IfOk};
 ghost use Rattle.pawk_board.specs.Views.{fresh};
 ghost use Rattle.pawk_input.specs.Plan.{IsPlanOf};
-ghost use Rattle.pawk_par.specs.Cutting.{IsSized};
+ghost use Rattle.pawk_input.specs.declared.cutting.TheConstants.{MOST_CHUNKS};
 ghost use Rattle.pawk_par.specs.Outcome.{newline};
 
+use crate::chunk_run::NEWLINE;
 use crate::tests::{one_file, program};
 use crate::{
     ChunkResult, Cutting, Ending, Gate, Left, Open, Outcome, Place, Program, Route, Settings, run,
@@ -16,7 +17,6 @@ use pawk_input::{Input, Plan};
 use pawk_value::Fault;
 use std::alloc::{AllocError, Global};
 use std::fmt::Write;
-use std::process::Abort;
 use std::sync::Wait;
 use std::sync::atomic::{AtomicU64, Ordering};
 use std::test::Fail;
@@ -164,7 +164,7 @@ fn a_chunk_past_a_fault_is_dropped(rt: HostRuntime) -> Result<(), Fail> {
     Ok(())
 }
 
-// The chunks that one worker ran, and how each ended.
+// The chunks that one worker ran, with their results.
 fn work_alone<G: Gate>(
     alloc: Global,
     board: &Board,
@@ -184,6 +184,48 @@ fn work_alone<G: Gate>(
     )
 }
 
+// A plan with a chunk for each line.
+fn plan_of_lines(alloc: Global, input: &Input) -> Result<Plan, Fail>
+    ensures plan { IfOk result (λ p. IsPlanOf newline input.now p) }
+    ensures few { IfOk result (λ p. length p ≤ MOST_CHUNKS) }
+{
+    match Plan::by_size(alloc, input, NEWLINE, 1) {
+        Ok(plan) => Ok(plan),
+        Err(_) => Err(Fail::from("no plan")),
+    }
+}
+
+// What two threads answer, each with a seat.
+type Answers = (
+    Result<Vec<(u64, ChunkResult)>, AllocError>,
+    Result<Vec<(u64, ChunkResult)>, AllocError>,
+);
+
+// A thread for each of two seats.
+fn both_work<G: Gate + Sync, R: Threads>(
+    rt: &R,
+    alloc: Global,
+    board: &Board,
+    a: BoardSeat,
+    b: BoardSeat,
+    program: &Program,
+    settings: &Settings,
+    input: &Input,
+    plan: &Plan,
+    gate: &G,
+) -> Answers
+    requires plan { IsPlanOf newline input.now plan.now }
+    requires chunks { board.now.chunks ≡ length plan.now }
+    requires first { a ≡ fresh board.now.id }
+    requires second { b ≡ fresh board.now.id }
+{
+    thread::join(
+        rt,
+        move || work_alone(alloc, board, a, program, settings, input, plan, gate),
+        move || work_alone(alloc, board, b, program, settings, input, plan, gate),
+    )
+}
+
 // Two threads of the test's own, each with a seat: each runs one chunk.
 #[test]
 fn two_threads_work(rt: HostRuntime) -> Result<(), Fail> {
@@ -191,16 +233,14 @@ fn two_threads_work(rt: HostRuntime) -> Result<(), Fail> {
     let program = program(alloc)?;
     let settings = Settings::new(alloc, &program, &[], 1).map_err(|_| "refused")?;
     let input = one_file(alloc, b"", b"5\n7\n")?;
-    let plan = Plan::by_size(alloc, &input, b"\n", 1).map_err(|_| "no plan")?;
+    let plan = plan_of_lines(alloc, &input)?;
     assert_eq!(rt; plan.len(), 2);
-    let (board, mut seats) = Board::new(alloc, 2, 2)?;
+    let (board, mut seats) = Board::new(alloc, plan.len() as u64, 2)?;
     let b = seats.pop().ok_or("no second seat")?;
     let a = seats.pop().ok_or("no first seat")?;
     let gate = Holding::new(&rt, 0, 1, Until::Entered);
-    let (first, second) = thread::join(
-        &rt,
-        || work_alone(alloc, &board, a, &program, &settings, &input, &plan, &gate),
-        || work_alone(alloc, &board, b, &program, &settings, &input, &plan, &gate),
+    let (first, second) = both_work(
+        &rt, alloc, &board, a, b, &program, &settings, &input, &plan, &gate,
     );
     let mut results = first?;
     let mut others = second?;

@@ -1,10 +1,10 @@
-use Rattle.std.proofs.Common.{◌≡◌, ℕ, ◌<◌, ◌-◌, List, ◌∷◌, ◌++◌, All, sym, ap, ◌∙◌, subst}
+use Rattle.std.proofs.Common.{All, sym, ap, ◌∙◌, subst}
 use Rattle.std.proofs.lemmas.List.Elements.{All-push}
 use Rattle.pawk_board.specs.declared.hand.Hand.{Hand}
-use Rattle.pawk_board.proofs.Rising.{above, fewer_left}
+use Rattle.pawk_board.proofs.Rising.{fewer_left}
 use Rattle.pawk_board.proofs.Calls.{is_chunk, same_board, drew_chunk, drew_less, has_claimed}
 use Rattle.pawk_par.specs.Worker.{IsResultOf, Skips, Runs, stops}
-use Rattle.pawk_par.proofs.WorkerLemmas.{SoFar, begins, skips, runs, done, skips_drawn, runs_drawn}
+use Rattle.pawk_par.proofs.WorkerLemmas.{SoFar, skips, runs, done, skips_drawn, runs_drawn}
 use Rattle.pawk_par.proofs.worker.work.Goals as goal
 
 pub returns-in-Done-clause-worked : goal.returns-in-Done-clause-worked
