@@ -4,7 +4,7 @@ ghost use Rattle.std.specs.Prelude.{◌≡◌, ◌-◌, ◌≤◌, length, slice
 ghost use Rattle.std.specs.Option.{option_copied};
 ghost use Rattle.pawk_input.specs.Fields.{blank_fields, FieldsLaw};
 
-use crate::words::Fields;
+use crate::words::{Fields, count_words, field_place, first_word};
 
 /// The fields of a record: spaces, tabs and newlines at both ends are skipped, and runs of them
 /// separate. Takes no memory.
@@ -24,7 +24,7 @@ pub fn field(text: &[u8], k: usize) -> Option<&[u8]>
     requires { 1 ≤ k }
     ensures { option_copied result ≡ slice_get (blank_fields text.now) (k - 1) }
 {
-    fields(text).nth(k - 1)
+    Some(first_word(&text[field_place(text, k)?..]))
 }
 
 /// How many fields a record has (`NF`). Takes no memory.
@@ -32,7 +32,7 @@ pub fn field(text: &[u8], k: usize) -> Option<&[u8]>
 pub fn count_fields(text: &[u8]) -> usize
     ensures { result ≡ length (blank_fields text.now) }
 {
-    fields(text).count()
+    count_words(text)
 }
 
 /// A record's fields are the one list that it is parted into: blanks, a field, at least one blank,

@@ -130,6 +130,10 @@ fn field_by_number(rt: HostRuntime) {
     assert_eq!(rt; field(record, 3), Some(b"three".as_slice()));
     assert_eq!(rt; field(record, 4), None);
     assert_eq!(rt; field(record, usize::MAX), None);
+    assert_eq!(rt; field(b"", 1), None);
+    assert_eq!(rt; field(b"\n", 1), None);
+    assert_eq!(rt; field(b"word", 1), Some(b"word".as_slice()));
+    assert_eq!(rt; field(b"word", 2), None);
 }
 
 #[test]

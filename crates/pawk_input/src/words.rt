@@ -1,6 +1,6 @@
 //! Taking a record apart into its fields.
 
-ghost use Rattle.std.specs.Prelude.{◌≡◌, ℕ, ◌≤◌, [], ◌∷◌, length, drop, MatchOption};
+ghost use Rattle.std.specs.Prelude.{◌≡◌, ℕ, ◌-◌, ◌≤◌, [], ◌∷◌, length, take, drop, None, Some, MatchOption, slice_get};
 ghost use Rattle.std.specs.List.{prefix_len};
 ghost use Rattle.std.specs.Iterator.{YieldsFirstBy, item_count};
 ghost use Rattle.pawk_value.specs.Bytes.{is_blank};
@@ -56,6 +56,51 @@ fn split_field(text: &[u8]) -> Option<(&[u8], &[u8])>
         return None;
     }
     Some(word.split_at(word_length(word)))
+}
+
+/// The word that a text begins with.
+#[inline]
+pub(crate) fn first_word(text: &[u8]) -> &[u8]
+    ensures { result.now ≡ take (prefix_len is_not_blank text.now) text.now }
+{
+    &text[..word_length(text)]
+}
+
+/// Where field `k`, counted from 1, begins, in bytes from 0. Each byte before it takes the same steps, blank or not: the
+/// end of a word is no branch that a processor would have to guess.
+#[inline]
+pub(crate) fn field_place(text: &[u8], k: usize) -> Option<usize>
+    requires { 1 ≤ k }
+    ensures { MatchOption result (slice_get (blank_fields text.now) (k - 1) ≡ None)
+        (λ place. (place ≤ length text.now) × (slice_get (blank_fields text.now) (k - 1)
+        ≡ Some (take (prefix_len is_not_blank (drop place text.now)) (drop place text.now)))) }
+{
+    let mut begun = 0;
+    let mut after_blank = true;
+    for (place, byte) in text.iter().enumerate() {
+        let is_blank = is_blank_byte(*byte);
+        begun += usize::from(after_blank & !is_blank);
+        if begun == k {
+            return Some(place);
+        }
+        after_blank = is_blank;
+    }
+    None
+}
+
+/// How many words a text has, in the same steps for each byte.
+#[inline]
+pub(crate) fn count_words(text: &[u8]) -> usize
+    ensures { result ≡ length (blank_fields text.now) }
+{
+    let mut begun = 0;
+    let mut after_blank = true;
+    for byte in text {
+        let is_blank = is_blank_byte(*byte);
+        begun += usize::from(after_blank & !is_blank);
+        after_blank = is_blank;
+    }
+    begun
 }
 
 /// The fields that are left of a record, in order.
