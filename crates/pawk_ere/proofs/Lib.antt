@@ -11,3 +11,4 @@ pub mod Rows
 pub mod Walks
 pub mod Keeping
 pub mod Literals
+pub mod Needed

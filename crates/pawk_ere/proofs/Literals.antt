@@ -1,16 +1,15 @@
--- What an expression tells of where its matches begin.
-use Rattle.std.proofs.Common.{◌≡◌, ℕ, ◌+◌, ◌-◌, ◌<◌, ◌≤◌, Bool, true, List, [], ◌∷◌, ◌++◌, length, get_or, Option, Some, None, IfSome, IfOk, Result, Ok, Err, refl, sym, ap, ◌∙◌, subst, ⊎_elim, arith, length-append, append_assoc}
+-- What an expression tells of where its matches begin, and that it may be some bytes and nothing else.
+use Rattle.std.proofs.Common.{◌≡◌, ℕ, ◌+◌, ◌-◌, ◌<◌, ◌≤◌, Bool, List, [], ◌∷◌, ◌++◌, length, get_or, Option, Some, None, IfSome, refl, sym, ap, ◌∙◌, subst, ⊎_elim, arith, length-append}
 use Rattle.std.proofs.lemmas.Bool.{cases_lt}
 use Rattle.std.proofs.lemmas.List.{get_or_append_left}
 use Rattle.std.proofs.Math.Seq.{get_or-append_right}
 use Rattle.std.specs.Prelude.{slice_index}
 use Rattle.memchr.specs.Find.{OccursAt}
 use Rattle.pawk_ere.specs.Pattern.{Holds, Leads}
-use Rattle.std.specs.declared.alloc.AllocError.{AllocError}
 use Rattle.pawk_ere.specs.Hints.{BeginsWith, IsAnchored, IsLiteral}
 use Rattle.pawk_ere.specs.Regex.{Regex, Bytes, Plus, Sequence, Takes}
 
-occurs_join : (s x y : List ℕ) (i : ℕ) → OccursAt s x i → OccursAt s y (i + length x) → OccursAt s (x ++ y) i
+pub occurs_join : (s x y : List ℕ) (i : ℕ) → OccursAt s x i → OccursAt s y (i + length x) → OccursAt s (x ++ y) i
 occurs_join s x y i a b = record {
   fits = let f = b.fits in omega (arith, length-append x y);
   reads = λ q lt. ⊎_elim
@@ -37,7 +36,7 @@ occurs_second s x y i a = record {
       ap (slice_index s) here ∙ a.reads (length x + q) (omega (arith, length-append x y)) ∙ get_or-append_right x y (length x + q) 0 (omega arith) ∙ ap (slice_index y) there;
 }
 
-literal_sequence : (a b : Regex) (x y : List ℕ) → IsLiteral a x → IsLiteral b y → IsLiteral (Sequence a b) (x ++ y)
+pub literal_sequence : (a b : Regex) (x y : List ℕ) → IsLiteral a x → IsLiteral b y → IsLiteral (Sequence a b) (x ++ y)
 literal_sequence a b x y f g s i j = (
   λ t.
       let p = (f s i t.0).0 t.1 in
@@ -46,11 +45,6 @@ literal_sequence a b x y f g s i j = (
   λ o.
       (i + length x, (f s i (i + length x)).1 (occurs_first s x y i o.0, refl), (g s (i + length x) j).1 (occurs_second s x y i o.0, omega (arith, o.1, length-append x y))),
 )
-
--- the bytes of both parts
-pub both_parts : (a b : Regex) (old mid new : List ℕ) → ((x : List ℕ) × (mid ≡ old ++ x) × IsLiteral a x) → ((y : List ℕ) × (new ≡ mid ++ y) × IsLiteral b y) → (z : List ℕ) × (new ≡ old ++ z) × IsLiteral (Sequence a b) z
-both_parts a b old mid new p q =
-    (p.0 ++ q.0, q.1 ∙ ap (λ m. m ++ q.0) p.1 ∙ append_assoc old p.0 q.0, literal_sequence a b p.0 q.0 p.2 q.2)
 
 -- a set of one byte
 pub literal_byte : (members : List Bool) (byte : ℕ) → Holds members byte → ((b : ℕ) → Holds members b → b ≡ byte) → IsLiteral (Bytes members) (byte ∷ [])
@@ -87,8 +81,3 @@ plus_begins (Some byte) a n is h = subst (λ m. BeginsWith m byte) (sym is) (λ 
 
 pub plus_anchored : (a n : Regex) → n ≡ Plus a → IsAnchored a → IsAnchored n
 plus_anchored a n is h = subst IsAnchored (sym is) (λ s i j t. let x = first_turn a s i j t.0 t.1 t.2 in h s i x.0 x.1)
-
-pub second_part : (r : Result Bool AllocError) (a b n : Regex) (old mid new : List ℕ) → n ≡ Sequence a b → ((x : List ℕ) × (mid ≡ old ++ x) × IsLiteral a x)
-    → IfOk r (λ whole. whole ≡ true → (y : List ℕ) × (new ≡ mid ++ y) × IsLiteral b y) → IfOk r (λ whole. whole ≡ true → (z : List ℕ) × (new ≡ old ++ z) × IsLiteral n z)
-second_part (Ok whole) a b n old mid new is p h = λ t. subst (λ m. (z : List ℕ) × (new ≡ old ++ z) × IsLiteral m z) (sym is) (both_parts a b old mid new p (h t))
-second_part (Err why) a b n old mid new is p h = tt

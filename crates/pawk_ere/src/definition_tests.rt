@@ -4,10 +4,13 @@ use crate::{Ere, Matcher};
 use std::alloc::{AllocError, Global};
 use std::test::Fail;
 
-/// The pairs of places of a text of at most 7 bytes: whether the text from the first to the second is matched.
-type Pairs = [[bool; 8]; 8];
+/// One more than the bytes that a text has at most.
+const PLACES: usize = 80;
 
-const NO_PAIR: Pairs = [[false; 8]; 8];
+/// For each place of a text a set of places, as bits: where the text from the one to the other is matched.
+type Pairs = [u128; PLACES];
+
+const NO_PAIR: Pairs = [0; PLACES];
 
 /// An expression, apart from the crate's own trees.
 #[derive(Drop)]
@@ -118,56 +121,73 @@ fn write(form: &Form, out: &mut Vec<u8>) -> Result<(), AllocError> {
 
 fn either(first: &Pairs, second: &Pairs) -> Pairs {
     let mut both = NO_PAIR;
-    for i in 0..8 {
-        for j in 0..8 {
-            both[i][j] = first[i][j] || second[i][j];
-        }
+    for i in 0..PLACES {
+        both[i] = first[i] | second[i];
     }
     both
+}
+
+/// Whether the place is in the set.
+fn holds(places: u128, place: usize) -> bool {
+    place < 128 && (places >> place) & 1 == 1
 }
 
 /// Some place lies between.
 fn sequence(first: &Pairs, second: &Pairs) -> Pairs {
     let mut both = NO_PAIR;
-    for i in 0..8 {
-        for k in 0..8 {
-            for j in 0..8 {
-                if first[i][k] && second[k][j] {
-                    both[i][j] = true;
-                }
+    for i in 0..PLACES {
+        for k in 0..PLACES {
+            if holds(first[i], k) {
+                both[i] |= second[k];
             }
         }
     }
     both
 }
 
-/// Lists of places whose number of pairs is allowed. On 8 places 8 turns more than the least are as good as any number.
-fn turns(once: &Pairs, least: usize, most: Option<usize>) -> Pairs {
-    let mut reached = NO_PAIR;
-    for i in 0..8 {
-        reached[i][i] = true;
+/// Each place with itself.
+fn no_turn() -> Pairs {
+    let mut pairs = NO_PAIR;
+    for i in 0..PLACES {
+        pairs[i] = 1 << i;
     }
+    pairs
+}
+
+/// Any number of turns up to 128, which on 80 places are as good as any number.
+fn any_turns(once: &Pairs) -> Pairs {
+    let mut all = either(&no_turn(), once);
+    for _ in 0..7 {
+        all = sequence(&all, &all);
+    }
+    all
+}
+
+/// Lists of places whose number of pairs is allowed.
+fn turns(once: &Pairs, least: usize, most: Option<usize>) -> Pairs {
+    let mut reached = no_turn();
     for _ in 0..least {
         reached = sequence(&reached, once);
     }
-    let more = match most {
-        None => 8,
-        Some(most) => most.saturating_sub(least),
-    };
-    let mut all = reached;
-    for _ in 0..more {
-        reached = sequence(&reached, once);
-        all = either(&all, &reached);
+    match most {
+        None => sequence(&reached, &any_turns(once)),
+        Some(most) => {
+            let mut all = reached;
+            for _ in least..most {
+                reached = sequence(&reached, once);
+                all = either(&all, &reached);
+            }
+            all
+        }
     }
-    all
 }
 
 /// The pairs where a byte of the text is one of these, or is none of them.
 fn byte_pairs(text: &[u8], bytes: &[u8], is_one: bool) -> Pairs {
     let mut pairs = NO_PAIR;
-    for i in 0..7 {
+    for i in 0..PLACES - 1 {
         if i < text.len() && bytes.contains(&text[i]) == is_one {
-            pairs[i][i + 1] = true;
+            pairs[i] = 1 << (i + 1);
         }
     }
     pairs
@@ -175,8 +195,8 @@ fn byte_pairs(text: &[u8], bytes: &[u8], is_one: bool) -> Pairs {
 
 fn place_pair(place: usize) -> Pairs {
     let mut pairs = NO_PAIR;
-    if place < 8 {
-        pairs[place][place] = true;
+    if place < PLACES {
+        pairs[place] = 1 << place;
     }
     pairs
 }
@@ -200,11 +220,11 @@ fn pairs(form: &Form, text: &[u8]) -> Pairs {
 
 /// The leftmost pair from a place on, and of those the longest.
 fn leftmost(all: &Pairs, from: usize) -> Option<(usize, usize)> {
-    for i in 0..8 {
+    for i in 0..PLACES {
         if i >= from {
-            for back in 0..8 {
-                let j = 7 - back;
-                if all[i][j] {
+            for back in 0..PLACES {
+                let j = PLACES - 1 - back;
+                if holds(all[i], j) {
                     return Some((i, j));
                 }
             }
@@ -213,8 +233,22 @@ fn leftmost(all: &Pairs, from: usize) -> Option<(usize, usize)> {
     None
 }
 
-const TEXTS: [&[u8]; 8] = [
-    b"", b"a", b"ab", b"abcab", b"aabb", b"bababa", b"ccaabbc", b"abababa",
+/// In those of 64 bytes or more a matcher looks for words first.
+const TEXTS: [&[u8]; 14] = [
+    b"",
+    b"a",
+    b"ab",
+    b"abcab",
+    b"aabb",
+    b"bababa",
+    b"ccaabbc",
+    b"abababa",
+    b"bbbbbbbbbbbbbbbbbbbbbbbbbbbbbbbbbbbbbbbbbbbbbbbbbbbbbbbbbbbbbbbb",
+    b"ccccccccccccccccccccccccccccccccccccccccccccccccccccccccccccccab",
+    b"bababababababababababababababababababababababababababababababababa",
+    b"aabcccccccccccccccccccccccccccccccccccccccccccccccccccccccccccccccccccc",
+    b"ccccccccccccccccccccccccccccccabacccccccccccccccccccccccccccccccccbb",
+    b"abcabcccccccccccccccccccccccccccccccccccccccccccccccccccccccccccc",
 ];
 
 #[test]
@@ -222,6 +256,7 @@ fn patterns_as_defined(rt: HostRuntime) -> Result<(), Fail> {
     let alloc = rt.alloc();
     let mut state = 20_170;
     let mut matches = 0u32;
+    let mut looked_for = 0u32;
     for number in 0..420u32 {
         let form = drawn_form(alloc, &mut state, (number % 4) as u8 + 1)?;
         let mut pattern = Vec::new(alloc);
@@ -239,10 +274,14 @@ fn patterns_as_defined(rt: HostRuntime) -> Result<(), Fail> {
                     if told.is_some() {
                         matches = matches.wrapping_add(1);
                     }
+                    if text.len() >= 64 && from == 0 && matcher.word_count() > 0 {
+                        looked_for = looked_for.wrapping_add(1);
+                    }
                 }
             }
         }
     }
     assert!(rt; matches > 1000);
+    assert!(rt; looked_for > 300);
     Ok(())
 }

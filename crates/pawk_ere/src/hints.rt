@@ -1,11 +1,10 @@
 // What an expression tells of where its matches begin.
 
-ghost use Rattle.pawk_ere.specs.Hints.{BeginsWith, IsAnchored, IsLiteral};
+ghost use Rattle.pawk_ere.specs.Hints.{BeginsWith, IsAnchored};
 ghost use Rattle.pawk_ere.specs.Tree.{regex_of};
-ghost use Rattle.std.specs.Prelude.{◌≡◌, ◌++◌, List, ℕ, true, IfOk, IfSome, IsTrue};
+ghost use Rattle.std.specs.Prelude.{IfSome, IsTrue};
 
 use crate::node::Node;
-use std::alloc::AllocError;
 
 /// Whether the expression is seen to match at the begin of the text only.
 pub fn is_anchored(node: &Node) -> bool
@@ -36,32 +35,5 @@ pub fn first_byte(node: &Node) -> Option<u8>
             Some(byte)
         }
         Node::Empty | Node::Start | Node::End | Node::Star(_) => None,
-    }
-}
-
-/// Adds the bytes that the expression matches, and tells whether it matches those and nothing else.
-pub fn push_literal(node: &Node, out: &mut Vec<u8>) -> Result<bool, AllocError>
-    ensures { IfOk result (λ whole. whole ≡ true → (bytes : List ℕ) × (out.new.items ≡ out.old.items ++ bytes) × IsLiteral (regex_of node.now) bytes) }
-{
-    match node {
-        Node::Bytes(set) => match set.only_member() {
-            None => Ok(false),
-            Some(byte) => {
-                out.push(byte)?;
-                Ok(true)
-            }
-        },
-        Node::Sequence(a, b) => {
-            if !push_literal(a, out)? {
-                return Ok(false);
-            }
-            push_literal(b, out)
-        }
-        Node::Empty
-        | Node::Start
-        | Node::End
-        | Node::Star(_)
-        | Node::Plus(_)
-        | Node::Either(_, _) => Ok(false),
     }
 }

@@ -20,6 +20,7 @@ mod scan;
 mod shape;
 mod table;
 mod token;
+mod words;
 
 pub use crate::cache::Cache;
 pub use crate::matcher::Matcher;

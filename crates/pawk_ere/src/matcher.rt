@@ -1,19 +1,17 @@
 // A matcher of one expression.
 
 ghost use Rattle.pawk_ere.specs.Answers.{IsAnswer, IsFor};
-ghost use Rattle.pawk_ere.specs.Hints.{IsLiteral};
 ghost use Rattle.pawk_ere.specs.Pattern.{HasMatch, Matches, Pattern};
 ghost use Rattle.pawk_ere.specs.Spelled.{expression};
-ghost use Rattle.pawk_ere.specs.Tree.{regex_of};
-ghost use Rattle.std.specs.Prelude.{◌≡◌, ◌↔◌, ◌≤◌, length, IfOk, IfSome, IsTrue};
+ghost use Rattle.std.specs.Prelude.{◌≡◌, ◌↔◌, ◌≤◌, length, IfOk, IsTrue};
 
 use crate::expand::expanded;
-use crate::hints::{first_byte, push_literal};
+use crate::hints::first_byte;
 use crate::node::Node;
 use crate::parse::Ere;
 use crate::scan::{has_literal, has_match, search, search_literal};
 use crate::table::{Table, begun};
-use memchr::memmem::{Finder, FinderBuilder};
+use crate::words::{Sought, lacks_words, sought_for};
 use std::alloc::{AllocError, Global};
 use std::marker::Model;
 
@@ -25,8 +23,8 @@ pub struct Matcher {
     table: Table,
     /// The byte that each match begins with, if one is known.
     first: Option<u8>,
-    /// What the expression matches, if it is some bytes and nothing else.
-    literal: Option<Finder<'static>>,
+    /// What is looked for in a text before it is walked over.
+    sought: Sought,
 }
 
 impl Model for Matcher {
@@ -43,18 +41,7 @@ impl Model for Matcher {
 
     ghost view = { λ m. m.node };
 
-    ghost invariant = { λ m. IsMatcher (regex_of m.node) m.table m.first m.literal };
-}
-
-/// The bytes that an expression matches, if it matches those and nothing else.
-fn literal_of(alloc: Global, node: &Node) -> Result<Option<Finder<'static>>, AllocError>
-    ensures { IfOk result (λ found. IfSome found (λ bytes. IsLiteral (regex_of node.now) bytes)) }
-{
-    let mut bytes = Vec::new(alloc);
-    if !push_literal(node, &mut bytes)? {
-        return Ok(None);
-    }
-    Ok(Some(FinderBuilder::new().build_forward_owned(bytes)))
+    ghost invariant = { λ m. IsMatcher (regex_of m.node) m.table m.first m.sought };
 }
 
 impl Matcher {
@@ -65,13 +52,13 @@ impl Matcher {
         let node = expanded(alloc, ere.root())?;
         let table = begun(alloc, &node, 0)?;
         let first = first_byte(&node);
-        let literal = literal_of(alloc, &node)?;
+        let sought = sought_for(alloc, &node)?;
         Ok(Matcher {
             alloc,
             node,
             table,
             first,
-            literal,
+            sought,
         })
     }
 
@@ -82,8 +69,13 @@ impl Matcher {
         ensures answer { (e : Pattern) → IsFor e self.old → IfOk result (λ found. IsAnswer e text.now from found) }
         ensures same { self.new ≡ self.old }
     {
-        if let Some(literal) = &self.literal {
-            return Ok(search_literal(literal, text, from));
+        match &self.sought {
+            Sought::Literal(literal) => return Ok(search_literal(literal, text, from)),
+            Sought::Words(words) => {
+                if from == 0 && lacks_words(words, text) {
+                    return Ok(None);
+                }
+            }
         }
         search(
             self.alloc,
@@ -101,8 +93,13 @@ impl Matcher {
         ensures answer { (e : Pattern) → IsFor e self.old → IfOk result (λ told. IsTrue told ↔ HasMatch (Matches e text.now) from) }
         ensures same { self.new ≡ self.old }
     {
-        if let Some(literal) = &self.literal {
-            return Ok(has_literal(literal, text, from));
+        match &self.sought {
+            Sought::Literal(literal) => return Ok(has_literal(literal, text, from)),
+            Sought::Words(words) => {
+                if from == 0 && lacks_words(words, text) {
+                    return Ok(false);
+                }
+            }
         }
         has_match(
             self.alloc,
@@ -120,5 +117,12 @@ impl Matcher {
     /// How often the table was emptied.
     pub fn emptyings(&self) -> u64 {
         self.table.emptied
+    }
+    /// How many words a text is searched for before it is walked over.
+    pub fn word_count(&self) -> usize {
+        match &self.sought {
+            Sought::Literal(_) => 0,
+            Sought::Words(words) => words.len(),
+        }
     }
 }

@@ -94,6 +94,242 @@ fn brackets(rt: HostRuntime) -> Result<(), Fail> {
     check_rows(&rt, rt.alloc(), &BRACKETS)
 }
 
+/// An expression, a text as bytes that are each repeated so often, a place to search from, and the match.
+type LongRow = (
+    &'static [u8],
+    &'static [(&'static [u8], usize)],
+    usize,
+    Option<(usize, usize)>,
+);
+
+/// Texts of 64 bytes and more, where words are looked for before the walk.
+const ALTERNATIVES: [LongRow; 26] = [
+    (
+        b"(error|warning|failed).*memory",
+        &[(b".", 70), (b"error", 1), (b".", 10)],
+        0,
+        None,
+    ),
+    (
+        b"(error|warning|failed).*memory",
+        &[(b"memory", 1), (b".", 70), (b"error", 1)],
+        0,
+        None,
+    ),
+    (
+        b"(error|warning|failed).*memory",
+        &[(b".", 30), (b"memory", 1), (b".", 30), (b"failed", 1)],
+        0,
+        None,
+    ),
+    (
+        b"(error|warning|failed).*memory",
+        &[(b".", 30), (b"warning", 1), (b".", 30), (b"memory", 1)],
+        0,
+        Some((30, 73)),
+    ),
+    (
+        b"(error|warning|failed).*memory",
+        &[(b"error", 1), (b".", 60), (b"memory", 2)],
+        0,
+        Some((0, 77)),
+    ),
+    (
+        b"(error|warning|failed).*memory",
+        &[(b".", 60), (b"errormemor", 1)],
+        0,
+        None,
+    ),
+    (b"nginx|postgres", &[(b".", 64), (b"postgre", 1)], 0, None),
+    (
+        b"nginx|postgres",
+        &[(b".", 64), (b"nginx", 1), (b"postgres", 1)],
+        0,
+        Some((64, 69)),
+    ),
+    (
+        b"nginx|postgres",
+        &[(b".", 57), (b"postgres", 1)],
+        0,
+        Some((57, 65)),
+    ),
+    (b"nginx|postgres", &[(b".", 64)], 0, None),
+    (
+        b"nginx|postgres",
+        &[(b".", 59), (b"nginx", 1)],
+        0,
+        Some((59, 64)),
+    ),
+    (
+        b"nginx|postgres",
+        &[(b".", 58), (b"nginx", 1)],
+        0,
+        Some((58, 63)),
+    ),
+    (b"nginx|postgres", &[(b".", 63)], 0, None),
+    (
+        b"nginx|postgres",
+        &[(b"nginx", 1), (b".", 70), (b"postgres", 1)],
+        0,
+        Some((0, 5)),
+    ),
+    (
+        b"nginx|postgres",
+        &[(b"nginx", 1), (b".", 70), (b"postgres", 1)],
+        1,
+        Some((75, 83)),
+    ),
+    (
+        b"nginx|postgres",
+        &[(b"nginx", 1), (b".", 70), (b"postgres", 1)],
+        76,
+        None,
+    ),
+    (b"nginx|postgres", &[(b"nginx", 1), (b".", 70)], 1, None),
+    (
+        b"one|two|six|ten",
+        &[(b".", 70), (b"ten", 1)],
+        0,
+        Some((70, 73)),
+    ),
+    (
+        b"one|two|six|ten|red",
+        &[(b".", 70), (b"red", 1)],
+        0,
+        Some((70, 73)),
+    ),
+    (
+        b"(ab|cd)(ef|gh)",
+        &[(b".", 70), (b"cdef", 1)],
+        0,
+        Some((70, 74)),
+    ),
+    (b"(ab|cd)(ef|gh)", &[(b".", 70), (b"abxef", 1)], 0, None),
+    (b"(ab|c)x*", &[(b".", 70), (b"cxx", 1)], 0, Some((70, 73))),
+    (
+        b"(a|b{0})bcd",
+        &[(b".", 64), (b"bcd", 1)],
+        0,
+        Some((64, 67)),
+    ),
+    (
+        b"(a|b{0})bcd",
+        &[(b".", 64), (b"abcd", 1)],
+        0,
+        Some((64, 68)),
+    ),
+    (b"(a|b{0})bcd", &[(b".", 64), (b"abc", 1)], 0, None),
+    (b"(bcd|b{0})x", &[(b".", 64), (b"x", 1)], 0, Some((64, 65))),
+];
+
+const PARTS: [LongRow; 24] = [
+    (b"abab.*babb", &[(b".", 60), (b"ababb", 1)], 0, None),
+    (
+        b"abab.*babb",
+        &[(b".", 60), (b"abab", 1), (b"babb", 1)],
+        0,
+        Some((60, 68)),
+    ),
+    (
+        b"abab.*babb",
+        &[(b"babb", 1), (b".", 60), (b"abab", 1)],
+        0,
+        None,
+    ),
+    (b"ab[xy]cd", &[(b".", 70), (b"abcd", 1)], 0, None),
+    (b"ab[xy]cd", &[(b".", 70), (b"abxcd", 1)], 0, Some((70, 75))),
+    (b"ab.*cd", &[(b".", 70), (b"abcd", 1)], 0, Some((70, 74))),
+    (
+        b"ab.*cd",
+        &[(b"ab", 1), (b".", 70), (b"cd", 1)],
+        0,
+        Some((0, 74)),
+    ),
+    (b"(ab){2}c", &[(b".", 64), (b"ababc", 1)], 0, Some((64, 69))),
+    (b"(ab){2}c", &[(b".", 64), (b"abc", 1)], 0, None),
+    (
+        b"(ab){2}c",
+        &[(b".", 64), (b"abababc", 1)],
+        0,
+        Some((66, 71)),
+    ),
+    (b"(ab){0,2}cd", &[(b".", 64), (b"cd", 1)], 0, Some((64, 66))),
+    (
+        b"(foo)+bar",
+        &[(b".", 64), (b"foo", 2), (b"bar", 1)],
+        0,
+        Some((64, 73)),
+    ),
+    (b"(foo)+bar", &[(b".", 64), (b"bar", 1)], 0, None),
+    (
+        b"(foo|ba)+(r|z)",
+        &[(b".", 64), (b"foobaz", 1)],
+        0,
+        Some((64, 70)),
+    ),
+    (b"(foo)*bar", &[(b".", 64), (b"bar", 1)], 0, Some((64, 67))),
+    (b"x(foo)*y", &[(b".", 64), (b"xy", 1)], 0, Some((64, 66))),
+    (
+        b"^foo.*bar$",
+        &[(b"foo", 1), (b".", 64), (b"bar", 1)],
+        0,
+        Some((0, 70)),
+    ),
+    (
+        b"^foo.*bar$",
+        &[(b".", 64), (b"foo", 1), (b"bar", 1)],
+        0,
+        None,
+    ),
+    (
+        b"^foo.*bar$",
+        &[(b"foo", 1), (b".", 64), (b"ba", 1)],
+        0,
+        None,
+    ),
+    (
+        b"foo.*bar$",
+        &[(b".", 10), (b"foo", 1), (b".", 60), (b"bar", 1)],
+        0,
+        Some((10, 76)),
+    ),
+    (
+        b"foo.*bar$",
+        &[(b".", 10), (b"foo", 1), (b".", 60), (b"barx", 1)],
+        0,
+        None,
+    ),
+    (b"(^|x)foo", &[(b".", 64), (b"xfoo", 1)], 0, Some((64, 68))),
+    (b"(^|x)foo", &[(b".", 64), (b"foo", 1)], 0, None),
+    (b"(^|x)foo", &[(b"foo", 1), (b".", 64)], 0, Some((0, 3))),
+];
+
+fn check_long_rows(rt: &impl Abort, alloc: Global, rows: &[LongRow]) -> Result<(), Fail> {
+    for (pattern, parts, from, answer) in rows {
+        let mut text = Vec::new(alloc);
+        for (bytes, times) in *parts {
+            text.extend_from_slice(repeated(alloc, bytes, *times)?.as_slice())?;
+        }
+        let mut matcher = matcher_of(alloc, pattern)?;
+        for _ in 0..2 {
+            assert!(rt; found(&mut matcher, rt, &text, *from)? == *answer);
+            assert!(rt; *from <= text.len());
+            assert!(rt; matcher.is_match(&text, *from)? == answer.is_some());
+        }
+    }
+    Ok(())
+}
+
+#[test]
+fn alternatives(rt: HostRuntime) -> Result<(), Fail> {
+    check_long_rows(&rt, rt.alloc(), &ALTERNATIVES)
+}
+
+#[test]
+fn parts(rt: HostRuntime) -> Result<(), Fail> {
+    check_long_rows(&rt, rt.alloc(), &PARTS)
+}
+
 fn check_cached(rt: &impl Abort, cache: &mut Cache, rows: &[Row]) -> Result<(), Fail> {
     for (pattern, text, from, answer) in rows {
         assert!(rt; *from <= text.len());
@@ -210,6 +446,74 @@ fn hostile_texts(rt: HostRuntime) -> Result<(), Fail> {
     let text = repeated(alloc, b"a", 4096)?;
     let mut matcher = matcher_of(alloc, &text)?;
     assert!(rt; found(&mut matcher, &rt, &text, 0)? == Some((0, 4096)));
+    Ok(())
+}
+
+/// Some bytes, between as many opening and closing parts.
+fn nested(
+    alloc: Global,
+    open: &[u8],
+    inside: &[u8],
+    close: &[u8],
+    times: usize,
+) -> Result<Vec<u8>, AllocError> {
+    let mut text = repeated(alloc, open, times)?;
+    text.extend_from_slice(inside)?;
+    text.extend_from_slice(repeated(alloc, close, times)?.as_slice())?;
+    Ok(text)
+}
+
+/// The match is the text's first bytes, up to there.
+fn check_begin(
+    rt: &impl Abort,
+    alloc: Global,
+    pattern: &[u8],
+    text: &[u8],
+    end: usize,
+) -> Result<(), Fail> {
+    let mut matcher = matcher_of(alloc, pattern)?;
+    assert!(rt; found(&mut matcher, rt, text, 0)? == Some((0, end)));
+    Ok(())
+}
+
+/// Expressions near the greatest size: many bounds, groups, alternatives, repetitions.
+#[test]
+fn hostile_forms(rt: HostRuntime) -> Result<(), Fail> {
+    let alloc = rt.alloc();
+    let mut text = repeated(alloc, b"a", 5000)?;
+    text.push(b'b')?;
+    check_begin(&rt, alloc, b"a{255}", &text, 255)?;
+    check_begin(&rt, alloc, b"(a{15}){255}", &text, 3825)?;
+    check_begin(&rt, alloc, b"(a{15}){254}a*b", &text, 5001)?;
+    check_begin(
+        &rt,
+        alloc,
+        &nested(alloc, b"(", b"aa", b")", 4094)?,
+        &text,
+        2,
+    )?;
+    check_begin(
+        &rt,
+        alloc,
+        &nested(alloc, b"(a", b"a", b")", 2047)?,
+        &text,
+        2048,
+    )?;
+    check_begin(
+        &rt,
+        alloc,
+        &nested(alloc, b"(aa|", b"ba", b")", 1023)?,
+        &text,
+        2,
+    )?;
+    check_begin(
+        &rt,
+        alloc,
+        &nested(alloc, b"(", b"aa", b")+", 2047)?,
+        &text,
+        5000,
+    )?;
+    check_begin(&rt, alloc, &repeated(alloc, b"(aa)+", 1023)?, &text, 5000)?;
     Ok(())
 }
 

@@ -1,25 +1,29 @@
-use Rattle.std.proofs.Common.{◌≡◌, ℕ, List, Option, Some, IfSome, Result, Ok, Err, IfOk, subst, sym}
+use Rattle.std.proofs.Common.{ℕ, List, Option, None, Result, Ok, Err, IfOk, subst, sym}
 use Rattle.std.specs.declared.alloc.AllocError.{AllocError}
 use Rattle.pawk_ere.specs.Answers.{IsAnswer, IsFor}
 use Rattle.pawk_ere.specs.Pattern.{Pattern, Matches, IsFound}
-use Rattle.pawk_ere.specs.Hints.{IsLiteral}
-use Rattle.pawk_ere.specs.Regex.{Regex, Takes}
+use Rattle.pawk_ere.specs.Hints.{IsSought}
+use Rattle.pawk_ere.specs.Regex.{Takes}
 use Rattle.pawk_ere.specs.Tree.{regex_of}
 use Rattle.pawk_ere.specs.declared.node.Node.{Node}
-use Rattle.pawk_ere.proofs.Leftmost.{found_map}
+use Rattle.pawk_ere.proofs.Leftmost.{found_map, found_none}
+use Rattle.pawk_ere.proofs.Needed.{none_sought}
 use Rattle.pawk_ere.proofs.matcher.Matcher.find.Goals as goal
 
 answers : (r : Result (Option (ℕ × ℕ)) AllocError) (e : Pattern) (node : Node) (text : List ℕ) (start : ℕ) → IsFor e node → IfOk r (λ found. IsFound (Takes (regex_of node) text) start found) → IfOk r (λ found. IsAnswer e text start found)
 answers (Ok found) e node text start for h = found_map (Takes (regex_of node) text) (Matches e text) start found (for text) h
 answers (Err why) e node text start for h = tt
 
-whole : (o : Option (List ℕ)) (bytes : List ℕ) (e : Regex) → o ≡ Some bytes → IfSome o (λ b. IsLiteral e b) → IsLiteral e bytes
-whole o bytes e is h = subst (λ p. IfSome p (λ b. IsLiteral e b)) is h
-
-pub returns-in-Some-clause-answer : goal.returns-in-Some-clause-answer
-returns-in-Some-clause-answer c = λ e for.
+pub returns-in-Literal-clause-answer : goal.returns-in-Literal-clause-answer
+returns-in-Literal-clause-answer c = λ e for.
     found_map (Takes (regex_of c.self.inside.node) c.args.text.now) (Matches e c.args.text.now) c.args.from c.search_literal.result (subst (λ n. IsFor e n) (sym c.self.view_is) for c.args.text.now)
-    (c.search_literal.ensures (regex_of c.self.inside.node) (whole c.self.inside.literal _ (regex_of c.self.inside.node) c.in-Some.is c.self.invariant.whole))
+    (c.search_literal.ensures (regex_of c.self.inside.node) (subst (IsSought (regex_of c.self.inside.node)) c.in-Literal.is c.self.invariant.tells))
+
+pub returns-then-lacks_words-clause-answer : goal.returns-then-lacks_words-clause-answer
+returns-then-lacks_words-clause-answer c = λ e for.
+    found_map (Takes (regex_of c.self.inside.node) c.args.text.now) (Matches e c.args.text.now) c.args.from None (subst (λ n. IsFor e n) (sym c.self.view_is) for c.args.text.now)
+    (found_none (regex_of c.self.inside.node) c.args.text.now c.args.from
+    (none_sought (regex_of c.self.inside.node) c.args.text.now c.args.from c.self.inside.sought _ c.deref.result.now c.if-from-eq0.true c.in-Words.is c.deref.ensures.value c.self.invariant.tells (c.lacks_words.ensures.some c.if-lacks_words.true) (c.lacks_words.ensures.none c.if-lacks_words.true)))
 
 pub returns-clause-answer : goal.returns-clause-answer
 returns-clause-answer c = λ e for.

@@ -1,25 +1,33 @@
-use Rattle.std.proofs.Common.{◌≡◌, ◌↔◌, ℕ, Bool, IsTrue, List, Option, Some, IfSome, Result, Ok, Err, IfOk, subst, sym}
+use Rattle.std.proofs.Common.{◌↔◌, ℕ, Bool, false, IsTrue, List, Result, Ok, Err, IfOk, subst, sym}
 use Rattle.std.specs.declared.alloc.AllocError.{AllocError}
 use Rattle.pawk_ere.specs.Answers.{IsFor}
-use Rattle.pawk_ere.specs.Pattern.{Pattern, Matches, HasMatch}
-use Rattle.pawk_ere.specs.Hints.{IsLiteral}
-use Rattle.pawk_ere.specs.Regex.{Regex, Takes}
+use Rattle.pawk_ere.specs.Pattern.{Pattern, Matches, HasMatch, NoneFrom}
+use Rattle.pawk_ere.specs.Hints.{IsSought}
+use Rattle.pawk_ere.specs.Regex.{Takes}
 use Rattle.pawk_ere.specs.Tree.{regex_of}
 use Rattle.pawk_ere.specs.declared.node.Node.{Node}
 use Rattle.pawk_ere.proofs.Leftmost.{match_map}
+use Rattle.pawk_ere.proofs.Needed.{none_sought}
 use Rattle.pawk_ere.proofs.matcher.Matcher.is_match.Goals as goal
 
 answers : (r : Result Bool AllocError) (e : Pattern) (node : Node) (text : List ℕ) (start : ℕ) → IsFor e node → IfOk r (λ told. IsTrue told ↔ HasMatch (Takes (regex_of node) text) start) → IfOk r (λ told. IsTrue told ↔ HasMatch (Matches e text) start)
 answers (Ok told) e node text start for h = match_map (Takes (regex_of node) text) (Matches e text) start told (for text) h
 answers (Err why) e node text start for h = tt
 
-whole : (o : Option (List ℕ)) (bytes : List ℕ) (e : Regex) → o ≡ Some bytes → IfSome o (λ b. IsLiteral e b) → IsLiteral e bytes
-whole o bytes e is h = subst (λ p. IfSome p (λ b. IsLiteral e b)) is h
+-- nothing is told where there is no match
+no_match : (R : ℕ → ℕ → Type 0) (start : ℕ) → NoneFrom R start → IsTrue false ↔ HasMatch R start
+no_match R start none = (λ h. cc, λ m. absurd (none m.0 m.1 m.2 m.3))
 
-pub returns-in-Some-clause-answer : goal.returns-in-Some-clause-answer
-returns-in-Some-clause-answer c = λ e for.
+pub returns-in-Literal-clause-answer : goal.returns-in-Literal-clause-answer
+returns-in-Literal-clause-answer c = λ e for.
     match_map (Takes (regex_of c.self.inside.node) c.args.text.now) (Matches e c.args.text.now) c.args.from c.has_literal.result (subst (λ n. IsFor e n) (sym c.self.view_is) for c.args.text.now)
-    (c.has_literal.ensures (regex_of c.self.inside.node) (whole c.self.inside.literal _ (regex_of c.self.inside.node) c.in-Some.is c.self.invariant.whole))
+    (c.has_literal.ensures (regex_of c.self.inside.node) (subst (IsSought (regex_of c.self.inside.node)) c.in-Literal.is c.self.invariant.tells))
+
+pub returns-then-lacks_words-clause-answer : goal.returns-then-lacks_words-clause-answer
+returns-then-lacks_words-clause-answer c = λ e for.
+    match_map (Takes (regex_of c.self.inside.node) c.args.text.now) (Matches e c.args.text.now) c.args.from false (subst (λ n. IsFor e n) (sym c.self.view_is) for c.args.text.now)
+    (no_match (Takes (regex_of c.self.inside.node) c.args.text.now) c.args.from
+    (none_sought (regex_of c.self.inside.node) c.args.text.now c.args.from c.self.inside.sought _ c.deref.result.now c.if-from-eq0.true c.in-Words.is c.deref.ensures.value c.self.invariant.tells (c.lacks_words.ensures.some c.if-lacks_words.true) (c.lacks_words.ensures.none c.if-lacks_words.true)))
 
 pub returns-clause-answer : goal.returns-clause-answer
 returns-clause-answer c = λ e for.
