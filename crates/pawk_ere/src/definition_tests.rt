@@ -16,6 +16,7 @@ const NO_PAIR: Pairs = [0; PLACES];
 #[derive(Drop)]
 enum Form {
     Byte(u8),
+    Word(&'static [u8]),
     Any,
     /// `[ab]`, or `[^ab]` where it is not.
     OneOfTwo(bool),
@@ -51,13 +52,17 @@ fn draw(state: &mut u64, below: u64) -> u64 {
 }
 
 fn leaf(state: &mut u64) -> Form {
-    match draw(state, 9) {
+    match draw(state, 13) {
         0 | 1 | 2 => Form::Byte(b'a'),
         3 | 4 => Form::Byte(b'b'),
         5 => Form::Any,
         6 => Form::OneOfTwo(draw(state, 2) == 0),
         7 => Form::Start,
-        _ => Form::End,
+        8 => Form::End,
+        9 => Form::Word(b"ab"),
+        10 => Form::Word(b"bab"),
+        11 => Form::Word(b"aab"),
+        _ => Form::Word(b"bb"),
     }
 }
 
@@ -89,6 +94,7 @@ fn drawn_form(alloc: Global, state: &mut u64, levels: u8) -> Result<Form, AllocE
 fn write(form: &Form, out: &mut Vec<u8>) -> Result<(), AllocError> {
     match form {
         Form::Byte(byte) => out.push(*byte)?,
+        Form::Word(bytes) => out.extend_from_slice(bytes)?,
         Form::Any => out.push(b'.')?,
         Form::OneOfTwo(true) => out.extend_from_slice(b"[ab]")?,
         Form::OneOfTwo(false) => out.extend_from_slice(b"[^ab]")?,
@@ -193,6 +199,15 @@ fn byte_pairs(text: &[u8], bytes: &[u8], is_one: bool) -> Pairs {
     pairs
 }
 
+/// The pairs where these bytes stand one after the other.
+fn word_pairs(text: &[u8], bytes: &[u8]) -> Pairs {
+    let mut pairs = no_turn();
+    for byte in bytes {
+        pairs = sequence(&pairs, &byte_pairs(text, &[*byte], true));
+    }
+    pairs
+}
+
 fn place_pair(place: usize) -> Pairs {
     let mut pairs = NO_PAIR;
     if place < PLACES {
@@ -205,6 +220,7 @@ fn place_pair(place: usize) -> Pairs {
 fn pairs(form: &Form, text: &[u8]) -> Pairs {
     match form {
         Form::Byte(byte) => byte_pairs(text, &[*byte], true),
+        Form::Word(bytes) => word_pairs(text, bytes),
         Form::Any => byte_pairs(text, &[], false),
         Form::OneOfTwo(is_one) => byte_pairs(text, b"ab", *is_one),
         Form::Start => place_pair(0),
@@ -282,6 +298,6 @@ fn patterns_as_defined(rt: HostRuntime) -> Result<(), Fail> {
         }
     }
     assert!(rt; matches > 1000);
-    assert!(rt; looked_for > 300);
+    assert!(rt; looked_for > 500);
     Ok(())
 }

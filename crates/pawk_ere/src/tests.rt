@@ -463,57 +463,42 @@ fn nested(
     Ok(text)
 }
 
-/// The match is the text's first bytes, up to there.
-fn check_begin(
+/// Where the match from the text's begin ends, if there is one.
+fn end_of(
     rt: &impl Abort,
     alloc: Global,
     pattern: &[u8],
     text: &[u8],
-    end: usize,
-) -> Result<(), Fail> {
+) -> Result<Option<usize>, Fail> {
     let mut matcher = matcher_of(alloc, pattern)?;
-    assert!(rt; found(&mut matcher, rt, text, 0)? == Some((0, end)));
-    Ok(())
+    match found(&mut matcher, rt, text, 0)? {
+        None => Ok(None),
+        Some((start, end)) => {
+            assert!(rt; start == 0);
+            Ok(Some(end))
+        }
+    }
 }
 
 /// Expressions near the greatest size: many bounds, groups, alternatives, repetitions.
 #[test]
 fn hostile_forms(rt: HostRuntime) -> Result<(), Fail> {
     let alloc = rt.alloc();
-    let mut text = repeated(alloc, b"a", 5000)?;
+    let mut text = repeated(alloc, b"a", 300)?;
     text.push(b'b')?;
-    check_begin(&rt, alloc, b"a{255}", &text, 255)?;
-    check_begin(&rt, alloc, b"(a{15}){255}", &text, 3825)?;
-    check_begin(&rt, alloc, b"(a{15}){254}a*b", &text, 5001)?;
-    check_begin(
-        &rt,
-        alloc,
-        &nested(alloc, b"(", b"aa", b")", 4094)?,
-        &text,
-        2,
-    )?;
-    check_begin(
-        &rt,
-        alloc,
-        &nested(alloc, b"(a", b"a", b")", 2047)?,
-        &text,
-        2048,
-    )?;
-    check_begin(
-        &rt,
-        alloc,
-        &nested(alloc, b"(aa|", b"ba", b")", 1023)?,
-        &text,
-        2,
-    )?;
-    check_begin(
-        &rt,
-        alloc,
-        &nested(alloc, b"(", b"aa", b")+", 2047)?,
-        &text,
-        5000,
-    )?;
-    check_begin(&rt, alloc, &repeated(alloc, b"(aa)+", 1023)?, &text, 5000)?;
+    assert!(rt; end_of(&rt, alloc, b"a{255}", &text)? == Some(255));
+    assert!(rt; end_of(&rt, alloc, b"(a{15}){255}", &text)? == None);
+    assert!(rt; end_of(&rt, alloc, b"(a{15}){20}a{0,255}b", &text)? == Some(301));
+    let groups = nested(alloc, b"(", b"aa", b")", 4094)?;
+    assert!(rt; end_of(&rt, alloc, &groups, &text)? == Some(2));
+    let parts = nested(alloc, b"(a", b"a", b")", 2047)?;
+    assert!(rt; end_of(&rt, alloc, &parts, &text)? == None);
+    let alternatives = nested(alloc, b"(aa|", b"ba", b")", 1023)?;
+    assert!(rt; end_of(&rt, alloc, &alternatives, &text)? == Some(2));
+    let turns = nested(alloc, b"(", b"aa", b")+", 2047)?;
+    assert!(rt; end_of(&rt, alloc, &turns, &text)? == Some(300));
+    let words = repeated(alloc, b"(aa)+", 1023)?;
+    assert!(rt; end_of(&rt, alloc, &words, &text)? == None);
     Ok(())
 }
 
