@@ -162,17 +162,37 @@ fn in_turns(turn: Sight) -> Sight
     sight
 }
 
-/// What is seen of the matches of an expression, in one walk over it.
+/// What is seen of the matches of an expression, in one walk over it. What follows a first part stands outside the recursion,
+/// whose frames stay small.
+#[cycle(seeing)]
 fn seen(alloc: Global, node: &Node) -> Result<Sight, AllocError>
     ensures { IfOk result (λ sight. IsSight (regex_of node.now) sight) }
 {
     match node {
         Node::Empty | Node::Start | Node::End | Node::Star(_) => Ok(nothing(alloc)),
         Node::Bytes(set) => in_bytes(alloc, set),
-        Node::Sequence(a, b) => in_sequence(seen(alloc, a)?, seen(alloc, b)?),
-        Node::Either(a, b) => in_either(alloc, seen(alloc, a)?, seen(alloc, b)?),
+        Node::Sequence(a, b) => with_second(alloc, seen(alloc, a)?, b),
+        Node::Either(a, b) => with_other(alloc, seen(alloc, a)?, b),
         Node::Plus(a) => Ok(in_turns(seen(alloc, a)?)),
     }
+}
+
+/// What is seen of one part and a second one behind it.
+#[cycle(seeing)]
+#[inline(never)]
+fn with_second(alloc: Global, first: Sight, second: &Node) -> Result<Sight, AllocError>
+    ensures { (a : Regex) → IsSight a first → IfOk result (λ sight. IsSight (Sequence a (regex_of second.now)) sight) }
+{
+    in_sequence(first, seen(alloc, second)?)
+}
+
+/// What is seen of one alternative and another one.
+#[cycle(seeing)]
+#[inline(never)]
+fn with_other(alloc: Global, first: Sight, second: &Node) -> Result<Sight, AllocError>
+    ensures { (a : Regex) → IsSight a first → IfOk result (λ sight. IsSight (Either a (regex_of second.now)) sight) }
+{
+    in_either(alloc, first, seen(alloc, second)?)
 }
 
 /// What to look for in a text before it is walked over. An anchored expression gives up early by itself.
