@@ -211,6 +211,7 @@ pub fn sought_for(alloc: Global, node: &Node) -> Result<Sought, AllocError>
 }
 
 /// Whether a text is seen to hold none of the words. Where there are none, and in a short text, nothing is seen.
+#[inline(never)]
 pub fn lacks_words(words: &[Finder<'static>], text: &[u8]) -> bool
     ensures some { IsTrue result → 1 ≤ length words.now }
     ensures none { IsTrue result → HoldsNone text.now words.now }
