@@ -3,7 +3,8 @@
 #   make            prove and build build/pawk
 #   make demo       build it and run it on three lines: the last line is 6
 #   make test       the whole gate, and then what stands beside it (tests/run)
-#   make bench      compare its user time with that of mawk and gawk, and its elapsed time by workers
+#   make bench      compare its user time with that of mawk and gawk, its elapsed time by workers, and the times of
+#                   expressions
 #   make install    put it at $(PREFIX)/bin/pawk (PREFIX is /usr/local)
 #   make clean      remove what was built, and what the proofs keep
 
@@ -11,7 +12,7 @@ PREFIX = /usr/local
 BENCH_DATA = bench/files
 MAKEFLAGS += --no-print-directory
 
-.PHONY: all build demo test bench install clean toolchain
+.PHONY: all build fetch demo test bench install clean toolchain
 
 all: build
 
@@ -22,6 +23,10 @@ toolchain:
 # --version is how rt is asked to build it.
 build: toolchain
 	cd crates/pawk && rt run -- --version </dev/null
+	@$(MAKE) fetch
+
+# The program as rt built it last.
+fetch:
 	@mkdir -p build
 	@cp crates/pawk/out/pawk build/pawk.new && mv build/pawk.new build/pawk
 
@@ -30,13 +35,16 @@ demo: build
 
 test: toolchain
 	rt ci
-	@$(MAKE) build
+	@$(MAKE) fetch
 	tests/run
 
 bench: build
 	@test -e $(BENCH_DATA)/ten.txt || bench/data $(BENCH_DATA)
+	@test -e $(BENCH_DATA)/log.txt || bench/log $(BENCH_DATA)
 	bench/run $(BENCH_DATA)
 	bench/workers $(BENCH_DATA)
+	cd crates/pawk_ere_bench && rt run </dev/null
+	bench/expressions $(BENCH_DATA)
 
 install: build
 	mkdir -p $(DESTDIR)$(PREFIX)/bin
