@@ -5,12 +5,11 @@ ghost use Rattle.pawk_token.specs.Refusals.{refusal_text};
 ghost use Rattle.pawk_token.specs.declared.refusal.SyntaxRefusal.TheVariants as refusal;
 
 use std::alloc::{AllocError, AllocFailed};
-use std::error::Error;
 use std::fmt;
 
 /// What is at fault in a program text. The lexer tells `Token`, `InputOutput`, `Numeral` and
 /// `LeftOut`; the other causes are for those who read its tokens.
-#[derive(Clone, Copy, Debug, PartialEq, Eq)]
+#[derive(Clone, Copy, PartialEq, Eq)]
 pub enum Cause {
     /// 1: a byte that begins no token, or a string or an expression that cannot be read.
     Token,
@@ -37,7 +36,7 @@ pub enum Cause {
 }
 
 /// Why a program text is refused, and where.
-#[derive(Clone, Copy, Debug, PartialEq, Eq)]
+#[derive(Clone, Copy, PartialEq, Eq)]
 pub enum SyntaxRefusal {
     /// The cause, and the place of the byte at fault, counted from 1.
     At { cause: Cause, place: usize },
@@ -104,8 +103,6 @@ impl fmt::Display for SyntaxRefusal {
         }
     }
 }
-
-impl Error for SyntaxRefusal {}
 
 impl From<AllocError> for SyntaxRefusal {
     ghost from_gives = { λ _ e. e ≡ refusal.Memory };
