@@ -3,14 +3,14 @@ use Rattle.std.proofs.Common.{◌≡◌, ◌≤◌, ◌<◌, ℕ, ◌+◌, ◌/�
 use Rattle.std.specs.Prelude.{◌==◌, nat_le, slice_index}
 use Rattle.std.proofs.lemmas.Bool.{eqb-true}
 use Rattle.std.proofs.lemmas.Bool.Decides.{nat_tests}
-use Rattle.pawk_lex.specs.declared.token.Mark.{Mark}
-use Rattle.pawk_lex.specs.declared.token.Mark.TheVariants as m
-use Rattle.pawk_lex.specs.Bytes.{Text, is_name_byte, is_octal}
-use Rattle.pawk_lex.specs.Words.{mark_text, double}
+use Rattle.pawk_token.specs.declared.token.Mark.{Mark}
+use Rattle.pawk_token.specs.declared.token.Mark.TheVariants as m
+use Rattle.pawk_token.specs.Bytes.{Text, is_name_byte, is_octal}
+use Rattle.pawk_token.specs.Vocabulary.{mark_text, double}
 use Rattle.pawk_lex.specs.Strings.{simple_escape, three_digits}
-use Rattle.pawk_lex.specs.Tokens.{Tok, number, string, ere, name, function_name, builtin, mark, divides_after}
-use Rattle.pawk_lex.specs.Next.{Found, found, is_redirection, next}
-use Rattle.pawk_lex.specs.Cut.{Gap, no_gap, a_blank, a_joined_line, a_comment, is_ordinary, Inside, closed, itself, escaped, one_digit, two_octal, three_octal, MarkEnds, Ends, Stands, Writes, Takes, CutFrom, at_end, a_token}
+use Rattle.pawk_token.specs.Tokens.{Tok, number, string, ere, name, function_name, builtin, mark, divides_after}
+use Rattle.pawk_lex.specs.Next.{Finding, finds, is_redirection, next}
+use Rattle.pawk_lex.specs.Cut.{Gap, no_gap, a_blank, a_joined_line, a_comment, is_ordinary, Inside, at_quote, itself, by_escape, one_digit, two_octal, three_octal, MarkEnds, Ends, Stands, Writes, Takes, CutFrom, at_end, a_token}
 use Rattle.pawk_lex.specs.Canonical.{byte_text, string_text, token_text, AreBytes, IsWritable, AreWritable, is_separator, MayEnd}
 use Rattle.pawk_lex.proofs.Numerals.{numeral}
 use Rattle.pawk_lex.proofs.Fronts.{takes_found, gap_none}
@@ -23,12 +23,12 @@ pub record IsSame (t u : Tok) (rest more : Text) : Type 0 where
 
 pub takes_unique : {d : Bool} {z rest more : Text} {t u : Tok} → Takes d z t rest → Takes d z u more → IsSame t u rest more
 takes_unique {d} {z} {rest} {more} {t} {u} k l =
-    let both : ◌≡◌ {A = Found} (found t rest) (found u more) = sym (takes_found k) ∙ takes_found l in
+    let both : ◌≡◌ {A = Finding} (finds t rest) (finds u more) = sym (takes_found k) ∙ takes_found l in
     let same : ◌≡◌ {A = Tok × Text} (t, rest) (u, more) = cc in
     record { token = ap (λ (p : Tok × Text). p.0) same; left = ap (λ (p : Tok × Text). p.1) same }
 
 pub no_more : (d : Bool) (z rest : Text) (t : Tok) → Gap z [] → Takes d z t rest → ⊥
-no_more d z rest t g k = let bad : ◌≡◌ {A = Found} (Ok None) (found t rest) = sym (gap_none d z g) ∙ takes_found k in absurd cc
+no_more d z rest t g k = let bad : ◌≡◌ {A = Finding} (Ok None) (finds t rest) = sym (gap_none d z g) ∙ takes_found k in absurd cc
 
 pub cut_unique : {d : Bool} {z : Text} {ts us : List Tok} → CutFrom d z ts → CutFrom d z us → ts ≡ us
 cut_unique (at_end g) (at_end h) = refl
@@ -365,14 +365,14 @@ byte_inside : (b : ℕ) (z bytes : Text) → b < 256 → Inside z bytes [] → I
 byte_inside b z bytes h i = go (b == 34) refl (b == 92) refl (nat_le 32 b) refl (nat_le b 126) refl
   where
     go : (p : Bool) → (b == 34) ≡ p → (q : Bool) → (b == 92) ≡ q → (l : Bool) → nat_le 32 b ≡ l → (u : Bool) → nat_le b 126 ≡ u → Inside (cond (p || q) (92 ∷ b ∷ []) (cond (l && u) (b ∷ []) (92 ∷ (48 + b / 64) ∷ (48 + b / 8 % 8) ∷ (48 + b % 8) ∷ [])) ++ z) (b ∷ bytes) []
-    go true e q f l g u k = let same : b ≡ 34 = eqb-true b 34 e in rw same (escaped quote_is i)
-    go false e true f l g u k = let same : b ≡ 92 = eqb-true b 92 f in rw same (escaped backslash_is i)
+    go true e q f l g u k = let same : b ≡ 34 = eqb-true b 34 e in rw same (by_escape quote_is i)
+    go false e true f l g u k = let same : b ≡ 92 = eqb-true b 92 f in rw same (by_escape backslash_is i)
     go false e false f true g true k = itself (printable_is b e f g) i
     go false e false f true g false k = octal_inside b z bytes h i
     go false e false f false g u k = octal_inside b z bytes h i
 
 string_inside : (bytes : Text) → AreBytes bytes → Inside (string_text bytes) bytes []
-string_inside [] h = closed
+string_inside [] h = at_quote
 string_inside (b ∷ bytes) h = byte_inside b (string_text bytes) bytes h.0 (string_inside bytes h.1)
 
 pub written_again : (t : Tok) → IsWritable t → Writes (token_text t) t
@@ -417,9 +417,9 @@ octal_high : (a : ℕ) → is_octal a ≡ true → a ≤ 55
 octal_high a h = grind (arith, nat_tests)
 
 inside_bytes : {y bytes rest : Text} → Inside y bytes rest → AreBytes y → AreBytes bytes
-inside_bytes closed h = tt
+inside_bytes at_quote h = tt
 inside_bytes (itself e i) h = (h.0, inside_bytes i h.1)
-inside_bytes (escaped {e} {b} s i) h = (escape_small e b s, inside_bytes i h.1.1)
+inside_bytes (by_escape {e} {b} s i) h = (escape_small e b s, inside_bytes i h.1.1)
 inside_bytes (one_digit {a} e f i) h = (omega (arith, octal_high a e), inside_bytes i h.1.1)
 inside_bytes (two_octal {a} {b} e f g i) h = (omega (arith, octal_high a e, octal_high b f), inside_bytes i h.1.1.1)
 inside_bytes (three_octal e f g n i) h = (n, inside_bytes i h.1.1.1.1)

@@ -5,15 +5,15 @@ use Rattle.std.specs.Char.{is_ascii_digit}
 use Rattle.std.specs.List.{list_all}
 use Rattle.std.proofs.Math.Seq.{take-append_seam, drop-append_seam}
 use Rattle.std.proofs.lemmas.Bool.{cases_Bool, eqb-true, false≢true}
-use Rattle.pawk_lex.specs.declared.token.Mark.{Mark}
-use Rattle.pawk_lex.specs.declared.token.Mark.TheVariants as m
-use Rattle.pawk_lex.specs.declared.token.Builtin.{Builtin}
-use Rattle.pawk_lex.specs.declared.token.Builtin.TheVariants as b
-use Rattle.pawk_lex.specs.Bytes.{Text, is_name_byte, is_blank, is_in_line, AllAre, BeginsBy}
-use Rattle.pawk_lex.specs.Words.{mark_text, builtin_text, reserved, builtin as builtin_of, double, single, is_left_out_arithmetic, is_left_out_output, is_left_out_variable}
+use Rattle.pawk_token.specs.declared.token.Mark.{Mark}
+use Rattle.pawk_token.specs.declared.token.Mark.TheVariants as m
+use Rattle.pawk_token.specs.declared.token.Builtin.{Builtin}
+use Rattle.pawk_token.specs.declared.token.Builtin.TheVariants as b
+use Rattle.pawk_token.specs.Bytes.{Text, is_name_byte, is_blank, is_in_line, AllAre, BeginsBy}
+use Rattle.pawk_token.specs.Vocabulary.{mark_text, builtin_text, reserved_word, builtin as builtin_of, double, single, is_left_out_arithmetic, is_left_out_output, is_left_out_variable}
 use Rattle.pawk_lex.specs.Gaps.{gap_length, pass, skip}
-use Rattle.pawk_lex.specs.Tokens.{Tok, number as number_token, string as string_token, ere as ere_token, name, function_name, builtin, mark}
-use Rattle.pawk_lex.specs.Next.{found, value_from, number, refused, word_tok, word, string_by, string, ere_by, ere, is_redirection, sign, token_at, next}
+use Rattle.pawk_token.specs.Tokens.{Tok, number as number_token, string as string_token, ere as ere_token, name, function_name, builtin, mark}
+use Rattle.pawk_lex.specs.Next.{finds, value_from, number, word_cause, word_tok, word, string_by, string, ere_by, ere, is_redirection, sign, token_at, next}
 use Rattle.pawk_lex.specs.Cut.{EndsLine, Gap, no_gap, a_blank, a_joined_line, a_comment, IsName, Inside, IsEre, MarkEnds, Ends, MarkStands, Stands, Writes, Begins, Takes}
 use Rattle.pawk_lex.proofs.Runs.{Stops, stops, run, all_from_test}
 use Rattle.pawk_lex.proofs.Numerals.{all_digits, begins_digit, value_is}
@@ -28,22 +28,22 @@ digit_in_name b e = rw e refl
 pub no_digit : (b : ℕ) → is_name_byte b ≡ false → is_ascii_digit b ≡ false
 no_digit b e = elim (cases_Bool (is_ascii_digit b)) [ inl f ↦ absurd (let g = digit_in_name b f in false≢true (rw e at g)) | inr f ↦ f ]
 
-number_runs : (x rest : Text) (n : ℕ) → AllAre is_ascii_digit x → value_from 0 x ≡ Some n → is_name_byte (slice_index rest 0) ≡ false → (slice_index rest 0 == 46) ≡ false → number (x ++ rest) ≡ found (number_token n) rest
+number_runs : (x rest : Text) (n : ℕ) → AllAre is_ascii_digit x → value_from 0 x ≡ Some n → is_name_byte (slice_index rest 0) ≡ false → (slice_index rest 0 == 46) ≡ false → number (x ++ rest) ≡ finds (number_token n) rest
 unfolding number
 number_runs x rest n h e k p = rw (run is_ascii_digit x rest h (stops is_ascii_digit rest (no_digit (slice_index rest 0) k)), take-append_seam x rest, drop-append_seam x rest, e, k, p) refl
 
-number_front : (d : Bool) (x rest : Text) (n : ℕ) → AllAre is_ascii_digit x → BeginsBy is_ascii_digit true x → value_from 0 x ≡ Some n → is_name_byte (slice_index rest 0) ≡ false → (slice_index rest 0 == 46) ≡ false → token_at d (x ++ rest) ≡ found (number_token n) rest
+number_front : (d : Bool) (x rest : Text) (n : ℕ) → AllAre is_ascii_digit x → BeginsBy is_ascii_digit true x → value_from 0 x ≡ Some n → is_name_byte (slice_index rest 0) ≡ false → (slice_index rest 0 == 46) ≡ false → token_at d (x ++ rest) ≡ finds (number_token n) rest
 unfolding token_at
 number_front d [] rest n h f e k p = absurd f
 number_front d (b ∷ x) rest n h f e k p = rw f (number_runs (b ∷ x) rest n h e k p)
 
 -- ---- names and words
 
-word_runs : (x rest : Text) → AllAre is_name_byte x → is_name_byte (slice_index rest 0) ≡ false → refused x ≡ None → word (x ++ rest) ≡ found (word_tok x (slice_index rest 0)) rest
+word_runs : (x rest : Text) → AllAre is_name_byte x → is_name_byte (slice_index rest 0) ≡ false → word_cause x ≡ None → word (x ++ rest) ≡ finds (word_tok x (slice_index rest 0)) rest
 unfolding word
 word_runs x rest h e r = rw (run is_name_byte x rest h (stops is_name_byte rest e), take-append_seam x rest, drop-append_seam x rest, r) refl
 
-word_front : (d : Bool) (x rest : Text) → AllAre is_name_byte x → BeginsBy is_ascii_digit false x → is_name_byte (slice_index rest 0) ≡ false → refused x ≡ None → token_at d (x ++ rest) ≡ found (word_tok x (slice_index rest 0)) rest
+word_front : (d : Bool) (x rest : Text) → AllAre is_name_byte x → BeginsBy is_ascii_digit false x → is_name_byte (slice_index rest 0) ≡ false → word_cause x ≡ None → token_at d (x ++ rest) ≡ finds (word_tok x (slice_index rest 0)) rest
 unfolding token_at
 word_front d [] rest h f e r = absurd f
 word_front d (b ∷ x) rest h f e r = rw (h.0, f) (word_runs (b ∷ x) rest h e r)
@@ -56,22 +56,22 @@ function_tok : (w : Text) → IsName w → word_tok w 40 ≡ function_name w
 unfolding word_tok
 function_tok w h = rw (h.unreserved, h.unbuilt) refl
 
-reserved_tok : (w : Text) (next : ℕ) (s : Mark) → reserved w ≡ Some s → word_tok w next ≡ mark s
+reserved_tok : (w : Text) (next : ℕ) (s : Mark) → reserved_word w ≡ Some s → word_tok w next ≡ mark s
 unfolding word_tok
 reserved_tok w next s e = rw e refl
 
-builtin_tok : (w : Text) (next : ℕ) (f : Builtin) → reserved w ≡ None → builtin_of w ≡ Some f → word_tok w next ≡ builtin f
+builtin_tok : (w : Text) (next : ℕ) (f : Builtin) → reserved_word w ≡ None → builtin_of w ≡ Some f → word_tok w next ≡ builtin f
 unfolding word_tok
 builtin_tok w next f r e = rw (r, e) refl
 
-keyword_front : (s : Mark) (d : Bool) (w rest : Text) → list_all is_name_byte w ≡ true → BeginsBy is_ascii_digit false w → refused w ≡ None → reserved w ≡ Some s → is_name_byte (slice_index rest 0) ≡ false → token_at d (w ++ rest) ≡ found (mark s) rest
-keyword_front s d w rest h f r v e = word_front d w rest (all_from_test is_name_byte w h) f e r ∙ ap (λ t. found t rest) (reserved_tok w (slice_index rest 0) s v)
+keyword_front : (s : Mark) (d : Bool) (w rest : Text) → list_all is_name_byte w ≡ true → BeginsBy is_ascii_digit false w → word_cause w ≡ None → reserved_word w ≡ Some s → is_name_byte (slice_index rest 0) ≡ false → token_at d (w ++ rest) ≡ finds (mark s) rest
+keyword_front s d w rest h f r v e = word_front d w rest (all_from_test is_name_byte w h) f e r ∙ ap (λ t. finds t rest) (reserved_tok w (slice_index rest 0) s v)
 
-builtin_front : (f : Builtin) (d : Bool) (w rest : Text) → list_all is_name_byte w ≡ true → BeginsBy is_ascii_digit false w → refused w ≡ None → reserved w ≡ None → builtin_of w ≡ Some f → is_name_byte (slice_index rest 0) ≡ false → token_at d (w ++ rest) ≡ found (builtin f) rest
-builtin_front f d w rest h g r v u e = word_front d w rest (all_from_test is_name_byte w h) g e r ∙ ap (λ t. found t rest) (builtin_tok w (slice_index rest 0) f v u)
+builtin_front : (f : Builtin) (d : Bool) (w rest : Text) → list_all is_name_byte w ≡ true → BeginsBy is_ascii_digit false w → word_cause w ≡ None → reserved_word w ≡ None → builtin_of w ≡ Some f → is_name_byte (slice_index rest 0) ≡ false → token_at d (w ++ rest) ≡ finds (builtin f) rest
+builtin_front f d w rest h g r v u e = word_front d w rest (all_from_test is_name_byte w h) g e r ∙ ap (λ t. finds t rest) (builtin_tok w (slice_index rest 0) f v u)
 
-builtins_front : (f : Builtin) (d : Bool) (rest : Text) → is_name_byte (slice_index rest 0) ≡ false → token_at d (builtin_text f ++ rest) ≡ found (builtin f) rest
-unfolding refused reserved builtin_of is_left_out_arithmetic is_left_out_output is_left_out_variable
+builtins_front : (f : Builtin) (d : Bool) (rest : Text) → is_name_byte (slice_index rest 0) ≡ false → token_at d (builtin_text f ++ rest) ≡ finds (builtin f) rest
+unfolding word_cause reserved_word builtin_of is_left_out_arithmetic is_left_out_output is_left_out_variable
 builtins_front b.Length d rest h = builtin_front b.Length d (builtin_text b.Length) rest refl refl refl refl refl h
 builtins_front b.Index d rest h = builtin_front b.Index d (builtin_text b.Index) rest refl refl refl refl refl h
 builtins_front b.Substr d rest h = builtin_front b.Substr d (builtin_text b.Substr) rest refl refl refl refl refl h
@@ -86,16 +86,16 @@ builtins_front b.Int d rest h = builtin_front b.Int d (builtin_text b.Int) rest 
 
 -- ---- signs
 
-single_runs : (b : ℕ) (s : Mark) (rest : Text) → single b ≡ Some s → double b (slice_index rest 0) ≡ None → is_redirection b (slice_index rest 0) ≡ false → sign (b ∷ rest) b (slice_index rest 0) ≡ found (mark s) rest
+single_runs : (b : ℕ) (s : Mark) (rest : Text) → single b ≡ Some s → double b (slice_index rest 0) ≡ None → is_redirection b (slice_index rest 0) ≡ false → sign (b ∷ rest) b (slice_index rest 0) ≡ finds (mark s) rest
 unfolding sign
 single_runs b s rest e f r = rw (r, f, e) refl
 
-double_runs : (b c : ℕ) (s : Mark) (rest : Text) → double b c ≡ Some s → is_redirection b c ≡ false → sign (b ∷ c ∷ rest) b c ≡ found (mark s) rest
+double_runs : (b c : ℕ) (s : Mark) (rest : Text) → double b c ≡ Some s → is_redirection b c ≡ false → sign (b ∷ c ∷ rest) b c ≡ finds (mark s) rest
 unfolding sign
 double_runs b c s rest e r = rw (r, e) refl
 
-mark_front : (s : Mark) (d : Bool) (rest : Text) → MarkEnds (mark_text s) (slice_index rest 0) → MarkStands d s → token_at d (mark_text s ++ rest) ≡ found (mark s) rest
-unfolding token_at single double is_redirection refused reserved is_left_out_arithmetic is_left_out_output is_left_out_variable
+mark_front : (s : Mark) (d : Bool) (rest : Text) → MarkEnds (mark_text s) (slice_index rest 0) → MarkStands d s → token_at d (mark_text s ++ rest) ≡ finds (mark s) rest
+unfolding token_at single double is_redirection word_cause reserved_word is_left_out_arithmetic is_left_out_output is_left_out_variable
 mark_front m.Newline d rest h s = single_runs 10 m.Newline rest refl h.0 h.1
 mark_front m.LeftBrace d rest h s = single_runs 123 m.LeftBrace rest refl h.0 h.1
 mark_front m.RightBrace d rest h s = single_runs 125 m.RightBrace rest refl h.0 h.1
@@ -155,38 +155,38 @@ mark_front m.Printf d rest h s = keyword_front m.Printf d (mark_text m.Printf) r
 
 -- ---- strings and expressions
 
-string_runs : (y rest bytes : Text) → Inside (y ++ rest) bytes rest → string (34 ∷ y ++ rest) ≡ found (string_token bytes) rest
+string_runs : (y rest bytes : Text) → Inside (y ++ rest) bytes rest → string (34 ∷ y ++ rest) ≡ finds (string_token bytes) rest
 unfolding string
 string_runs y rest bytes i = ap (λ p. string_by (34 ∷ y ++ rest) p) (decode_inside i [])
 
-string_front : (d : Bool) (y rest bytes : Text) → Inside y bytes [] → token_at d (34 ∷ y ++ rest) ≡ found (string_token bytes) rest
+string_front : (d : Bool) (y rest bytes : Text) → Inside y bytes [] → token_at d (34 ∷ y ++ rest) ≡ finds (string_token bytes) rest
 unfolding token_at
 string_front d y rest bytes i = string_runs y rest bytes (inside_more i rest)
 
-ere_runs : (bytes rest : Text) → IsEre bytes → ere (47 ∷ bytes ++ 47 ∷ rest) ≡ found (ere_token bytes) rest
+ere_runs : (bytes rest : Text) → IsEre bytes → ere (47 ∷ bytes ++ 47 ∷ rest) ≡ finds (ere_token bytes) rest
 unfolding ere
 ere_runs bytes rest i =
-    ap (λ r. ere_by (47 ∷ bytes ++ 47 ∷ rest) (bytes ++ 47 ∷ rest) r) (pass_ere i rest) ∙ ap (λ x. found (ere_token x) rest) (taken bytes rest)
+    ap (λ r. ere_by (47 ∷ bytes ++ 47 ∷ rest) (bytes ++ 47 ∷ rest) r) (pass_ere i rest) ∙ ap (λ x. finds (ere_token x) rest) (taken bytes rest)
 
-ere_front : (d : Bool) (bytes rest : Text) → IsEre bytes → d ≡ false → token_at d (47 ∷ bytes ++ 47 ∷ rest) ≡ found (ere_token bytes) rest
+ere_front : (d : Bool) (bytes rest : Text) → IsEre bytes → d ≡ false → token_at d (47 ∷ bytes ++ 47 ∷ rest) ≡ finds (ere_token bytes) rest
 unfolding token_at
 ere_front d bytes rest i s = rw s (ere_runs bytes rest i)
 
 -- ---- all tokens
 
-pub front : (d : Bool) (t : Tok) (x rest : Text) → Writes x t → Ends t (slice_index rest 0) → Stands d t → token_at d (x ++ rest) ≡ found t rest
+pub front : (d : Bool) (t : Tok) (x rest : Text) → Writes x t → Ends t (slice_index rest 0) → Stands d t → token_at d (x ++ rest) ≡ finds t rest
 front d (number_token n) x rest w e s =
     number_front d x rest n (all_digits x w.digits.1) (begins_digit x w.digits.0 w.digits.1) (value_is 0 n x w.digits.1 w.value w.small) e.0 e.1
 front d (string_token bytes) x rest w e s = rw w.1 (string_front d w.0 rest bytes w.2)
 front d (ere_token bytes) x rest w e s = rw (w.0, append_assoc bytes (47 ∷ []) rest) (ere_front d bytes rest w.1 s)
-front d (name y) x rest w e s = rw w.0 (word_front d y rest w.1.letters w.1.first e.0 w.1.allowed ∙ ap (λ t. found t rest) (name_tok y (slice_index rest 0) w.1 e.1))
+front d (name y) x rest w e s = rw w.0 (word_front d y rest w.1.letters w.1.first e.0 w.1.allowed ∙ ap (λ t. finds t rest) (name_tok y (slice_index rest 0) w.1 e.1))
 front d (function_name y) x rest w e s =
     let free : is_name_byte (slice_index rest 0) ≡ false = rw e refl in
-    rw w.0 (word_front d y rest w.1.letters w.1.first free w.1.allowed ∙ ap (λ t. found t rest) (ap (λ n. word_tok y n) e ∙ function_tok y w.1))
+    rw w.0 (word_front d y rest w.1.letters w.1.first free w.1.allowed ∙ ap (λ t. finds t rest) (ap (λ n. word_tok y n) e ∙ function_tok y w.1))
 front d (builtin f) x rest w e s = rw w (builtins_front f d rest e)
 front d (mark k) x rest w e s = rw w (mark_front k d rest e s)
 
-pub begins_found : {d : Bool} {z rest : Text} {t : Tok} → Begins d z t rest → token_at d z ≡ found t rest
+pub begins_found : {d : Bool} {z rest : Text} {t : Tok} → Begins d z t rest → token_at d z ≡ finds t rest
 begins_found {d} {z} {rest} {t} b = rw b.front (front d t b.lexeme rest b.writes b.ends b.stands)
 
 -- ---- what separates tokens
@@ -222,32 +222,32 @@ unfolding skip
 skip_gap {z} {y} g e = pass_gap g ∙ pass_stops gap_length y e
 
 -- no token begins with what begins a gap
-no_space : (d : Bool) (z : Text) (t : Tok) (rest : Text) → token_at d (32 ∷ z) ≡ found t rest → ⊥
+no_space : (d : Bool) (z : Text) (t : Tok) (rest : Text) → token_at d (32 ∷ z) ≡ finds t rest → ⊥
 unfolding token_at sign is_redirection double single
 no_space d z t rest e = absurd cc
 
-no_tab : (d : Bool) (z : Text) (t : Tok) (rest : Text) → token_at d (9 ∷ z) ≡ found t rest → ⊥
+no_tab : (d : Bool) (z : Text) (t : Tok) (rest : Text) → token_at d (9 ∷ z) ≡ finds t rest → ⊥
 unfolding token_at sign is_redirection double single
 no_tab d z t rest e = absurd cc
 
-no_hash : (d : Bool) (z : Text) (t : Tok) (rest : Text) → token_at d (35 ∷ z) ≡ found t rest → ⊥
+no_hash : (d : Bool) (z : Text) (t : Tok) (rest : Text) → token_at d (35 ∷ z) ≡ finds t rest → ⊥
 unfolding token_at sign is_redirection double single
 no_hash d z t rest e = absurd cc
 
-no_backslash : (d : Bool) (z : Text) (t : Tok) (rest : Text) → token_at d (92 ∷ z) ≡ found t rest → ⊥
+no_backslash : (d : Bool) (z : Text) (t : Tok) (rest : Text) → token_at d (92 ∷ z) ≡ finds t rest → ⊥
 unfolding token_at sign is_redirection double single
 no_backslash d z t rest e = absurd cc
 
-differs : (d : Bool) (b k : ℕ) (z : Text) (t : Tok) (rest : Text) → (token_at d (k ∷ z) ≡ found t rest → ⊥) → token_at d (b ∷ z) ≡ found t rest → (b == k) ≡ false
+differs : (d : Bool) (b k : ℕ) (z : Text) (t : Tok) (rest : Text) → (token_at d (k ∷ z) ≡ finds t rest → ⊥) → token_at d (b ∷ z) ≡ finds t rest → (b == k) ≡ false
 differs d b k z t rest dead e = elim (cases_Bool (b == k)) [ inl f ↦ absurd (dead (let same : b ≡ k = eqb-true b k f in rw same at e)) | inr f ↦ f ]
 
-pub solid : (d : Bool) (z : Text) (t : Tok) (rest : Text) → token_at d z ≡ found t rest → gap_length z ≡ 0
+pub solid : (d : Bool) (z : Text) (t : Tok) (rest : Text) → token_at d z ≡ finds t rest → gap_length z ≡ 0
 unfolding gap_length
 solid d [] t rest e = refl
 solid d (b ∷ z) t rest e =
     rw (differs d b 32 z t rest (no_space d z t rest) e, differs d b 9 z t rest (no_tab d z t rest) e, differs d b 92 z t rest (no_backslash d z t rest) e, differs d b 35 z t rest (no_hash d z t rest) e) refl
 
-pub takes_found : {d : Bool} {z rest : Text} {t : Tok} → Takes d z t rest → next d z ≡ found t rest
+pub takes_found : {d : Bool} {z rest : Text} {t : Tok} → Takes d z t rest → next d z ≡ finds t rest
 unfolding next
 takes_found {d} {z} {rest} {t} k =
     let f = begins_found k.begins in

@@ -6,6 +6,7 @@ pub mod Insides
 pub mod Within
 pub mod Fronts
 pub mod Sound
+pub mod Telling
 pub mod Turns
 pub mod CutLaws
 pub mod Readings

@@ -3,7 +3,7 @@ use Rattle.std.proofs.Common.{◌≡◌, ◌≢◌, ◌≤◌, ℕ, zero, suc, �
 use Rattle.std.specs.Prelude.{◌==◌}
 use Rattle.std.proofs.lemmas.Bool.{cases_Bool}
 use Rattle.std.proofs.lemmas.Bool.Decides.{nat_tests}
-use Rattle.pawk_lex.specs.Bytes.{Text}
+use Rattle.pawk_token.specs.Bytes.{Text}
 use Rattle.pawk_lex.specs.Gaps.{pass}
 
 pub pass_left : (lead : Text → ℕ) (n : ℕ) (z : Text) → pass lead n z ≡ pass lead 0 (drop n z)
@@ -36,10 +36,10 @@ pass_shorter lead zero (b ∷ z) = elim (cases_Bool (lead (b ∷ z) == 0)) [
 ]
 
 -- the end of a loop that passes over bytes, and one turn of it
-pub pass_done : (lead : Text → ℕ) (z begun : Text) (n : ℕ) → n ≡ lead z → n ≡ 0 → pass lead 0 z ≡ pass lead 0 begun → z ≡ pass lead 0 begun
-pass_done lead z begun n is none e = sym (pass_stops lead z (sym is ∙ none)) ∙ e
+pub pass_done : (lead : Text → ℕ) (z whole : Text) (n : ℕ) → n ≡ lead z → n ≡ 0 → pass lead 0 z ≡ pass lead 0 whole → z ≡ pass lead 0 whole
+pass_done lead z whole n is none e = sym (pass_stops lead z (sym is ∙ none)) ∙ e
 
-pub pass_turn : (lead : Text → ℕ) (z begun : Text) (n : ℕ) → n ≡ lead z → n ≢ 0 → pass lead 0 z ≡ pass lead 0 begun → pass lead 0 (drop n z) ≡ pass lead 0 begun
-pass_turn lead z begun n is some e =
+pub pass_turn : (lead : Text → ℕ) (z whole : Text) (n : ℕ) → n ≡ lead z → n ≢ 0 → pass lead 0 z ≡ pass lead 0 whole → pass lead 0 (drop n z) ≡ pass lead 0 whole
+pass_turn lead z whole n is some e =
     let goes : lead z ≢ 0 = λ f. some (is ∙ f) in
     rw is (sym (pass_goes lead z goes) ∙ e)

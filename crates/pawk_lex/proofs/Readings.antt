@@ -1,15 +1,15 @@
 -- From one token to the next.
 use Rattle.std.proofs.Common.{◌≡◌, ◌<◌, Bool, List, [], ◌∷◌, ◌++◌, length, Option, Some, None, refl, sym, ap, subst, ◌∙◌, append_assoc}
 use Rattle.std.proofs.lemmas.List.{append-nil}
-use Rattle.pawk_lex.specs.declared.token.Token.{Token}
-use Rattle.pawk_lex.specs.declared.refusal.SyntaxRefusal.{SyntaxRefusal}
-use Rattle.pawk_lex.specs.declared.refusal.SyntaxRefusal.TheVariants as refusal
-use Rattle.pawk_lex.specs.Bytes.{Text}
-use Rattle.pawk_lex.specs.Tokens.{Tok, tok, divides_after}
-use Rattle.pawk_lex.specs.Next.{found}
+use Rattle.pawk_token.specs.declared.token.Token.{Token}
+use Rattle.pawk_token.specs.declared.refusal.SyntaxRefusal.{SyntaxRefusal}
+use Rattle.pawk_token.specs.declared.refusal.SyntaxRefusal.TheVariants as refusal
+use Rattle.pawk_token.specs.Bytes.{Text}
+use Rattle.pawk_token.specs.Tokens.{Tok, tok, divides_after}
+use Rattle.pawk_lex.specs.Next.{finds}
 use Rattle.pawk_lex.specs.Cut.{Gap, Takes, CutFrom, at_end, a_token, Cut}
-use Rattle.pawk_lex.specs.Reads.{State, begun, Hands}
-use Rattle.pawk_lex.specs.Reading.{CutUpTo, no_token, one_more, RefusedBy, IsRefused, EndsBy}
+use Rattle.pawk_lex.specs.Reads.{State, start_state, Hands}
+use Rattle.pawk_lex.specs.TokenLists.{CutUpTo, no_token, one_more, RefusedBy, IsRefused, EndsBy}
 use Rattle.pawk_lex.proofs.Fronts.{takes_found}
 use Rattle.pawk_lex.proofs.Within.{NextWithin, next_within}
 use Rattle.pawk_lex.proofs.CutLaws.{IsSame, takes_unique, no_more, cut_unique}
@@ -17,10 +17,10 @@ use Rattle.pawk_lex.proofs.CutLaws.{IsSame, takes_unique, no_more, cut_unique}
 -- the lexer has handed out these tokens of the text, and refused nothing
 pub record IsGoing (text : Text) (ts : List Tok) (s : State) : Type 0 where
   pub size : s.size ≡ length text
-  pub fresh : s.refused ≡ None
+  pub fresh : s.last_refusal ≡ None
   pub before : CutUpTo text ts s.divides s.rest
 
-pub sets_out : (text : Text) → IsGoing text [] (begun text)
+pub sets_out : (text : Text) → IsGoing text [] (start_state text)
 sets_out text = record { size = refl; fresh = refl; before = no_token }
 
 taken : (s : State) (t : Token) (rest : Text) → Hands s t rest → Takes s.divides s.rest (tok t.value) rest
@@ -31,7 +31,7 @@ goes_on text ts s t rest g h = record { size = g.size; fresh = g.fresh; before =
 
 pub hands_shorter : (s : State) (t : Token) (rest : Text) → Hands s t rest → length rest < length s.rest
 hands_shorter s t rest h =
-    let within : NextWithin s.rest (found (tok t.value) rest) = rw (takes_found (taken s t rest h)) at (next_within s.divides s.rest) in
+    let within : NextWithin s.rest (finds (tok t.value) rest) = rw (takes_found (taken s t rest h)) at (next_within s.divides s.rest) in
     within
 
 cut_all : {text y : Text} {ts us : List Tok} {d : Bool} → CutUpTo text ts d y → CutFrom d y us → Cut text (ts ++ us)
@@ -44,7 +44,7 @@ comes_to_end text ts s g e = rw (append-nil ts) at (cut_all g.before (at_end e))
 pub comes_to_refusal : (text : Text) (ts : List Tok) (s : State) (e : SyntaxRefusal) → IsGoing text ts s → RefusedBy s e → IsRefused text ts e
 comes_to_refusal text ts s e g f =
     let sized : s ≡ record s { size = length text } = ap (λ n. record s { size = n }) g.size in
-    let settled : ◌≡◌ {A = State} (record s { size = length text }) (record s { size = length text; refused = None }) = ap (λ o. record s { size = length text; refused = o }) g.fresh in
+    let settled : ◌≡◌ {A = State} (record s { size = length text }) (record s { size = length text; last_refusal = None }) = ap (λ o. record s { size = length text; last_refusal = o }) g.fresh in
     let P : State → Type 0 = λ v. RefusedBy v e in
     record { divides = s.divides; rest = s.rest; before = g.before; fails = subst P (sized ∙ settled) f }
 
@@ -75,4 +75,4 @@ pub ends_whole : (text : Text) (ts us : List Tok) (o : Option SyntaxRefusal) →
 ends_whole text ts us None k c = (cut_unique k c, refl)
 ends_whole text ts us (Some e) k c =
     let r = continued k.before c in
-    absurd (stuck (record { size = length text; rest = k.rest; divides = k.divides; refused = None }) e r.more k.fails r.cut)
+    absurd (stuck (record { size = length text; rest = k.rest; divides = k.divides; last_refusal = None }) e r.more k.fails r.cut)

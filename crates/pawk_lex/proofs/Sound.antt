@@ -8,18 +8,18 @@ use Rattle.std.proofs.lemmas.List.{take-append-drop, append-nil}
 use Rattle.std.proofs.lemmas.Slice.Eq.{bytes_eq-Decides}
 use Rattle.std.proofs.lemmas.Bool.{eqb-true}
 use Rattle.std.proofs.lemmas.Bool.Decides.{nat_tests}
-use Rattle.pawk_lex.specs.declared.token.Mark.{Mark}
-use Rattle.pawk_lex.specs.declared.token.Mark.TheVariants as m
-use Rattle.pawk_lex.specs.declared.token.Builtin.{Builtin}
-use Rattle.pawk_lex.specs.declared.refusal.Cause.{Cause}
-use Rattle.pawk_lex.specs.declared.refusal.Cause.TheVariants as cause
-use Rattle.pawk_lex.specs.Bytes.{Text, is_name_byte, is_blank, is_in_line, is_octal, AllAre, BeginsBy}
-use Rattle.pawk_lex.specs.Words.{mark_text, builtin_text, reserved_words, builtins, singles, doubles, mark_among, reserved, builtin as builtin_of, double, single}
+use Rattle.pawk_token.specs.declared.token.Mark.{Mark}
+use Rattle.pawk_token.specs.declared.token.Mark.TheVariants as m
+use Rattle.pawk_token.specs.declared.token.Builtin.{Builtin}
+use Rattle.pawk_token.specs.declared.refusal.Cause.{Cause}
+use Rattle.pawk_token.specs.declared.refusal.Cause.TheVariants as cause
+use Rattle.pawk_token.specs.Bytes.{Text, is_name_byte, is_blank, is_in_line, is_octal, AllAre, BeginsBy}
+use Rattle.pawk_token.specs.Vocabulary.{mark_text, builtin_text, reserved_words, builtins, singles, doubles, mark_among, reserved_word, builtin as builtin_of, double, single}
 use Rattle.pawk_lex.specs.Gaps.{gap_length, pass, skip}
-use Rattle.pawk_lex.specs.Strings.{simple_escape, by_two, two_digits, three_digits, octal_escape, written, decode, decode_by, after_backslash, ere_length}
-use Rattle.pawk_lex.specs.Tokens.{Tok, number as number_token, string as string_token, ere as ere_token, name, function_name, mark}
-use Rattle.pawk_lex.specs.Next.{found, fails, value_from, number_by, number, refused, named_by, word_by, word_tok, word_unless, word, string_end, string_by, string, ere_by, ere, is_redirection, sign_by, sign_unless, sign, token_at, next}
-use Rattle.pawk_lex.specs.Cut.{EndsLine, Gap, no_gap, a_blank, a_joined_line, a_comment, Inside, closed, itself, escaped, one_digit, two_octal, three_octal, IsEre, no_byte, a_byte, a_pair, MarkEnds, MarkStands, Writes, Begins, Takes}
+use Rattle.pawk_lex.specs.Strings.{simple_escape, by_two, two_digits, three_digits, octal_escape, string_byte, decode, decode_by, after_backslash, ere_length}
+use Rattle.pawk_token.specs.Tokens.{Tok, number as number_token, string as string_token, ere as ere_token, name, function_name, mark}
+use Rattle.pawk_lex.specs.Next.{finds, fails, value_from, number_by, number, word_cause, named_by, word_by, word_tok, word_unless, word, string_end, string_by, string, ere_by, ere, is_redirection, sign_by, sign_unless, sign, token_at, next}
+use Rattle.pawk_lex.specs.Cut.{EndsLine, Gap, no_gap, a_blank, a_joined_line, a_comment, Inside, at_quote, itself, by_escape, one_digit, two_octal, three_octal, IsEre, no_byte, a_byte, a_pair, MarkEnds, MarkStands, Writes, Begins, Takes}
 use Rattle.pawk_lex.proofs.Runs.{Stops, prefix_all, prefix_first, prefix_ends, next_stops}
 use Rattle.pawk_lex.proofs.Numerals.{digits_all, value_sound}
 use Rattle.pawk_lex.proofs.Insides.{inside_first, taken}
@@ -31,7 +31,7 @@ record IsFound (t u : Tok) (rest more : Text) : Type 0 where
   token : t ≡ u
   left : rest ≡ more
 
-same_found : (t u : Tok) (rest more : Text) → found t rest ≡ found u more → IsFound t u rest more
+same_found : (t u : Tok) (rest more : Text) → finds t rest ≡ finds u more → IsFound t u rest more
 same_found t u rest more e =
     let same : ◌≡◌ {A = Tok × Text} (t, rest) (u, more) = cc in
     record { token = ap (λ (p : Tok × Text). p.0) same; left = ap (λ (p : Tok × Text). p.1) same }
@@ -53,8 +53,8 @@ find_passes p (y ∷ ys) x e = go (find_passes p ys x) (p y) refl e
     go again true f g = let same : y ≡ x = cc in rw (← same) f
     go again false f g = again g
 
-reserved_text : (w : Text) (s : Mark) → reserved w ≡ Some s → mark_text s ≡ w
-unfolding reserved
+reserved_text : (w : Text) (s : Mark) → reserved_word w ≡ Some s → mark_text s ≡ w
+unfolding reserved_word
 reserved_text w s e = (bytes_eq-Decides (mark_text s) w).0 (find_passes (λ x. bytes_eq (mark_text x) w) reserved_words s e)
 
 name_of_builtin : (w : Text) (f : Builtin) → builtin_of w ≡ Some f → builtin_text f ≡ w
@@ -75,7 +75,7 @@ begins_some : (p : ℕ → Bool) (t : Bool) (x : Text) → BeginsBy p t x → 0 
 begins_some p t [] h = absurd h
 begins_some p t (b ∷ x) h = omega arith
 
-number_sound : (d : Bool) (b : ℕ) (z : Text) (t : Tok) (rest : Text) → is_ascii_digit b ≡ true → number (b ∷ z) ≡ found t rest → Begins d (b ∷ z) t rest
+number_sound : (d : Bool) (b : ℕ) (z : Text) (t : Tok) (rest : Text) → is_ascii_digit b ≡ true → number (b ∷ z) ≡ finds t rest → Begins d (b ∷ z) t rest
 unfolding number
 number_sound d b z t rest h e = go (value_from 0 x) refl e
   where
@@ -88,7 +88,7 @@ number_sound d b z t rest h e = go (value_from 0 x) refl e
     r : Text
     r = drop n (b ∷ z)
 
-    flagged : (v : ℕ) → value_from 0 x ≡ Some v → (c : Bool) → (is_name_byte (slice_index r 0) || slice_index r 0 == 46) ≡ c → cond c (fails cause.Numeral (b ∷ z)) (found (number_token v) r) ≡ found t rest → Begins d (b ∷ z) t rest
+    flagged : (v : ℕ) → value_from 0 x ≡ Some v → (c : Bool) → (is_name_byte (slice_index r 0) || slice_index r 0 == 46) ≡ c → cond c (fails cause.Numeral (b ∷ z)) (finds (number_token v) r) ≡ finds t rest → Begins d (b ∷ z) t rest
     flagged v f true g i = absurd cc
     flagged v f false g i =
         let digits = prefix_all is_ascii_digit (b ∷ z) in
@@ -101,7 +101,7 @@ number_sound d b z t rest h e = go (value_from 0 x) refl e
           stands = tt;
         })
 
-    go : (o : Option ℕ) → value_from 0 x ≡ o → number_by (b ∷ z) o r ≡ found t rest → Begins d (b ∷ z) t rest
+    go : (o : Option ℕ) → value_from 0 x ≡ o → number_by (b ∷ z) o r ≡ finds t rest → Begins d (b ∷ z) t rest
     go None f g = absurd cc
     go (Some v) f g = flagged v f (is_name_byte (slice_index r 0) || slice_index r 0 == 46) refl g
 
@@ -116,19 +116,19 @@ word_stands d m.Slash f = absurd cc
 word_stands d m.SlashAssign f = absurd cc
 word_stands d _ f = tt
 
-word_begins : (d : Bool) (w r : Text) → AllAre is_name_byte w → BeginsBy is_ascii_digit false w → BeginsBy is_name_byte true w → refused w ≡ None → is_name_byte (slice_index r 0) ≡ false → Begins d (w ++ r) (word_tok w (slice_index r 0)) r
+word_begins : (d : Bool) (w r : Text) → AllAre is_name_byte w → BeginsBy is_ascii_digit false w → BeginsBy is_name_byte true w → word_cause w ≡ None → is_name_byte (slice_index r 0) ≡ false → Begins d (w ++ r) (word_tok w (slice_index r 0)) r
 unfolding word_tok
-word_begins d w r letters first begins allowed ends = go (reserved w) refl
+word_begins d w r letters first begins allowed ends = go (reserved_word w) refl
   where
-    named : reserved w ≡ None → builtin_of w ≡ None → (c : Bool) → (slice_index r 0 == 40) ≡ c → Begins d (w ++ r) (cond c (function_name w) (name w)) r
+    named : reserved_word w ≡ None → builtin_of w ≡ None → (c : Bool) → (slice_index r 0 == 40) ≡ c → Begins d (w ++ r) (cond c (function_name w) (name w)) r
     named f g true h = record { lexeme = w; front = refl; writes = (refl, record { letters = letters; first = first; allowed = allowed; unreserved = f; unbuilt = g }); ends = eqb-true (slice_index r 0) 40 h; stands = tt }
     named f g false h = record { lexeme = w; front = refl; writes = (refl, record { letters = letters; first = first; allowed = allowed; unreserved = f; unbuilt = g }); ends = (ends, h); stands = tt }
 
-    built : reserved w ≡ None → (o : Option Builtin) → builtin_of w ≡ o → Begins d (w ++ r) (named_by w (slice_index r 0) o) r
+    built : reserved_word w ≡ None → (o : Option Builtin) → builtin_of w ≡ o → Begins d (w ++ r) (named_by w (slice_index r 0) o) r
     built f (Some k) g = record { lexeme = w; front = refl; writes = sym (name_of_builtin w k g); ends = ends; stands = tt }
     built f None g = named f g (slice_index r 0 == 40) refl
 
-    go : (o : Option Mark) → reserved w ≡ o → Begins d (w ++ r) (word_by w (slice_index r 0) o) r
+    go : (o : Option Mark) → reserved_word w ≡ o → Begins d (w ++ r) (word_by w (slice_index r 0) o) r
     go (Some s) f = record {
       lexeme = w;
       front = refl;
@@ -138,9 +138,9 @@ word_begins d w r letters first begins allowed ends = go (reserved w) refl
     }
     go None f = built f (builtin_of w) refl
 
-word_sound : (d : Bool) (b : ℕ) (z : Text) (t : Tok) (rest : Text) → is_ascii_digit b ≡ false → is_name_byte b ≡ true → word (b ∷ z) ≡ found t rest → Begins d (b ∷ z) t rest
+word_sound : (d : Bool) (b : ℕ) (z : Text) (t : Tok) (rest : Text) → is_ascii_digit b ≡ false → is_name_byte b ≡ true → word (b ∷ z) ≡ finds t rest → Begins d (b ∷ z) t rest
 unfolding word
-word_sound d b z t rest f h e = go (refused w) refl e
+word_sound d b z t rest f h e = go (word_cause w) refl e
   where
     n : ℕ
     n = prefix_len is_name_byte (b ∷ z)
@@ -154,7 +154,7 @@ word_sound d b z t rest f h e = go (refused w) refl e
     whole : Begins d (w ++ r) (word_tok w (slice_index r 0)) r → Begins d (b ∷ z) (word_tok w (slice_index r 0)) r
     whole k = rw (take-append-drop n (b ∷ z)) at k
 
-    go : (o : Option Cause) → refused w ≡ o → word_unless (b ∷ z) o w r ≡ found t rest → Begins d (b ∷ z) t rest
+    go : (o : Option Cause) → word_cause w ≡ o → word_unless (b ∷ z) o w r ≡ finds t rest → Begins d (b ∷ z) t rest
     go (Some why) g i = absurd cc
     go None g i =
         rebegin d (b ∷ z) (word_tok w (slice_index r 0)) t r rest (same_found (word_tok w (slice_index r 0)) t r rest i)
@@ -209,14 +209,14 @@ escape_step (a ∷ z) p tail rest e i = go (is_octal a) refl e
   where
     simple : (o : Option ℕ) → simple_escape a ≡ o → by_two o ≡ Some p → Inside (92 ∷ a ∷ z) (p.0 ∷ tail) rest
     simple None f g = absurd cc
-    simple (Some b) f g = let same : (b, 2) ≡ p = cc in rw (← same) (escaped f (rw (← same) at i))
+    simple (Some b) f g = let same : (b, 2) ≡ p = cc in rw (← same) (by_escape f (rw (← same) at i))
 
     go : (q : Bool) → is_octal a ≡ q → cond q (octal_escape a (slice_index z 0) (slice_index z 1)) (by_two (simple_escape a)) ≡ Some p → Inside (92 ∷ a ∷ z) (p.0 ∷ tail) rest
     go true f g = octal_step a z p tail rest f g i
     go false f g = simple (simple_escape a) refl g
 
-written_step : (b : ℕ) (z : Text) (p : ℕ × ℕ) (tail rest : Text) → written (b ∷ z) ≡ Some p → Inside (drop (p.1 - 1) z) tail rest → Inside (b ∷ z) (p.0 ∷ tail) rest
-unfolding written
+written_step : (b : ℕ) (z : Text) (p : ℕ × ℕ) (tail rest : Text) → string_byte (b ∷ z) ≡ Some p → Inside (drop (p.1 - 1) z) tail rest → Inside (b ∷ z) (p.0 ∷ tail) rest
+unfolding string_byte
 written_step b z p tail rest e i = go (b == 34 || b == 10) refl (b == 92) refl e
   where
     go : (q : Bool) → (b == 34 || b == 10) ≡ q → (s : Bool) → (b == 92) ≡ s → cond q None (cond s (cond (is_octal (slice_index z 0)) (octal_escape (slice_index z 0) (slice_index z 1) (slice_index z 2)) (by_two (simple_escape (slice_index z 0)))) (Some (b, 1))) ≡ Some p → Inside (b ∷ z) (p.0 ∷ tail) rest
@@ -224,24 +224,24 @@ written_step b z p tail rest e i = go (b == 34 || b == 10) refl (b == 92) refl e
     go false f true g h = let same : b ≡ 92 = eqb-true b 92 g in rw same (escape_step z p tail rest h i)
     go false f false g h = let same : (b, 1) ≡ p = cc in rw (← same) (itself {b = b} (rw (f, g) refl) (rw (← same) at i))
 
-record IsDecoded (found bytes z rest : Text) : Type 0 where
+record IsDecoded (front bytes z rest : Text) : Type 0 where
   tail : Text
-  bytes_are : bytes ≡ found ++ tail
+  bytes_are : bytes ≡ front ++ tail
   inside : Inside z tail rest
 
-decode_sound : (z : Text) (n : ℕ) (found bytes rest : Text) → decode n found z ≡ (bytes, 34 ∷ rest) → IsDecoded found bytes (drop n z) rest
-decode_sound [] n found bytes rest e = let bad : ◌≡◌ {A = Text} [] (34 ∷ rest) = ap (λ (p : Text × Text). p.1) e in absurd cc
-decode_sound (b ∷ z) (suc n) found bytes rest e = decode_sound z n found bytes rest e
-decode_sound (b ∷ z) zero found bytes rest e = go (λ n more. decode_sound z n more bytes rest) (written (b ∷ z)) refl e
+decode_sound : (z : Text) (n : ℕ) (front bytes rest : Text) → decode n front z ≡ (bytes, 34 ∷ rest) → IsDecoded front bytes (drop n z) rest
+decode_sound [] n front bytes rest e = let bad : ◌≡◌ {A = Text} [] (34 ∷ rest) = ap (λ (p : Text × Text). p.1) e in absurd cc
+decode_sound (b ∷ z) (suc n) front bytes rest e = decode_sound z n front bytes rest e
+decode_sound (b ∷ z) zero front bytes rest e = go (λ n more. decode_sound z n more bytes rest) (string_byte (b ∷ z)) refl e
   where
-    go : ((n : ℕ) (more : Text) → decode n more z ≡ (bytes, 34 ∷ rest) → IsDecoded more bytes (drop n z) rest) → (o : Option (ℕ × ℕ)) → written (b ∷ z) ≡ o → decode_by found (b ∷ z) (λ n ds. decode n ds z) o ≡ (bytes, 34 ∷ rest) → IsDecoded found bytes (b ∷ z) rest
+    go : ((n : ℕ) (more : Text) → decode n more z ≡ (bytes, 34 ∷ rest) → IsDecoded more bytes (drop n z) rest) → (o : Option (ℕ × ℕ)) → string_byte (b ∷ z) ≡ o → decode_by front (b ∷ z) (λ n ds. decode n ds z) o ≡ (bytes, 34 ∷ rest) → IsDecoded front bytes (b ∷ z) rest
     go again None f g =
-        let same : found ≡ bytes = ap (λ (p : Text × Text). p.0) g in
+        let same : front ≡ bytes = ap (λ (p : Text × Text). p.0) g in
         let left : ◌≡◌ {A = Text} (b ∷ z) (34 ∷ rest) = ap (λ (p : Text × Text). p.1) g in
-        record { tail = []; bytes_are = sym same ∙ sym (append-nil found); inside = rw left closed }
+        record { tail = []; bytes_are = sym same ∙ sym (append-nil front); inside = rw left at_quote }
     go again (Some p) f g =
-        let k = again (p.1 - 1) (found ++ p.0 ∷ []) g in
-        record { tail = p.0 ∷ k.tail; bytes_are = k.bytes_are ∙ append_assoc found (p.0 ∷ []) k.tail; inside = written_step b z p k.tail rest f k.inside }
+        let k = again (p.1 - 1) (front ++ p.0 ∷ []) g in
+        record { tail = p.0 ∷ k.tail; bytes_are = k.bytes_are ∙ append_assoc front (p.0 ∷ []) k.tail; inside = written_step b z p k.tail rest f k.inside }
 
 -- a string's text stands alone
 record IsFronted (z bytes rest : Text) : Type 0 where
@@ -253,9 +253,9 @@ first_of : {y bytes : Text} (z rest : Text) → z ≡ y ++ rest → Inside y byt
 first_of z rest e i = rw e (inside_first i rest)
 
 inside_front : {z bytes rest : Text} → Inside z bytes rest → IsFronted z bytes rest
-inside_front closed = record { lexeme = 34 ∷ []; front = refl; inside = closed }
+inside_front at_quote = record { lexeme = 34 ∷ []; front = refl; inside = at_quote }
 inside_front (itself {b} h i) = let k = inside_front i in record { lexeme = b ∷ k.lexeme; front = ap (λ v. b ∷ v) k.front; inside = itself h k.inside }
-inside_front (escaped {e} h i) = let k = inside_front i in record { lexeme = 92 ∷ e ∷ k.lexeme; front = ap (λ v. 92 ∷ e ∷ v) k.front; inside = escaped h k.inside }
+inside_front (by_escape {e} h i) = let k = inside_front i in record { lexeme = 92 ∷ e ∷ k.lexeme; front = ap (λ v. 92 ∷ e ∷ v) k.front; inside = by_escape h k.inside }
 inside_front (one_digit {a} {z} {bytes} {rest} h f i) =
     let k = inside_front i in
     let same = first_of z rest k.front k.inside in
@@ -272,22 +272,22 @@ string_begins d z bytes rest e =
     let f = inside_front k.inside in
     record { lexeme = 34 ∷ f.lexeme; front = ap (λ v. 34 ∷ v) f.front; writes = (f.lexeme, refl, let P : Text → Type 0 = λ v. Inside f.lexeme v [] in subst P (sym k.bytes_are) f.inside); ends = tt; stands = tt }
 
-string_sound : (d : Bool) (z : Text) (t : Tok) (rest : Text) → string (34 ∷ z) ≡ found t rest → Begins d (34 ∷ z) t rest
+string_sound : (d : Bool) (z : Text) (t : Tok) (rest : Text) → string (34 ∷ z) ≡ finds t rest → Begins d (34 ∷ z) t rest
 unfolding string
 string_sound d z t rest e = go (decode 0 [] z) refl e
   where
-    at_stop : (bytes : Text) (c : ℕ) (y : Text) → decode 0 [] z ≡ (bytes, c ∷ y) → (q : Bool) → (c == 34) ≡ q → (s : Bool) → cond q (found (string_token bytes) y) (cond s (fails cause.Token (c ∷ y)) (fails cause.Token (34 ∷ z))) ≡ found t rest → Begins d (34 ∷ z) t rest
+    at_stop : (bytes : Text) (c : ℕ) (y : Text) → decode 0 [] z ≡ (bytes, c ∷ y) → (q : Bool) → (c == 34) ≡ q → (s : Bool) → cond q (finds (string_token bytes) y) (cond s (fails cause.Token (c ∷ y)) (fails cause.Token (34 ∷ z))) ≡ finds t rest → Begins d (34 ∷ z) t rest
     at_stop bytes c y f true g s h =
         let same : c ≡ 34 = eqb-true c 34 g in
         rebegin d (34 ∷ z) (string_token bytes) t y rest (same_found (string_token bytes) t y rest h) (string_begins d z bytes y (rw same at f))
     at_stop bytes c y f false g true h = absurd cc
     at_stop bytes c y f false g false h = absurd cc
 
-    stopped : (bytes r : Text) → decode 0 [] z ≡ (bytes, r) → string_end (34 ∷ z) bytes r ≡ found t rest → Begins d (34 ∷ z) t rest
+    stopped : (bytes r : Text) → decode 0 [] z ≡ (bytes, r) → string_end (34 ∷ z) bytes r ≡ finds t rest → Begins d (34 ∷ z) t rest
     stopped bytes [] f h = absurd cc
     stopped bytes (c ∷ y) f h = at_stop bytes c y f (c == 34) refl (c == 92) h
 
-    go : (p : Text × Text) → decode 0 [] z ≡ p → string_by (34 ∷ z) p ≡ found t rest → Begins d (34 ∷ z) t rest
+    go : (p : Text × Text) → decode 0 [] z ≡ p → string_by (34 ∷ z) p ≡ finds t rest → Begins d (34 ∷ z) t rest
     go p f h = stopped p.0 p.1 f h
 
 -- ---- expressions
@@ -338,17 +338,17 @@ ere_begins z rest k = record {
   stands = refl;
 }
 
-ere_sound : (z : Text) (t : Tok) (rest : Text) → ere (47 ∷ z) ≡ found t rest → Begins false (47 ∷ z) t rest
+ere_sound : (z : Text) (t : Tok) (rest : Text) → ere (47 ∷ z) ≡ finds t rest → Begins false (47 ∷ z) t rest
 unfolding ere
 ere_sound z t rest e = go (pass ere_length 0 z) refl e
   where
-    at_stop : (c : ℕ) (y : Text) → pass ere_length 0 z ≡ c ∷ y → (q : Bool) → (c == 47) ≡ q → cond q (found (ere_token (take (length z - length (c ∷ y)) z)) y) (fails cause.Token (47 ∷ z)) ≡ found t rest → Begins false (47 ∷ z) t rest
+    at_stop : (c : ℕ) (y : Text) → pass ere_length 0 z ≡ c ∷ y → (q : Bool) → (c == 47) ≡ q → cond q (finds (ere_token (take (length z - length (c ∷ y)) z)) y) (fails cause.Token (47 ∷ z)) ≡ finds t rest → Begins false (47 ∷ z) t rest
     at_stop c y f true g h =
         let same : c ≡ 47 = eqb-true c 47 g in
         rebegin false (47 ∷ z) (ere_token (take (length z - length (c ∷ y)) z)) t y rest (same_found (ere_token (take (length z - length (c ∷ y)) z)) t y rest h) (ere_begins z y (pass_sound z 0 y (rw same at f)))
     at_stop c y f false g h = absurd cc
 
-    go : (r : Text) → pass ere_length 0 z ≡ r → ere_by (47 ∷ z) z r ≡ found t rest → Begins false (47 ∷ z) t rest
+    go : (r : Text) → pass ere_length 0 z ≡ r → ere_by (47 ∷ z) z r ≡ finds t rest → Begins false (47 ∷ z) t rest
     go [] f h = absurd cc
     go (c ∷ y) f h = at_stop c y f (c == 47) refl h
 
@@ -377,11 +377,11 @@ single_text : (b : ℕ) (s : Mark) → single b ≡ Some s → b ∷ [] ≡ mark
 unfolding single
 single_text b s e = among_text singles (b ∷ []) s e
 
-sign_sound : (d : Bool) (b : ℕ) (z : Text) (t : Tok) (rest : Text) → is_name_byte b ≡ false → ((b == 47) && cond d false true) ≡ false → sign (b ∷ z) b (slice_index z 0) ≡ found t rest → Begins d (b ∷ z) t rest
+sign_sound : (d : Bool) (b : ℕ) (z : Text) (t : Tok) (rest : Text) → is_name_byte b ≡ false → ((b == 47) && cond d false true) ≡ false → sign (b ∷ z) b (slice_index z 0) ≡ finds t rest → Begins d (b ∷ z) t rest
 unfolding sign
 sign_sound d b z t rest n h e = go (is_redirection b (slice_index z 0)) refl e
   where
-    two : (y : Text) (s : Mark) → double b (slice_index y 0) ≡ Some s → found (mark s) (drop 2 (b ∷ y)) ≡ found t rest → Begins d (b ∷ y) t rest
+    two : (y : Text) (s : Mark) → double b (slice_index y 0) ≡ Some s → finds (mark s) (drop 2 (b ∷ y)) ≡ finds t rest → Begins d (b ∷ y) t rest
     two [] s f i = let bad : ◌≡◌ {A = Option Mark} None (Some s) = sym (double_at_end b) ∙ f in absurd cc
     two (c ∷ y) s f i =
         let text = double_text b c s f in
@@ -393,7 +393,7 @@ sign_sound d b z t rest n h e = go (is_redirection b (slice_index z 0)) refl e
           stands = sign_stands d b (c ∷ []) s text h;
         })
 
-    one : (s : Mark) → is_redirection b (slice_index z 0) ≡ false → double b (slice_index z 0) ≡ None → single b ≡ Some s → found (mark s) z ≡ found t rest → Begins d (b ∷ z) t rest
+    one : (s : Mark) → is_redirection b (slice_index z 0) ≡ false → double b (slice_index z 0) ≡ None → single b ≡ Some s → finds (mark s) z ≡ finds t rest → Begins d (b ∷ z) t rest
     one s r f g i =
         let text = single_text b s g in
         rebegin d (b ∷ z) (mark s) t z rest (same_found (mark s) t z rest i) (record {
@@ -404,12 +404,12 @@ sign_sound d b z t rest n h e = go (is_redirection b (slice_index z 0)) refl e
           stands = sign_stands d b [] s text h;
         })
 
-    longest : is_redirection b (slice_index z 0) ≡ false → (o : Option Mark) → double b (slice_index z 0) ≡ o → (u : Option Mark) → single b ≡ u → sign_by (b ∷ z) o u ≡ found t rest → Begins d (b ∷ z) t rest
+    longest : is_redirection b (slice_index z 0) ≡ false → (o : Option Mark) → double b (slice_index z 0) ≡ o → (u : Option Mark) → single b ≡ u → sign_by (b ∷ z) o u ≡ finds t rest → Begins d (b ∷ z) t rest
     longest r (Some s) f u g i = two z s f i
     longest r None f (Some s) g i = one s r f g i
     longest r None f None g i = absurd cc
 
-    go : (q : Bool) → is_redirection b (slice_index z 0) ≡ q → sign_unless q (b ∷ z) b (slice_index z 0) ≡ found t rest → Begins d (b ∷ z) t rest
+    go : (q : Bool) → is_redirection b (slice_index z 0) ≡ q → sign_unless q (b ∷ z) b (slice_index z 0) ≡ finds t rest → Begins d (b ∷ z) t rest
     go true f i = absurd cc
     go false f i = longest f (double b (slice_index z 0)) refl (single b) refl i
 
@@ -423,18 +423,18 @@ closing : (d : Bool) → cond d false true ≡ true → d ≡ false
 closing true e = absurd cc
 closing false e = refl
 
-pub token_sound : (d : Bool) (z : Text) (t : Tok) (rest : Text) → token_at d z ≡ found t rest → Begins d z t rest
+pub token_sound : (d : Bool) (z : Text) (t : Tok) (rest : Text) → token_at d z ≡ finds t rest → Begins d z t rest
 unfolding token_at
 token_sound d [] t rest e = absurd cc
 token_sound d (b ∷ z) t rest e = go (is_ascii_digit b) refl (is_name_byte b) refl (b == 34) refl ((b == 47) && cond d false true) refl e
   where
-    slash : (b == 47) ≡ true → d ≡ false → ere (b ∷ z) ≡ found t rest → Begins d (b ∷ z) t rest
+    slash : (b == 47) ≡ true → d ≡ false → ere (b ∷ z) ≡ finds t rest → Begins d (b ∷ z) t rest
     slash f g i =
         let same : b ≡ 47 = eqb-true b 47 f in
         let begins = ere_sound z t rest (rw same at i) in
         rw (same, g) begins
 
-    go : (p : Bool) → is_ascii_digit b ≡ p → (w : Bool) → is_name_byte b ≡ w → (q : Bool) → (b == 34) ≡ q → (s : Bool) → ((b == 47) && cond d false true) ≡ s → cond p (number (b ∷ z)) (cond w (word (b ∷ z)) (cond q (string (b ∷ z)) (cond s (ere (b ∷ z)) (sign (b ∷ z) b (slice_index z 0))))) ≡ found t rest → Begins d (b ∷ z) t rest
+    go : (p : Bool) → is_ascii_digit b ≡ p → (w : Bool) → is_name_byte b ≡ w → (q : Bool) → (b == 34) ≡ q → (s : Bool) → ((b == 47) && cond d false true) ≡ s → cond p (number (b ∷ z)) (cond w (word (b ∷ z)) (cond q (string (b ∷ z)) (cond s (ere (b ∷ z)) (sign (b ∷ z) b (slice_index z 0))))) ≡ finds t rest → Begins d (b ∷ z) t rest
     go true f w g q h s i k = number_sound d b z t rest f k
     go false f true g q h s i k = word_sound d b z t rest f g k
     go false f false g true h s i k = let same : b ≡ 34 = eqb-true b 34 h in rw same (string_sound d z t rest (rw same at k))
@@ -489,7 +489,7 @@ skip_sound z = pass_gap_sound z 0
 
 -- ---- the next token
 
-pub next_sound : (d : Bool) (z : Text) (t : Tok) (rest : Text) → next d z ≡ found t rest → Takes d z t rest
+pub next_sound : (d : Bool) (z : Text) (t : Tok) (rest : Text) → next d z ≡ finds t rest → Takes d z t rest
 unfolding next
 next_sound d z t rest e = record { text = skip z; gap = skip_sound z; begins = token_sound d (skip z) t rest e }
 

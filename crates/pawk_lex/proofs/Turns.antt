@@ -1,20 +1,22 @@
 -- One answer of the lexer.
-use Rattle.std.proofs.Common.{◌≡◌, ◌≢◌, ◌≤◌, ℕ, ◌+◌, ◌-◌, Bool, [], length, Some, None, Ok, Err, refl, sym, ◌∙◌, arith}
+use Rattle.std.proofs.Common.{◌≡◌, ◌≤◌, ℕ, ◌+◌, ◌-◌, Bool, [], ◌∷◌, length, Some, None, Ok, Err, refl, sym, ◌∙◌, inl, inr, IsTrue, arith}
 use Rattle.pawk_lex.specs.declared.fault.Fault.{Fault}
 use Rattle.pawk_lex.specs.declared.fault.Fault.TheVariants as fault
-use Rattle.pawk_lex.specs.declared.refusal.SyntaxRefusal.{SyntaxRefusal}
-use Rattle.pawk_lex.specs.Bytes.{Text}
-use Rattle.pawk_lex.specs.declared.token.Token.{Token}
-use Rattle.pawk_lex.specs.Tokens.{Tok, tok}
+use Rattle.pawk_token.specs.declared.refusal.SyntaxRefusal.{SyntaxRefusal}
+use Rattle.pawk_token.specs.Bytes.{Text}
+use Rattle.pawk_token.specs.Refusals.{is_lexer_refusal}
+use Rattle.pawk_token.specs.declared.token.Token.{Token}
+use Rattle.pawk_token.specs.Tokens.{Tok, tok}
 use Rattle.pawk_lex.specs.Gaps.{skip}
-use Rattle.pawk_lex.specs.Next.{Found, token_at, next}
+use Rattle.pawk_lex.specs.Next.{Finding, token_at, next}
 use Rattle.pawk_lex.specs.Cut.{Gap}
-use Rattle.pawk_lex.specs.Reads.{State, refusal_of, Hands, FailsBy}
+use Rattle.pawk_lex.specs.Reads.{State, refusal_of, Hands, FailsBy, IsFault, NeedsMemory}
 use Rattle.pawk_lex.proofs.Fronts.{takes_found, gap_none}
 use Rattle.pawk_lex.proofs.Sound.{skip_sound, token_sound, none_sound}
-use Rattle.pawk_lex.proofs.Within.{skip_shorter, NextWithin, next_within}
+use Rattle.pawk_lex.proofs.Telling.{IsTold, token_told, wants}
+use Rattle.pawk_lex.proofs.Within.{skip_shorter, Within, token_within, NextWithin, next_within}
 
-pub next_is : (d : Bool) (z y : Text) (r : Found) → y ≡ skip z → token_at d y ≡ r → next d z ≡ r
+pub next_is : (d : Bool) (z y : Text) (r : Finding) → y ≡ skip z → token_at d y ≡ r → next d z ≡ r
 unfolding next
 next_is d z y r s e = rw (← s) e
 
@@ -41,17 +43,43 @@ hands old y t rest s e b n = record {
 pub ends : (d : Bool) (z y : Text) → y ≡ skip z → token_at d y ≡ Ok None → Gap z []
 ends d z y s e = none_sound d z (next_is d z y _ s e)
 
-pub refuses : (old : State) (y : Text) (f : Fault) (e : SyntaxRefusal) → y ≡ skip old.rest → length old.rest ≤ old.size → (f ≢ fault.Memory → token_at old.divides y ≡ Err f) → e ≡ refusal_of old.size f → FailsBy old e
-refuses old y fault.Memory e s h g is = rw is tt
+pub refuses : (old : State) (y : Text) (f : Fault) (e : SyntaxRefusal) → y ≡ skip old.rest → length old.rest ≤ old.size → IsFault (NeedsMemory old.divides y) (token_at old.divides y) f → e ≡ refusal_of old.size f → FailsBy old e
+refuses old y fault.Memory e s h g is = rw is (wants old.divides old.rest y s g)
 refuses old y (fault.At why left) e s h g is =
-    let found = next_is old.divides old.rest y _ s (g (λ x. cc)) in
-    let within : NextWithin old.rest (Err (fault.At why left)) = rw found at (next_within old.divides old.rest) in
+    let finding = next_is old.divides old.rest y _ s g in
+    let within : NextWithin old.rest (Err (fault.At why left)) = rw finding at (next_within old.divides old.rest) in
     rw is (record {
       at_least = omega arith;
       at_most = omega arith;
-      no_end = λ k. let bad : ◌≡◌ {A = Found} (Ok None) (Err (fault.At why left)) = sym (gap_none old.divides old.rest k) ∙ found in absurd cc;
-      no_token = λ t rest k. let bad : ◌≡◌ {A = Found} (Ok (Some (t, rest))) (Err (fault.At why left)) = sym (takes_found k) ∙ found in absurd cc;
+      no_end = λ k. let bad : ◌≡◌ {A = Finding} (Ok None) (Err (fault.At why left)) = sym (gap_none old.divides old.rest k) ∙ finding in absurd cc;
+      no_token = λ t rest k. let bad : ◌≡◌ {A = Finding} (Ok (Some (t, rest))) (Err (fault.At why left)) = sym (takes_found k) ∙ finding in absurd cc;
       left = left;
-      fault = found;
+      fault = finding;
       place_is = refl;
     })
+
+-- the fault's number is one of the lexer's
+pub tells : (d : Bool) (y : Text) (size : ℕ) (f : Fault) (e : SyntaxRefusal) → IsFault (NeedsMemory d y) (token_at d y) f → e ≡ refusal_of size f → IsTrue (is_lexer_refusal e)
+tells d y size fault.Memory e g is = rw is refl
+tells d y size (fault.At why left) e g is =
+    let told : IsTold (Err (fault.At why left)) = rw g at (token_told d y) in
+    rw (is, told) refl
+
+-- where nothing but what separates tokens is left, there is neither a token nor a fault, nor want of memory
+at_end : (d : Bool) (z y : Text) → y ≡ skip z → Gap z [] → token_at d y ≡ Ok None
+unfolding next
+at_end d z y s k = rw s (gap_none d z k)
+
+end_needs_none : (d : Bool) (y : Text) → token_at d y ≡ Ok None → NeedsMemory d y → ⊥
+end_needs_none d y e (inl h) = rw e at h
+end_needs_none d [] e (inr h) = h
+end_needs_none d (b ∷ z) e (inr h) =
+    let within : Within (b ∷ z) (Ok None) = rw e at (token_within d (b ∷ z)) in
+    absurd cc
+
+pub no_token_at_end : (d : Bool) (z y : Text) (t : Tok) (rest : Text) → y ≡ skip z → token_at d y ≡ Ok (Some (t, rest)) → Gap z [] → ⊥
+no_token_at_end d z y t rest s e k = let bad : ◌≡◌ {A = Finding} (Ok None) (Ok (Some (t, rest))) = sym (at_end d z y s k) ∙ e in absurd cc
+
+pub no_fault_at_end : (d : Bool) (z y : Text) (f : Fault) → y ≡ skip z → IsFault (NeedsMemory d y) (token_at d y) f → Gap z [] → ⊥
+no_fault_at_end d z y fault.Memory s g k = end_needs_none d y (at_end d z y s k) g
+no_fault_at_end d z y (fault.At why left) s g k = let bad : ◌≡◌ {A = Finding} (Ok None) (Err (fault.At why left)) = sym (at_end d z y s k) ∙ g in absurd cc

@@ -5,14 +5,14 @@ use Rattle.std.specs.Char.{is_ascii_digit}
 use Rattle.std.specs.List.{prefix_len}
 use Rattle.std.proofs.lemmas.List.{length-drop}
 use Rattle.std.proofs.lemmas.Bool.{cases_Bool}
-use Rattle.pawk_lex.specs.declared.token.Mark.{Mark}
-use Rattle.pawk_lex.specs.declared.refusal.Cause.{Cause}
+use Rattle.pawk_token.specs.declared.token.Mark.{Mark}
+use Rattle.pawk_token.specs.declared.refusal.Cause.{Cause}
 use Rattle.pawk_lex.specs.declared.fault.Fault.TheVariants.{At, Memory}
-use Rattle.pawk_lex.specs.Bytes.{Text, is_name_byte}
-use Rattle.pawk_lex.specs.Words.{double, single}
+use Rattle.pawk_token.specs.Bytes.{Text, is_name_byte}
+use Rattle.pawk_token.specs.Vocabulary.{double, single}
 use Rattle.pawk_lex.specs.Gaps.{gap_length, skip, pass}
-use Rattle.pawk_lex.specs.Strings.{written, decode, decode_by, ere_length}
-use Rattle.pawk_lex.specs.Next.{Found, fails, value_from, number_by, number, refused, word_unless, word, string_end, string, ere_end, ere, is_redirection, sign_by, sign_unless, sign, token_at, next}
+use Rattle.pawk_lex.specs.Strings.{string_byte, decode, decode_by, ere_length}
+use Rattle.pawk_lex.specs.Next.{Finding, fails, value_from, number_by, number, word_cause, word_unless, word, string_end, string, ere_end, ere, is_redirection, sign_by, sign_unless, sign, token_at, next}
 use Rattle.pawk_lex.proofs.Passing.{pass_shorter}
 
 pub skip_shorter : (z : Text) → length (skip z) ≤ length z
@@ -20,7 +20,7 @@ unfolding skip
 skip_shorter z = pass_shorter gap_length 0 z
 
 -- the text after a token is shorter, a fault is at one of its bytes, and there is a token or a fault where a byte is
-abbrev pub Within : Text → Found → Type 0
+abbrev pub Within : Text → Finding → Type 0
 Within z (Ok (Some p)) = length p.1 < length z
 Within z (Ok None) = z ≡ []
 Within z (Err (At why left)) = (1 ≤ left) × (left ≤ length z)
@@ -48,12 +48,12 @@ word_unless_within (Some why) b z w rest h = (omega arith, omega arith)
 
 word_within : (b : ℕ) (z : Text) → is_name_byte b ≡ true → Within (b ∷ z) (word (b ∷ z))
 unfolding word
-word_within b z e = word_unless_within (refused (take (prefix_len is_name_byte (b ∷ z)) (b ∷ z))) b z _ _ (some_prefix is_name_byte b z e)
+word_within b z e = word_unless_within (word_cause (take (prefix_len is_name_byte (b ∷ z)) (b ∷ z))) b z _ _ (some_prefix is_name_byte b z e)
 
 decode_shorter : (n : ℕ) (ds z : Text) → length (decode n ds z).1 ≤ length z
 decode_shorter n ds [] = omega arith
 decode_shorter (suc n) ds (b ∷ z) = omega (arith, decode_shorter n ds z)
-decode_shorter zero ds (b ∷ z) = elim (written (b ∷ z)) as (λ o. length (decode_by ds (b ∷ z) (λ n es. decode n es z) o).1 ≤ length (b ∷ z)) [
+decode_shorter zero ds (b ∷ z) = elim (string_byte (b ∷ z)) as (λ o. length (decode_by ds (b ∷ z) (λ n es. decode n es z) o).1 ≤ length (b ∷ z)) [
   | None ↦ omega arith
   | Some p ↦ omega (arith, decode_shorter (p.1 - 1) (ds ++ p.0 ∷ []) z)
 ]
@@ -103,7 +103,7 @@ token_within divides (b ∷ z) = go (is_ascii_digit b) refl (is_name_byte b) ref
     go false e false f false false = sign_within b (slice_index z 0) z
 
 -- the same of the next token, which may be none also where bytes are left
-abbrev pub NextWithin : Text → Found → Type 0
+abbrev pub NextWithin : Text → Finding → Type 0
 NextWithin z (Ok (Some p)) = length p.1 < length z
 NextWithin z (Ok None) = Unit {0}
 NextWithin z (Err (At why left)) = (1 ≤ left) × (left ≤ length z)
@@ -113,7 +113,7 @@ pub next_within : (divides : Bool) (z : Text) → NextWithin z (next divides z)
 unfolding next
 next_within divides z = go (token_at divides (skip z)) (token_within divides (skip z))
   where
-    go : (r : Found) → Within (skip z) r → NextWithin z r
+    go : (r : Finding) → Within (skip z) r → NextWithin z r
     go (Ok (Some p)) h = omega (arith, skip_shorter z)
     go (Ok None) h = tt
     go (Err (At why left)) h = (h.0, omega (arith, skip_shorter z))

@@ -1,14 +1,17 @@
 -- One way to write each token.
 use Rattle.std.specs.Prelude.{◌≤◌, ◌<◌, ℕ, ◌+◌, ◌/◌, ◌%◌, Bool, ◌&&◌, ◌||◌, if◌then◌else◌, ◌==◌, nat_le, List, [], ◌∷◌, ◌++◌}
 use Rattle.std.specs.Fmt.{decimal}
-use Rattle.pawk_lex.specs.Bytes.{Text, is_blank}
-use Rattle.pawk_lex.specs.Words.{mark_text, builtin_text}
-use Rattle.pawk_lex.specs.Tokens.{Tok, number, string, ere, name, function_name, builtin, mark}
+use Rattle.pawk_token.specs.Bytes.{Text, is_blank}
+use Rattle.pawk_token.specs.Vocabulary.{mark_text, builtin_text}
+use Rattle.pawk_token.specs.Tokens.{Tok, number, string, ere, name, function_name, builtin, mark}
 use Rattle.pawk_lex.specs.Cut.{IsName, IsEre}
 
--- a byte inside quotes: a quote and a backslash after a backslash, a printable byte itself, any other one by three octal digits
+-- a byte inside quotes: a quote and a backslash after a backslash, a printable byte itself, any
+-- other one by three octal digits
 abbrev pub byte_text : ℕ → Text
-byte_text b = if b == 34 || b == 92 then 92 ∷ b ∷ [] else (if nat_le 32 b && nat_le b 126 then b ∷ [] else 92 ∷ (48 + b / 64) ∷ (48 + b / 8 % 8) ∷ (48 + b % 8) ∷ [])
+byte_text b = if b == 34 || b == 92 then 92 ∷ b ∷ []
+    else (if nat_le 32 b && nat_le b 126 then b ∷ []
+    else 92 ∷ (48 + b / 64) ∷ (48 + b / 8 % 8) ∷ (48 + b % 8) ∷ [])
 
 -- the bytes inside quotes, and the closing quote
 abbrev pub string_text : Text → Text

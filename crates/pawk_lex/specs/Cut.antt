@@ -2,13 +2,13 @@
 use Rattle.std.specs.Prelude.{◌≡◌, ◌≤◌, ◌<◌, ℕ, ◌-◌, Bool, true, false, ◌||◌, if◌then◌else◌, ◌==◌, List, [], ◌∷◌, ◌++◌, Some, None, slice_index, MatchBool}
 use Rattle.std.specs.Char.{is_ascii_digit}
 use Rattle.std.specs.Str.Parse.{IsNumeral, digits_value}
-use Rattle.pawk_lex.specs.declared.token.Mark.{Mark}
-use Rattle.pawk_lex.specs.declared.token.Mark.TheVariants as m
-use Rattle.pawk_lex.specs.Bytes.{Text, is_name_byte, is_blank, is_in_line, is_octal, AllAre, BeginsBy}
-use Rattle.pawk_lex.specs.Words.{mark_text, builtin_text, reserved, builtin as builtin_of, double}
+use Rattle.pawk_token.specs.declared.token.Mark.{Mark}
+use Rattle.pawk_token.specs.declared.token.Mark.TheVariants as m
+use Rattle.pawk_token.specs.Bytes.{Text, is_name_byte, is_blank, is_in_line, is_octal, AllAre, BeginsBy}
+use Rattle.pawk_token.specs.Vocabulary.{mark_text, builtin_text, reserved_word, builtin as builtin_of, double}
 use Rattle.pawk_lex.specs.Strings.{simple_escape, two_digits, three_digits}
-use Rattle.pawk_lex.specs.Next.{refused, is_redirection}
-use Rattle.pawk_lex.specs.Tokens.{Tok, number, string, ere, name, function_name, builtin, mark, divides_after}
+use Rattle.pawk_lex.specs.Next.{word_cause, is_redirection}
+use Rattle.pawk_token.specs.Tokens.{Tok, number, string, ere, name, function_name, builtin, mark, divides_after}
 
 -- ---- between tokens: <blank>, <backslash> before <newline>, comment
 
@@ -22,7 +22,8 @@ pub data Gap : Text → Text → Type 0 where
   no_gap : {z : Text} → Gap z z
   a_blank : {b : ℕ} {z rest : Text} → is_blank b ≡ true → Gap z rest → Gap (b ∷ z) rest
   a_joined_line : {z rest : Text} → Gap z rest → Gap (92 ∷ 10 ∷ z) rest
-  a_comment : {y z rest : Text} (x : Text) → y ≡ x ++ z → AllAre is_in_line x → EndsLine z → Gap z rest → Gap (35 ∷ y) rest
+  a_comment : {y z rest : Text} (x : Text) → y ≡ x ++ z → AllAre is_in_line x → EndsLine z →
+      Gap z rest → Gap (35 ∷ y) rest
 
 -- ---- NUMBER, NAME and FUNC_NAME
 
@@ -30,8 +31,8 @@ pub data Gap : Text → Text → Type 0 where
 pub record IsName (w : Text) : Type 0 where
   pub letters : AllAre is_name_byte w
   pub first : BeginsBy is_ascii_digit false w
-  pub allowed : refused w ≡ None
-  pub unreserved : reserved w ≡ None
+  pub allowed : word_cause w ≡ None
+  pub unreserved : reserved_word w ≡ None
   pub unbuilt : builtin_of w ≡ None
 
 -- the digits of a numeral that is not too great
@@ -49,12 +50,20 @@ is_ordinary b = if b == 34 || b == 10 then false else (if b == 92 then false els
 -- the text up to `rest` writes these bytes and the closing quote;
 -- a byte by octal digits is written by the longest run of at most three digits whose value is below 256
 pub data Inside : Text → Text → Text → Type 0 where
-  closed : {rest : Text} → Inside (34 ∷ rest) [] rest
-  itself : {b : ℕ} {z bytes rest : Text} → is_ordinary b ≡ true → Inside z bytes rest → Inside (b ∷ z) (b ∷ bytes) rest
-  escaped : {e b : ℕ} {z bytes rest : Text} → simple_escape e ≡ Some b → Inside z bytes rest → Inside (92 ∷ e ∷ z) (b ∷ bytes) rest
-  one_digit : {a : ℕ} {z bytes rest : Text} → is_octal a ≡ true → is_octal (slice_index z 0) ≡ false → Inside z bytes rest → Inside (92 ∷ a ∷ z) ((a - 48) ∷ bytes) rest
-  two_octal : {a b : ℕ} {z bytes rest : Text} → is_octal a ≡ true → is_octal b ≡ true → (is_octal (slice_index z 0) ≡ true → 256 ≤ three_digits a b (slice_index z 0)) → Inside z bytes rest → Inside (92 ∷ a ∷ b ∷ z) (two_digits a b ∷ bytes) rest
-  three_octal : {a b c : ℕ} {z bytes rest : Text} → is_octal a ≡ true → is_octal b ≡ true → is_octal c ≡ true → three_digits a b c < 256 → Inside z bytes rest → Inside (92 ∷ a ∷ b ∷ c ∷ z) (three_digits a b c ∷ bytes) rest
+  at_quote : {rest : Text} → Inside (34 ∷ rest) [] rest
+  itself : {b : ℕ} {z bytes rest : Text} → is_ordinary b ≡ true → Inside z bytes rest →
+      Inside (b ∷ z) (b ∷ bytes) rest
+  by_escape : {e b : ℕ} {z bytes rest : Text} → simple_escape e ≡ Some b → Inside z bytes rest →
+      Inside (92 ∷ e ∷ z) (b ∷ bytes) rest
+  one_digit : {a : ℕ} {z bytes rest : Text} → is_octal a ≡ true →
+      is_octal (slice_index z 0) ≡ false → Inside z bytes rest →
+      Inside (92 ∷ a ∷ z) ((a - 48) ∷ bytes) rest
+  two_octal : {a b : ℕ} {z bytes rest : Text} → is_octal a ≡ true → is_octal b ≡ true →
+      (is_octal (slice_index z 0) ≡ true → 256 ≤ three_digits a b (slice_index z 0)) →
+      Inside z bytes rest → Inside (92 ∷ a ∷ b ∷ z) (two_digits a b ∷ bytes) rest
+  three_octal : {a b c : ℕ} {z bytes rest : Text} → is_octal a ≡ true → is_octal b ≡ true →
+      is_octal c ≡ true → three_digits a b c < 256 → Inside z bytes rest →
+      Inside (92 ∷ a ∷ b ∷ c ∷ z) (three_digits a b c ∷ bytes) rest
 
 -- bytes that can stand between slashes: a backslash takes the byte after it along
 abbrev pub is_plain : ℕ → Bool
@@ -124,7 +133,8 @@ pub record Takes (divides : Bool) (z : Text) (t : Tok) (rest : Text) : Type 0 wh
 -- the text is cut into these tokens; the flag says that a slash at its front divides
 pub data CutFrom : Bool → Text → List Tok → Type 0 where
   at_end : {divides : Bool} {z : Text} → Gap z [] → CutFrom divides z []
-  a_token : {divides : Bool} {z rest : Text} {t : Tok} {ts : List Tok} → Takes divides z t rest → CutFrom (divides_after t) rest ts → CutFrom divides z (t ∷ ts)
+  a_token : {divides : Bool} {z rest : Text} {t : Tok} {ts : List Tok} → Takes divides z t rest →
+      CutFrom (divides_after t) rest ts → CutFrom divides z (t ∷ ts)
 
 abbrev pub Cut : Text → List Tok → Type 0
 Cut = CutFrom false

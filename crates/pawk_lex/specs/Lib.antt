@@ -1,12 +1,12 @@
-pub mod Bytes
-pub mod Words
-pub mod Tokens
+pub use Rattle.pawk_token.specs.Bytes
+pub use Rattle.pawk_token.specs.Vocabulary
+pub use Rattle.pawk_token.specs.Tokens
+pub use Rattle.pawk_token.specs.Refusals
 pub mod Gaps
 pub mod Strings
 pub mod Next
 pub mod Cut
 pub mod Canonical
-pub mod Refusals
 pub mod Reads
 pub mod Lexing
-pub mod Reading
+pub mod TokenLists

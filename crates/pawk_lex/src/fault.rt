@@ -3,11 +3,11 @@
 ghost use Rattle.std.specs.Prelude.{◌≡◌, ◌<◌, ◌^◌};
 ghost use Rattle.pawk_lex.specs.declared.fault.Fault.TheVariants as fault;
 
-use crate::refusal::{Cause, SyntaxRefusal};
+use pawk_token::refusal::{Cause, SyntaxRefusal};
 use std::alloc::{AllocError, AllocFailed};
 
 /// A fault: `left` counts the bytes from the one at fault to the end of the text.
-#[derive(Clone, Copy, Debug, PartialEq, Eq)]
+#[derive(Clone, Copy)]
 pub enum Fault {
     At { cause: Cause, left: usize },
     Memory,

@@ -1,11 +1,13 @@
 //! Cuts a text into tokens.
 
-ghost use Rattle.std.specs.Prelude.{◌≡◌, ◌<◌, ◌≤◌, ◌^◌, length, None, IfSome};
+ghost use Rattle.std.specs.Prelude.{◌≡◌, ◌<◌, ◌≤◌, ◌^◌, [], length, None, IfSome, IfErr, IsTrue};
+ghost use Rattle.pawk_token.specs.Refusals.{is_lexer_answer, is_lexer_refusal};
+ghost use Rattle.pawk_lex.specs.Cut.{Gap};
 
-use crate::front::token_at;
-use crate::refusal::SyntaxRefusal;
+use crate::lexemes::token_at;
 use crate::scan::skip;
-use crate::token::{Span, Token};
+use pawk_token::refusal::SyntaxRefusal;
+use pawk_token::token::{Span, Token};
 use std::alloc::Global;
 
 /// Hands out the tokens of a text, one at a time. It walks the text once, and copies no more of
@@ -16,26 +18,27 @@ pub struct Lexer<'t> {
     size: usize,
     rest: &'t [u8],
     divides: bool,
-    refused: Option<SyntaxRefusal>,
+    refusal: Option<SyntaxRefusal>,
     ghost within: { length rest.now ≤ size },
     ghost small: { size < 2 ^ 63 },
+    ghost lexical: { IsTrue (is_lexer_answer refusal) },
 }
 
 impl<'t> Lexer<'t> {
     ghost use Rattle.pawk_lex.specs.Lexing.{state};
-    ghost use Rattle.pawk_lex.specs.Reads.{begun, Lexes, Refuses};
+    ghost use Rattle.pawk_lex.specs.Reads.{start_state, Lexes, Refuses};
 
     /// A lexer that has read nothing of this text. It takes no memory itself; the bytes of its
     /// tokens are taken from this allocator.
     pub fn new(alloc: Global, text: &'t [u8]) -> Lexer<'t>
-        ensures { state result ≡ begun text.now }
+        ensures { state result ≡ start_state text.now }
     {
         Lexer {
             alloc,
             size: text.len(),
             rest: text,
             divides: false,
-            refused: None,
+            refusal: None,
         }
     }
 
@@ -49,12 +52,20 @@ impl<'t> Lexer<'t> {
     /// - `Numeral` for a numeral above 9223372036854775807 or directly before `.`, a letter or `_`;
     /// - `LeftOut` for a name of the standard that the language leaves out, as `sin`.
     ///
-    /// `Memory` comes only where a growth was refused. Each later call answers the same refusal.
+    /// `Memory` comes only where a growth was refused, and only before a name, an expression or a
+    /// string. Each later call answers the same refusal.
     pub fn next(&mut self) -> Result<Option<Token>, SyntaxRefusal>
-        ensures reads { (state self.old).refused ≡ None → Lexes (state self.old) result (state self.new) }
-        ensures again { IfSome (state self.old).refused (λ e. Refuses result e × (state self.new ≡ state self.old)) }
+        ensures reads { let old = state self.old in
+            old.last_refusal ≡ None → Lexes old result (state self.new) }
+        // At the end of the text, and so ever after.
+        ensures end { let old = state self.old in
+            old.last_refusal ≡ None → Gap old.rest [] → result ≡ Ok None }
+        ensures again { let old = state self.old in
+            IfSome old.last_refusal (λ e. Refuses result e × (state self.new ≡ old)) }
+        // The refusals have the numbers 1, 3, 8, 11 and 12.
+        ensures numbers { IfErr result (λ e. IsTrue (is_lexer_refusal e)) }
     {
-        if let Some(refusal) = self.refused {
+        if let Some(refusal) = self.refusal {
             return Err(refusal);
         }
         let text = skip(self.rest);
@@ -74,7 +85,7 @@ impl<'t> Lexer<'t> {
             }
             Err(fault) => {
                 let refusal = fault.refusal(self.size);
-                self.refused = Some(refusal);
+                self.refusal = Some(refusal);
                 Err(refusal)
             }
         }

@@ -3,16 +3,13 @@
 //! whole numbers.
 #![tactic(auto)]
 
+mod bytes;
 mod fault;
-mod front;
 pub mod laws;
+mod lexemes;
 pub mod lexer;
-pub mod reading;
-pub mod refusal;
 mod scan;
-mod signs;
 mod strings;
-#[cfg(test)]
-mod tests;
-pub mod token;
-mod words;
+pub mod token_list;
+
+pub use pawk_token::{refusal, token, vocabulary};

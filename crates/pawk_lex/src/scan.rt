@@ -1,28 +1,12 @@
 //! Runs of bytes.
 
-ghost use Rattle.std.specs.Prelude.{◌≡◌, ◌≢◌, ◌<◌, ◌≤◌, length, slice_index};
+ghost use Rattle.std.specs.Prelude.{◌≡◌, ◌≤◌, length};
 ghost use Rattle.std.specs.Char.{is_ascii_digit};
 ghost use Rattle.std.specs.List.{prefix_len};
-ghost use Rattle.pawk_lex.specs.Bytes as bytes;
+ghost use Rattle.pawk_token.specs.Bytes as bytes;
 ghost use Rattle.pawk_lex.specs.Gaps as spec;
 
-/// Whether this byte may stand in a name.
-pub fn is_name_byte(byte: u8) -> bool
-    ensures { result ≡ bytes.is_name_byte byte }
-{
-    byte.is_ascii_alphanumeric() || byte == b'_'
-}
-
-/// The first byte, or 0 where there is none.
-pub fn first(text: &[u8]) -> u8
-    ensures value { result ≡ slice_index text.now 0 }
-    ensures within { result ≢ 0 → 0 < length text.now }
-{
-    match text {
-        [] => 0,
-        [byte, ..] => *byte,
-    }
-}
+use crate::bytes::is_name_byte;
 
 /// How many digits come first.
 pub fn digit_count(text: &[u8]) -> usize

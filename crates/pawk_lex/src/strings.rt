@@ -1,17 +1,12 @@
 //! The bytes inside strings and between slashes.
 
-ghost use Rattle.std.specs.Prelude.{◌≡◌, ◌≢◌, ◌<◌, ◌≤◌, IsTrue, [], length, slice_index, IfSome, IfOk};
-ghost use Rattle.pawk_lex.specs.Bytes as bytes;
+ghost use Rattle.std.specs.Prelude.{◌≡◌, ◌≢◌, ◌<◌, ◌≤◌, IsTrue, [], length, IfSome, IfOk};
+ghost use Rattle.pawk_token.specs.Bytes as bytes;
 ghost use Rattle.pawk_lex.specs.Gaps.{pass};
 ghost use Rattle.pawk_lex.specs.Strings as spec;
 
+use crate::bytes::{byte_at, is_octal};
 use std::alloc::{AllocError, Global};
-
-fn is_octal(byte: u8) -> bool
-    ensures { result ≡ bytes.is_octal byte }
-{
-    (b'0'..=b'7').contains(&byte)
-}
 
 /// The byte that a backslash and this byte write.
 #[tactic(auto, unfolding(crate::specs::Strings::simple_escape))]
@@ -38,7 +33,8 @@ fn simple_escape(byte: u8) -> Option<u8>
 fn octal_escape(first: u8, second: u8, third: u8) -> Option<(u8, usize)>
     requires { IsTrue (bytes.is_octal first) }
     ensures value { result ≡ spec.octal_escape first second third }
-    ensures within { IfSome result (λ p. (2 ≤ p.1) × (p.1 ≤ 4) × (2 < p.1 → second ≢ 0) × (3 < p.1 → third ≢ 0)) }
+    ensures within { IfSome result (λ p. (2 ≤ p.1) × (p.1 ≤ 4) ×
+        (2 < p.1 → second ≢ 0) × (3 < p.1 → third ≢ 0)) }
 {
     let one = first - b'0';
     if !is_octal(second) {
@@ -51,18 +47,11 @@ fn octal_escape(first: u8, second: u8, third: u8) -> Option<(u8, usize)>
     Some((two, 3))
 }
 
-fn byte_at(text: &[u8], index: usize) -> u8
-    ensures value { result ≡ slice_index text.now index }
-    ensures within { result ≢ 0 → index < length text.now }
-{
-    if index < text.len() { text[index] } else { 0 }
-}
-
 /// The byte that comes next in a string, and how many bytes write it; `None` where the string
 /// ends: at a quote, a newline, the end of the text or a backslash that begins no escape.
-#[tactic(auto, unfolding(crate::specs::Strings::written))]
-fn written(text: &[u8]) -> Option<(u8, usize)>
-    ensures value { result ≡ spec.written text.now }
+#[tactic(auto, unfolding(crate::specs::Strings::string_byte))]
+fn string_byte(text: &[u8]) -> Option<(u8, usize)>
+    ensures value { result ≡ spec.string_byte text.now }
     ensures within { IfSome result (λ p. (1 ≤ p.1) × (p.1 ≤ length text.now)) }
 {
     match text {
@@ -88,7 +77,7 @@ pub fn decode(alloc: Global, mut text: &[u8]) -> Result<(Vec<u8>, &[u8]), AllocE
     ensures { IfOk result (λ p. spec.decode 0 [] text.entry.now ≡ (p.0.items, p.1.now)) }
 {
     let mut decoded = Vec::new(alloc);
-    while let Some((byte, length)) = written(text) {
+    while let Some((byte, length)) = string_byte(text) {
         decoded.push(byte)?;
         text = &text[length..];
     }

@@ -4,7 +4,7 @@ use Rattle.pawk_lex.proofs.Decoding.{decode_done, decode_turn}
 use Rattle.pawk_lex.proofs.strings.decode.Goals as goal
 
 pub returns : goal.returns
-returns c = decode_done _ _ _ (sym c.written.ensures.value ∙ c.in_default.is) c.loop-byte.invariant
+returns c = decode_done _ _ _ (sym c.string_byte.ensures.value ∙ c.in_default.is) c.loop-byte.invariant
 
 pub loop-byte-preserved : goal.loop-byte-preserved
 loop-byte-preserved c =

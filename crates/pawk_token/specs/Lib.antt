@@ -1,0 +1,4 @@
+pub mod Bytes
+pub mod Vocabulary
+pub mod Tokens
+pub mod Refusals
