@@ -11,12 +11,12 @@ NoSeparator separator (b ∷ r) = (b ≢ separator) × NoSeparator separator r
 
 -- The bytes are the records, each followed by the separator, which no record holds.
 -- Only the last may lack it, and then is not empty.
-abbrev pub Spelled : ℕ → List ℕ → List (List ℕ) → Type 0
-Spelled separator bytes [] = bytes ≡ []
-Spelled separator bytes (r ∷ rs) =
+abbrev pub IsSpelledBy : ℕ → List ℕ → List (List ℕ) → Type 0
+IsSpelledBy separator bytes [] = bytes ≡ []
+IsSpelledBy separator bytes (r ∷ rs) =
     NoSeparator separator r
     × (((rs ≡ []) × (r ≢ []) × (bytes ≡ r))
-    ⊎ ((rest : List ℕ) × (bytes ≡ r ++ separator ∷ rest) × Spelled separator rest rs))
+    ⊎ ((rest : List ℕ) × (bytes ≡ r ++ separator ∷ rest) × IsSpelledBy separator rest rs))
 
 -- the records of a file: each ends at the separator; a last one without it counts if it is not empty
 abbrev pub records : ℕ → List ℕ → List (List ℕ)
@@ -27,8 +27,8 @@ records separator (b ∷ s) =
 -- the records are the one list that the bytes are spelled by
 abbrev pub RecordsLaw : ℕ → List ℕ → Type 0
 RecordsLaw separator bytes =
-    Spelled separator bytes (records separator bytes)
-    × ((rs : List (List ℕ)) → Spelled separator bytes rs → rs ≡ records separator bytes)
+    IsSpelledBy separator bytes (records separator bytes)
+    × ((rs : List (List ℕ)) → IsSpelledBy separator bytes rs → rs ≡ records separator bytes)
 
 -- The places at which records begin in bytes that stand from place `at` on, counted as `at` is;
 -- `fresh` tells whether one begins at their first byte.
