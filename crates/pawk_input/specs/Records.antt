@@ -1,6 +1,7 @@
 -- The records of a file, and where they begin.
 -- POSIX.1-2017, awk, "Input Files" and "Variables and Special Variables" (RS).
-use Rattle.std.specs.Prelude.{◌⊎◌, ◌≢◌, ◌++◌, ◌≡◌, ℕ, ◌+◌, ◌-◌, ◌<◌, ◌↔◌, Bool, true, ◌==◌, if◌then◌else◌, List, [], ◌∷◌, slice_index, length, Contains}
+use Rattle.std.specs.Prelude.{◌⊎◌, ◌≢◌, ◌++◌, ◌≡◌, ℕ, ◌+◌, ◌-◌, ◌<◌, ◌↔◌, Bool, true, ◌==◌}
+use Rattle.std.specs.Prelude.{if◌then◌else◌, List, [], ◌∷◌, slice_index, length, Contains}
 use Rattle.std.specs.List.{onto_first}
 use Rattle.std.specs.List.Sorted.{IsStrictlyIncreasing}
 
@@ -18,7 +19,8 @@ IsSpelledBy separator bytes (r ∷ rs) =
     × (((rs ≡ []) × (r ≢ []) × (bytes ≡ r))
     ⊎ ((rest : List ℕ) × (bytes ≡ r ++ separator ∷ rest) × IsSpelledBy separator rest rs))
 
--- the records of a file: each ends at the separator; a last one without it counts if it is not empty
+-- the records of a file: each ends at the separator; a last one without it counts if it is not
+-- empty
 abbrev pub records : ℕ → List ℕ → List (List ℕ)
 records separator [] = []
 records separator (b ∷ s) =
@@ -38,8 +40,8 @@ begins_from separator at fresh (b ∷ s) =
     if fresh then at ∷ begins_from separator (at + 1) (b == separator) s
     else begins_from separator (at + 1) (b == separator) s
 
--- the places, counted from 0, at which records of a file begin: its first byte, and each byte after a
--- separator
+-- the places, counted from 0, at which records of a file begin: its first byte, and each byte
+-- after a separator
 abbrev pub begins : ℕ → List ℕ → List ℕ
 begins separator bytes = begins_from separator 0 true bytes
 

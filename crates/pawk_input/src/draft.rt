@@ -135,8 +135,8 @@ impl Draft {
         Ok(())
     }
 
-    /// Adds the next file's chunks: one that begins with it, and one more at each of these cuts, all
-    /// of them in it.
+    /// Adds the next file's chunks: one that begins with it, and one more at each of these cuts,
+    /// all of them in it.
     pub(crate) fn add_at_cuts(
         &mut self,
         file: usize,

@@ -16,7 +16,7 @@ use std::marker::Model;
 pub const LIMIT: u64 = 4_611_686_018_427_387_904;
 
 /// The files hold more than [`LIMIT`] bytes together.
-#[derive(Clone, Copy, Debug, PartialEq, Eq)]
+#[derive(Clone, Copy, Debug)]
 pub struct TooLarge;
 
 impl fmt::Display for TooLarge {

@@ -31,12 +31,12 @@ impl Model for Plan {
 }
 
 impl Plan {
-    /// The plan by size: a chunk ends before the first record that begins at least `bytes` bytes past
-    /// the chunk's begin, or at the end of its file; a file with records always begins a chunk.
+    /// The plan by size: a chunk ends before the first record that begins at least `bytes` bytes
+    /// past the chunk's begin, or at the end of its file; a file with records always begins a chunk.
     ///
     /// `rs` holds the one byte at which records end.
     ///
-    /// Gives `TooMany` where that are more than [`MOST_CHUNKS`] chunks, and `Memory` where memory was
+    /// Gives `TooMany` where that are more than 1,048,576 chunks, and `Memory` where memory was
     /// refused.
     pub fn by_size(alloc: Global, input: &Input, rs: &[u8], bytes: u64) -> Result<Plan, CutRefusal>
         requires one_byte { length rs.now ≡ 1 }
@@ -62,9 +62,9 @@ impl Plan {
     /// `rs` holds the one byte at which records end.
     ///
     /// Gives what is wrong with the first cut at fault: `NoRecord` where no record after its file's
-    /// first begins there, else `NotRising` where it does not come after the cut before it, by files
-    /// first, then by offsets. Where no cut is at fault it gives `TooMany` where that are more than
-    /// [`MOST_CHUNKS`] chunks, and `Memory` where memory was refused.
+    /// first begins there, else `NotRising` where it does not come after the cut before it, by
+    /// files first, then by offsets. Where no cut is at fault it gives `TooMany` where that are more
+    /// than 1,048,576 chunks, and `Memory` where memory was refused.
     pub fn at(
         alloc: Global,
         input: &Input,

@@ -36,7 +36,8 @@ impl<'a> Model for Records<'a> {
 
     ghost invariant = { λ r.
         (r.nr + length (items_ahead
-        (r.separator ∷ []) r.file r.name.now r.nr r.fnr r.rest.now (files_of r.later.now)) ≤ most_bytes)
+        (r.separator ∷ []) r.file r.name.now r.nr r.fnr r.rest.now (files_of r.later.now))
+        ≤ most_bytes)
         × (r.fnr ≤ r.nr)
         × (r.file + length r.later.now < 2 ^ 64)
         × (length r.rest.now + total_size (files_of r.later.now) ≤ most_bytes) };
