@@ -3,7 +3,7 @@ use Rattle.std.proofs.Common.{◌≡◌, ◌≢◌, ℕ, true, false, not, cond,
 use Rattle.std.proofs.lemmas.Bool.{false≢true}
 use Rattle.std.specs.List.{onto_first}
 use Rattle.pawk_value.specs.Bytes.{is_blank}
-use Rattle.pawk_input.specs.Fields.{AllBlank, NoBlank, EndsWord, Separated, begins_word, blank_fields, FieldsLaw}
+use Rattle.pawk_input.specs.Fields.{AllBlank, NoBlank, EndsWord, IsPartedInto, begins_word, blank_fields, FieldsLaw}
 
 -- ---- uniqueness
 
@@ -27,7 +27,7 @@ of_word (b ∷ x ∷ f) rest some word ends =
     let later = of_word (x ∷ f) rest (λ z. cc) word.1 ends in
     rw (word.0, word.1.0) (ap (onto_first b) (rw word.1.0 at later))
 
-unique : (s : List ℕ) (fs : List (List ℕ)) → Separated s fs → fs ≡ blank_fields s
+unique : (s : List ℕ) (fs : List (List ℕ)) → IsPartedInto s fs → fs ≡ blank_fields s
 unique s [] h = sym (of_blanks s h)
 unique s (f ∷ fs) h =
     ap (λ l. f ∷ l) (unique h.1 fs h.7)
@@ -38,36 +38,36 @@ unique s (f ∷ fs) h =
 -- ---- existence
 
 -- one more blank in front
-more_gap : (b : ℕ) (s : List ℕ) (fs : List (List ℕ)) → is_blank b ≡ true → Separated s fs → Separated (b ∷ s) fs
+more_gap : (b : ℕ) (s : List ℕ) (fs : List (List ℕ)) → is_blank b ≡ true → IsPartedInto s fs → IsPartedInto (b ∷ s) fs
 more_gap b s [] h d = (h, d)
 more_gap b s (f ∷ fs) h d = (b ∷ d.0, d.1, ap (λ l. b ∷ l) d.2, (h, d.3), d.4, d.5, d.6, d.7)
 
 -- one more byte of the word in front
-longer_word : (b x : ℕ) (s : List ℕ) (fs : List (List ℕ)) → is_blank b ≡ false → is_blank x ≡ false → Separated (x ∷ s) fs → Separated (b ∷ x ∷ s) (onto_first b fs)
+longer_word : (b x : ℕ) (s : List ℕ) (fs : List (List ℕ)) → is_blank b ≡ false → is_blank x ≡ false → IsPartedInto (x ∷ s) fs → IsPartedInto (b ∷ x ∷ s) (onto_first b fs)
 longer_word b x s [] h word d = absurd (false≢true (sym word ∙ d.0))
 longer_word b x s (f ∷ fs) h word d = no_gap d.0 d.2 d.3
   where
-    no_gap : (gap : List ℕ) → x ∷ s ≡ gap ++ (f ++ d.1) → AllBlank gap → Separated (b ∷ x ∷ s) ((b ∷ f) ∷ fs)
+    no_gap : (gap : List ℕ) → x ∷ s ≡ gap ++ (f ++ d.1) → AllBlank gap → IsPartedInto (b ∷ x ∷ s) ((b ∷ f) ∷ fs)
     no_gap [] is blank = ([], d.1, ap (λ l. b ∷ l) is, tt, (λ z. cc), (h, d.5), d.6, d.7)
     no_gap (g ∷ gap) is blank = let same : x ≡ g = cc in absurd (false≢true (sym word ∙ ap is_blank same ∙ blank.0))
 
 -- a word of one byte in front
-new_word : (b : ℕ) (s : List ℕ) (fs : List (List ℕ)) → is_blank b ≡ false → EndsWord s → Separated s fs → Separated (b ∷ s) ((b ∷ []) ∷ fs)
+new_word : (b : ℕ) (s : List ℕ) (fs : List (List ℕ)) → is_blank b ≡ false → EndsWord s → IsPartedInto s fs → IsPartedInto (b ∷ s) ((b ∷ []) ∷ fs)
 new_word b s fs h ends d = ([], s, refl, tt, (λ z. cc), (h, tt), ends, d)
 
-in_word : (b : ℕ) (s : List ℕ) → is_blank b ≡ false → Separated s (blank_fields s) → Separated (b ∷ s) (cond (begins_word s) (onto_first b (blank_fields s)) ((b ∷ []) ∷ blank_fields s))
+in_word : (b : ℕ) (s : List ℕ) → is_blank b ≡ false → IsPartedInto s (blank_fields s) → IsPartedInto (b ∷ s) (cond (begins_word s) (onto_first b (blank_fields s)) ((b ∷ []) ∷ blank_fields s))
 in_word b [] h d = new_word b [] [] h tt d
 in_word b (x ∷ s) h d =
-    elim (is_blank x) as (λ v. (is_blank x ≡ v) → Separated (b ∷ x ∷ s) (cond (not v) (onto_first b (blank_fields (x ∷ s))) ((b ∷ []) ∷ blank_fields (x ∷ s)))) [
+    elim (is_blank x) as (λ v. (is_blank x ≡ v) → IsPartedInto (b ∷ x ∷ s) (cond (not v) (onto_first b (blank_fields (x ∷ s))) ((b ∷ []) ∷ blank_fields (x ∷ s)))) [
       | true ↦ (λ e. new_word b (x ∷ s) (blank_fields (x ∷ s)) h e d)
       | false ↦ (λ e. longer_word b x s (blank_fields (x ∷ s)) h e d)
     ] refl
 
-separated : (s : List ℕ) → Separated s (blank_fields s)
+separated : (s : List ℕ) → IsPartedInto s (blank_fields s)
 separated [] = tt
 separated (b ∷ s) =
     let rest = separated s in
-    elim (is_blank b) as (λ v. (is_blank b ≡ v) → Separated (b ∷ s) (cond v (blank_fields s) (cond (begins_word s) (onto_first b (blank_fields s)) ((b ∷ []) ∷ blank_fields s)))) [
+    elim (is_blank b) as (λ v. (is_blank b ≡ v) → IsPartedInto (b ∷ s) (cond v (blank_fields s) (cond (begins_word s) (onto_first b (blank_fields s)) ((b ∷ []) ∷ blank_fields s)))) [
       | true ↦ (λ e. more_gap b s (blank_fields s) e rest)
       | false ↦ (λ e. in_word b s e rest)
     ] refl

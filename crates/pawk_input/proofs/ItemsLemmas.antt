@@ -1,25 +1,25 @@
 -- Numbered records.
 use Rattle.std.proofs.Common.{◌≡◌, ℕ, ◌+◌, ◌≤◌, List, [], ◌∷◌, ◌++◌, length, refl, ap, arith, ◌∙◌, add-zero, length-append, zero, suc, take, drop, length-drop, length-take}
 use Rattle.pawk_input.specs.Records.{records_by, separator_of}
-use Rattle.pawk_input.specs.Input.{File, file_at, total_size, numbered, items_from}
+use Rattle.pawk_input.specs.Input.{File, file_at, total_size, file_items, items_from}
 use Rattle.std.proofs.lemmas.List.{append-nil}
 use Rattle.pawk_input.specs.Walk.{items_ahead}
 use Rattle.pawk_input.proofs.RecordsLemmas.{length-records}
 
-pub length-numbered : (file : ℕ) (name : List ℕ) (nr fnr : ℕ) (rs : List (List ℕ)) → length (numbered file name nr fnr rs) ≡ length rs
-length-numbered file name nr fnr [] = refl
-length-numbered file name nr fnr (r ∷ rs) = omega (arith, length-numbered file name (nr + 1) (fnr + 1) rs)
+pub length-file_items : (file : ℕ) (name : List ℕ) (nr fnr : ℕ) (rs : List (List ℕ)) → length (file_items file name nr fnr rs) ≡ length rs
+length-file_items file name nr fnr [] = refl
+length-file_items file name nr fnr (r ∷ rs) = omega (arith, length-file_items file name (nr + 1) (fnr + 1) rs)
 
 -- there are no more records than bytes
 pub length-items_from : (rs : List ℕ) (file nr : ℕ) (fs : List File) → length (items_from rs file nr fs) ≤ total_size fs
 length-items_from rs file nr [] = omega arith
 length-items_from rs file nr (f ∷ fs) =
-    omega (arith, length-append (numbered file f.name nr 0 (records_by rs f.bytes)) (items_from rs (file + 1) (nr + length (records_by rs f.bytes)) fs), length-numbered file f.name nr 0 (records_by rs f.bytes), length-records (separator_of rs) f.bytes, length-items_from rs (file + 1) (nr + length (records_by rs f.bytes)) fs)
+    omega (arith, length-append (file_items file f.name nr 0 (records_by rs f.bytes)) (items_from rs (file + 1) (nr + length (records_by rs f.bytes)) fs), length-file_items file f.name nr 0 (records_by rs f.bytes), length-records (separator_of rs) f.bytes, length-items_from rs (file + 1) (nr + length (records_by rs f.bytes)) fs)
 
 -- as many items are ahead in a file alone as it has records left
 pub length-items_ahead_alone : (rs : List ℕ) (file : ℕ) (name : List ℕ) (nr fnr : ℕ) (rest : List ℕ) → length (items_ahead rs file name nr fnr rest []) ≡ length (records_by rs rest)
 length-items_ahead_alone rs file name nr fnr rest =
-    ap length (append-nil (numbered file name nr fnr (records_by rs rest))) ∙ length-numbered file name nr fnr (records_by rs rest)
+    ap length (append-nil (file_items file name nr fnr (records_by rs rest))) ∙ length-file_items file name nr fnr (records_by rs rest)
 
 -- past the end of a file stand the records of the next
 pub next_file : (rs : List ℕ) (file : ℕ) (name : List ℕ) (nr fnr : ℕ) (f : File) (fs : List File) → items_ahead rs file name nr fnr [] (f ∷ fs) ≡ items_ahead rs (file + 1) f.name nr 0 f.bytes fs
@@ -30,7 +30,7 @@ pub next_record : (rs : List ℕ) (file : ℕ) (name : List ℕ) (nr fnr : ℕ) 
     → items_ahead rs file name nr fnr rest later ≡ record { bytes = r; file = file; name = name; nr = nr + 1; fnr = fnr + 1 } ∷ items_ahead rs file name (nr + 1) (fnr + 1) more later
 next_record rs file name nr fnr rest r more later e =
     let count : nr + length (r ∷ records_by rs more) ≡ nr + 1 + length (records_by rs more) = omega arith in
-    rw e (ap (λ n. numbered file name nr fnr (r ∷ records_by rs more) ++ items_from rs (file + 1) n later) count)
+    rw e (ap (λ n. file_items file name nr fnr (r ∷ records_by rs more) ++ items_from rs (file + 1) n later) count)
 
 -- a file holds no more than all files
 pub length-file_at : (fs : List File) (k : ℕ) → length (file_at fs k).bytes ≤ total_size fs

@@ -1,7 +1,7 @@
 pub mod RecordsLemmas
 pub mod RecordsLawLemmas
 pub mod FieldsLemmas
-pub mod WordsLemmas
+pub mod FieldWalkLemmas
 pub mod FieldsLawLemmas
 pub mod ItemsLemmas
 pub mod CutLemmas

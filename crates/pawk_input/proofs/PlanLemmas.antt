@@ -6,25 +6,25 @@ use Rattle.std.proofs.lemmas.List.Elements.{All-nil, All-cons, All-head, All-tai
 use Rattle.std.proofs.lemmas.List.Concat.{flat_map-append}
 use Rattle.std.specs.List.{flat_map, slice_range, Contains}
 use Rattle.pawk_input.specs.Records.{records, records_by, begins_by, begins_from, separator_of}
-use Rattle.pawk_input.specs.Input.{File, Item, file_at, empty_file, numbered, items_from, total_size}
-use Rattle.pawk_input.specs.Plan.{IsPlanOf, IsChunkOf, Rises, chunk_bytes, chunk_items, chunks_at, planned, spaced, spaced_from}
+use Rattle.pawk_input.specs.Input.{File, Item, file_at, empty_file, file_items, items_from, total_size}
+use Rattle.pawk_input.specs.Plan.{IsPlanOf, IsChunkOf, Rises, chunk_bytes, chunk_items, chunks_at, chunks_of, places_by_size, places_by_size_from}
 use Rattle.pawk_input.specs.declared.cutting.Chunk.{Chunk}
 use Rattle.pawk_input.proofs.RecordsLemmas.{some_records}
 use Rattle.pawk_input.proofs.CutLemmas.{IsCut, records_parts, length-records-part, contains_cut}
-use Rattle.pawk_input.proofs.ItemsLemmas.{length-numbered, length-items_from}
+use Rattle.pawk_input.proofs.ItemsLemmas.{length-file_items, length-items_from}
 
-numbered-append : (file : ℕ) (name : List ℕ) (nr fnr : ℕ) (xs ys : List (List ℕ)) → numbered file name nr fnr (xs ++ ys) ≡ numbered file name nr fnr xs ++ numbered file name (nr + length xs) (fnr + length xs) ys
-numbered-append file name nr fnr [] ys =
+file_items-append : (file : ℕ) (name : List ℕ) (nr fnr : ℕ) (xs ys : List (List ℕ)) → file_items file name nr fnr (xs ++ ys) ≡ file_items file name nr fnr xs ++ file_items file name (nr + length xs) (fnr + length xs) ys
+file_items-append file name nr fnr [] ys =
     let a : nr ≡ nr + 0 = omega arith in
     let b : fnr ≡ fnr + 0 = omega arith in
-    ap (λ n. numbered file name n fnr ys) a ∙ ap (λ n. numbered file name (nr + 0) n ys) b
-numbered-append file name nr fnr (x ∷ xs) ys =
+    ap (λ n. file_items file name n fnr ys) a ∙ ap (λ n. file_items file name (nr + 0) n ys) b
+file_items-append file name nr fnr (x ∷ xs) ys =
     let a : nr + 1 + length xs ≡ nr + length (x ∷ xs) = omega arith in
     let b : fnr + 1 + length xs ≡ fnr + length (x ∷ xs) = omega arith in
-    let front = record { bytes = x; file = file; name = name; nr = nr + 1; fnr = fnr + 1 } ∷ numbered file name (nr + 1) (fnr + 1) xs in
-    ap (λ l. record { bytes = x; file = file; name = name; nr = nr + 1; fnr = fnr + 1 } ∷ l) (numbered-append file name (nr + 1) (fnr + 1) xs ys)
-    ∙ ap (λ n. front ++ numbered file name n (fnr + 1 + length xs) ys) a
-    ∙ ap (λ n. front ++ numbered file name (nr + length (x ∷ xs)) n ys) b
+    let front = record { bytes = x; file = file; name = name; nr = nr + 1; fnr = fnr + 1 } ∷ file_items file name (nr + 1) (fnr + 1) xs in
+    ap (λ l. record { bytes = x; file = file; name = name; nr = nr + 1; fnr = fnr + 1 } ∷ l) (file_items-append file name (nr + 1) (fnr + 1) xs ys)
+    ∙ ap (λ n. front ++ file_items file name n (fnr + 1 + length xs) ys) a
+    ∙ ap (λ n. front ++ file_items file name (nr + length (x ∷ xs)) n ys) b
 
 -- ---- the chunks of one file
 
@@ -35,16 +35,16 @@ module _ (rs : List ℕ) (files : List File) (k nr : ℕ) (name bytes : List ℕ
   abbrev chunk_of : ℕ → ℕ → Chunk
   chunk_of p q = record { file = k; range = record { start = p; end = q }; nr = nr + before p; fnr = before p }
 
-  items_of_chunk : (p q : ℕ) → chunk_items rs files (chunk_of p q) ≡ numbered k name (nr + before p) (before p) (records_by rs (take (q - p) (drop p bytes)))
-  items_of_chunk p q = ap (λ (f : File). numbered k f.name (nr + before p) (before p) (records_by rs (slice_range f.bytes p q))) is_file
+  items_of_chunk : (p q : ℕ) → chunk_items rs files (chunk_of p q) ≡ file_items k name (nr + before p) (before p) (records_by rs (take (q - p) (drop p bytes)))
+  items_of_chunk p q = ap (λ (f : File). file_items k f.name (nr + before p) (before p) (records_by rs (slice_range f.bytes p q))) is_file
 
   abbrev e : ℕ
   e = separator_of rs
 
   items_of_chunks : (p : ℕ) (qs : List ℕ) → IsCut e bytes p → p < length bytes → Rises e bytes p qs
-      → flat_map (chunk_items rs files) (chunks_at rs k bytes nr (p ∷ qs)) ≡ numbered k name (nr + before p) (before p) (records_by rs (drop p bytes))
+      → flat_map (chunk_items rs files) (chunks_at rs k bytes nr (p ∷ qs)) ≡ file_items k name (nr + before p) (before p) (records_by rs (drop p bytes))
   items_of_chunks p [] cut lt rising =
-      append-nil _ ∙ items_of_chunk p (length bytes) ∙ ap (λ l. numbered k name (nr + before p) (before p) (records_by rs l)) (take_rest bytes p)
+      append-nil _ ∙ items_of_chunk p (length bytes) ∙ ap (λ l. file_items k name (nr + before p) (before p) (records_by rs l)) (take_rest bytes p)
   items_of_chunks p (q ∷ qs) cut lt rising =
       let part = take (q - p) (drop p bytes) in
       let rest = drop p bytes in
@@ -58,11 +58,11 @@ module _ (rs : List ℕ) (files : List File) (k nr : ℕ) (name bytes : List ℕ
       let nrs : nr + before q ≡ nr + before p + length (records_by rs part) = omega arith in
       let later = items_of_chunks q qs (inr (omega (arith, rising.0), omega (arith, rising.1), rising.2)) rising.1 rising.3 in
       ap (λ l. l ++ flat_map (chunk_items rs files) (chunks_at rs k bytes nr (q ∷ qs))) (items_of_chunk p q)
-      ∙ ap (λ l. numbered k name (nr + before p) (before p) (records_by rs part) ++ l) (later
-      ∙ ap (λ n. numbered k name n (before q) (records_by rs (drop q bytes))) nrs
-      ∙ ap (λ n. numbered k name (nr + before p + length (records_by rs part)) n (records_by rs (drop q bytes))) count)
-      ∙ sym (numbered-append k name (nr + before p) (before p) (records_by rs part) (records_by rs (drop q bytes)))
-      ∙ ap (numbered k name (nr + before p) (before p)) (sym parted)
+      ∙ ap (λ l. file_items k name (nr + before p) (before p) (records_by rs part) ++ l) (later
+      ∙ ap (λ n. file_items k name n (before q) (records_by rs (drop q bytes))) nrs
+      ∙ ap (λ n. file_items k name (nr + before p + length (records_by rs part)) n (records_by rs (drop q bytes))) count)
+      ∙ sym (file_items-append k name (nr + before p) (before p) (records_by rs part) (records_by rs (drop q bytes)))
+      ∙ ap (file_items k name (nr + before p) (before p)) (sym parted)
 
   module _ (exists : k < length files) where
     is_chunk : (p q : ℕ) → IsCut e bytes p → p < q → q ≤ length bytes → IsChunkOf rs files (chunk_of p q)
@@ -70,7 +70,7 @@ module _ (rs : List ℕ) (files : List File) (k nr : ℕ) (name bytes : List ℕ
         let part = take (q - p) (drop p bytes) in
         let long : length part ≡ q - p = length-take-le (q - p) (drop p bytes) (omega (arith, length-drop p bytes)) in
         let some = some_records e part (omega (arith, long)) in
-        let count = ap length (items_of_chunk p q) ∙ length-numbered k name (nr + before p) (before p) (records_by rs part) in
+        let count = ap length (items_of_chunk p q) ∙ length-file_items k name (nr + before p) (before p) (records_by rs part) in
         record {
           exists = exists;
           rises = lt;
@@ -95,12 +95,12 @@ Picked e (b ∷ s) (p ∷ ps) = (p ≡ 0) × Rises e (b ∷ s) 0 ps
 
 module _ (rs : List ℕ) (files : List File) (k nr : ℕ) (name : List ℕ) where
   items_of_file : (bytes ps : List ℕ) → file_at files k ≡ record { name = name; bytes = bytes } → Picked (separator_of rs) bytes ps
-      → flat_map (chunk_items rs files) (chunks_at rs k bytes nr ps) ≡ numbered k name nr 0 (records_by rs bytes)
+      → flat_map (chunk_items rs files) (chunks_at rs k bytes nr ps) ≡ file_items k name nr 0 (records_by rs bytes)
   items_of_file [] ps is_file h = rw h refl
   items_of_file (b ∷ s) [] is_file h = absurd h
   items_of_file (b ∷ s) (p ∷ ps) is_file h =
       rw h.0 (items_of_chunks rs files k nr name (b ∷ s) is_file 0 ps (inl refl) (omega arith) h.1
-      ∙ ap (λ n. numbered k name n 0 (records_by rs (b ∷ s))) (let z : nr + 0 ≡ nr = omega arith in z))
+      ∙ ap (λ n. file_items k name n 0 (records_by rs (b ∷ s))) (let z : nr + 0 ≡ nr = omega arith in z))
 
   each_of_file : (bytes ps : List ℕ) → file_at files k ≡ record { name = name; bytes = bytes } → k < length files → Picked (separator_of rs) bytes ps
       → All (λ c. IsChunkOf rs files c) (chunks_at rs k bytes nr ps)
@@ -128,25 +128,25 @@ module _ (rs : List ℕ) (files : List File) (chosen : ℕ → List ℕ → List
   picked_of : (k : ℕ) (f : File) → file_at files k ≡ f → Picked (separator_of rs) f.bytes (chosen k (begins_by rs f.bytes))
   picked_of k f h = subst (λ (g : File). Picked (separator_of rs) g.bytes (chosen k (begins_by rs g.bytes))) h (picked k)
 
-  items_of_plan : (k nr : ℕ) (fs : List File) → drop k files ≡ fs → flat_map (chunk_items rs files) (planned rs chosen k nr fs) ≡ items_from rs k nr fs
+  items_of_plan : (k nr : ℕ) (fs : List File) → drop k files ≡ fs → flat_map (chunk_items rs files) (chunks_of rs chosen k nr fs) ≡ items_from rs k nr fs
   items_of_plan k nr [] h = refl
   items_of_plan k nr (f ∷ fs) h =
       let here = first_left k f fs h in
       let count = nr + length (records_by rs f.bytes) in
-      flat_map-append (chunk_items rs files) (chunks_at rs k f.bytes nr (chosen k (begins_by rs f.bytes))) (planned rs chosen (k + 1) count fs)
-      ∙ ap (λ l. l ++ flat_map (chunk_items rs files) (planned rs chosen (k + 1) count fs)) (items_of_file rs files k nr f.name f.bytes (chosen k (begins_by rs f.bytes)) here (picked_of k f here))
-      ∙ ap (λ l. numbered k f.name nr 0 (records_by rs f.bytes) ++ l) (items_of_plan (k + 1) count fs (later_left k f fs h))
+      flat_map-append (chunk_items rs files) (chunks_at rs k f.bytes nr (chosen k (begins_by rs f.bytes))) (chunks_of rs chosen (k + 1) count fs)
+      ∙ ap (λ l. l ++ flat_map (chunk_items rs files) (chunks_of rs chosen (k + 1) count fs)) (items_of_file rs files k nr f.name f.bytes (chosen k (begins_by rs f.bytes)) here (picked_of k f here))
+      ∙ ap (λ l. file_items k f.name nr 0 (records_by rs f.bytes) ++ l) (items_of_plan (k + 1) count fs (later_left k f fs h))
 
-  each_of_plan : (k nr : ℕ) (fs : List File) → drop k files ≡ fs → All (λ c. IsChunkOf rs files c) (planned rs chosen k nr fs)
+  each_of_plan : (k nr : ℕ) (fs : List File) → drop k files ≡ fs → All (λ c. IsChunkOf rs files c) (chunks_of rs chosen k nr fs)
   each_of_plan k nr [] h = All-nil (λ c. IsChunkOf rs files c)
   each_of_plan k nr (f ∷ fs) h =
       let here = first_left k f fs h in
       let count = nr + length (records_by rs f.bytes) in
-      All-append (λ c. IsChunkOf rs files c) (chunks_at rs k f.bytes nr (chosen k (begins_by rs f.bytes))) (planned rs chosen (k + 1) count fs)
+      All-append (λ c. IsChunkOf rs files c) (chunks_at rs k f.bytes nr (chosen k (begins_by rs f.bytes))) (chunks_of rs chosen (k + 1) count fs)
       (each_of_file rs files k nr f.name f.bytes (chosen k (begins_by rs f.bytes)) here (is_there k f fs h) (picked_of k f here))
       (each_of_plan (k + 1) count fs (later_left k f fs h))
 
-  pub is_plan : IsPlanOf rs files (planned rs chosen 0 0 files)
+  pub is_plan : IsPlanOf rs files (chunks_of rs chosen 0 0 files)
   is_plan = record { whole = items_of_plan 0 0 files refl; each = each_of_plan 0 0 files refl }
 
 -- ---- by size
@@ -156,12 +156,12 @@ module _ (e : ℕ) (s : List ℕ) where
   Rises-lower p q [] le h = tt
   Rises-lower p q (x ∷ xs) le h = (omega (arith, h.0), h.1, h.2, h.3)
 
-  Rises-spaced : (size from p : ℕ) (xs : List ℕ) → Rises e s p xs → Rises e s p (spaced_from size from xs)
-  Rises-spaced size from p [] h = tt
-  Rises-spaced size from p (x ∷ xs) h =
-      let kept = Rises-spaced size x x xs h.3 in
-      let later = Rises-lower p x (spaced_from size from xs) (omega (arith, h.0)) (Rises-spaced size from x xs h.3) in
-      elim (leb (from + size) x) as (λ v. Rises e s p (cond v (x ∷ spaced_from size x xs) (spaced_from size from xs))) [
+  Rises-places_by_size : (size from p : ℕ) (xs : List ℕ) → Rises e s p xs → Rises e s p (places_by_size_from size from xs)
+  Rises-places_by_size size from p [] h = tt
+  Rises-places_by_size size from p (x ∷ xs) h =
+      let kept = Rises-places_by_size size x x xs h.3 in
+      let later = Rises-lower p x (places_by_size_from size from xs) (omega (arith, h.0)) (Rises-places_by_size size from x xs h.3) in
+      elim (leb (from + size) x) as (λ v. Rises e s p (cond v (x ∷ places_by_size_from size x xs) (places_by_size_from size from xs))) [
         | true ↦ (h.0, h.1, h.2, kept)
         | false ↦ later
       ]
@@ -180,10 +180,10 @@ module _ (e : ℕ) (s : List ℕ) where
         | false ↦ (λ f. Rises-begins t (at + 1) p (eqb b e) more (omega arith) ends)
       ] h
 
-pub picked_by_size : (e size : ℕ) (s : List ℕ) → Picked e s (spaced size (begins_from e 0 true s))
+pub picked_by_size : (e size : ℕ) (s : List ℕ) → Picked e s (places_by_size size (begins_from e 0 true s))
 picked_by_size e size [] = refl
 picked_by_size e size (b ∷ s) =
-    (refl, Rises-spaced e (b ∷ s) size 0 0 (begins_from e (0 + 1) (eqb b e) s) (Rises-begins e (b ∷ s) s (0 + 1) 0 (eqb b e) refl (omega arith) (λ is. eqb-true b e is)))
+    (refl, Rises-places_by_size e (b ∷ s) size 0 0 (begins_from e (0 + 1) (eqb b e) s) (Rises-begins e (b ∷ s) s (0 + 1) 0 (eqb b e) refl (omega arith) (λ is. eqb-true b e is)))
 
 -- ---- a loop over the files
 
@@ -191,17 +191,17 @@ module _ (rs : List ℕ) (files : List File) (chosen : ℕ → List ℕ → List
     (there : file < length files) (is_bytes : bytes ≡ (file_at files file).bytes) where
   -- the chunks of what is left are those of the next file, and those after it
   pub planned_next : (later : ℕ) → later ≡ nr + length (records_by rs bytes)
-      → planned rs chosen file nr (drop file files) ≡ chunks_at rs file bytes nr (chosen file (begins_by rs bytes)) ++ planned rs chosen (file + 1) later (drop (file + 1) files)
+      → chunks_of rs chosen file nr (drop file files) ≡ chunks_at rs file bytes nr (chosen file (begins_by rs bytes)) ++ chunks_of rs chosen (file + 1) later (drop (file + 1) files)
   planned_next later count =
-      ap (planned rs chosen file nr) (drop_more files file empty_file there)
-      ∙ ap (λ s. chunks_at rs file s nr (chosen file (begins_by rs s)) ++ planned rs chosen (file + 1) (nr + length (records_by rs s)) (drop (file + 1) files)) (sym is_bytes)
-      ∙ ap (λ n. chunks_at rs file bytes nr (chosen file (begins_by rs bytes)) ++ planned rs chosen (file + 1) n (drop (file + 1) files)) (sym count)
+      ap (chunks_of rs chosen file nr) (drop_more files file empty_file there)
+      ∙ ap (λ s. chunks_at rs file s nr (chosen file (begins_by rs s)) ++ chunks_of rs chosen (file + 1) (nr + length (records_by rs s)) (drop (file + 1) files)) (sym is_bytes)
+      ∙ ap (λ n. chunks_at rs file bytes nr (chosen file (begins_by rs bytes)) ++ chunks_of rs chosen (file + 1) n (drop (file + 1) files)) (sym count)
 
   -- once the next file's chunks are there, those of the files after it are left
   pub planned_turn : (later : ℕ) (old new all : List Chunk) → later ≡ nr + length (records_by rs bytes) → new ≡ old ++ chunks_at rs file bytes nr (chosen file (begins_by rs bytes))
-      → old ++ planned rs chosen file nr (drop file files) ≡ all → new ++ planned rs chosen (file + 1) later (drop (file + 1) files) ≡ all
+      → old ++ chunks_of rs chosen file nr (drop file files) ≡ all → new ++ chunks_of rs chosen (file + 1) later (drop (file + 1) files) ≡ all
   planned_turn later old new all count added is =
-      let rest = planned rs chosen (file + 1) later (drop (file + 1) files) in
+      let rest = chunks_of rs chosen (file + 1) later (drop (file + 1) files) in
       ap (λ l. l ++ rest) added ∙ append_assoc old (chunks_at rs file bytes nr (chosen file (begins_by rs bytes))) rest
       ∙ ap (λ l. old ++ l) (sym (planned_next later count)) ∙ is
 
@@ -211,7 +211,7 @@ module _ (rs : List ℕ) (files : List File) (chosen : ℕ → List ℕ → List
 
 -- ---- a chunk of a plan
 
--- numbered items rise by one from the n before them, and no number in a file passes the number among
+-- file_items items rise by one from the n before them, and no number in a file passes the number among
 -- all
 abbrev pub Counted : ℕ → List Item → Type 0
 Counted n [] = Unit {0}
@@ -229,23 +229,23 @@ Counted-after n (x ∷ xs) ys h =
     let same : n + 1 + length xs ≡ n + length (x ∷ xs) = omega arith in
     subst (λ m. Counted m ys) same (Counted-after (n + 1) xs ys h.2)
 
-Counted-numbered : (file : ℕ) (name : List ℕ) (nr fnr : ℕ) (rs : List (List ℕ)) → fnr ≤ nr → Counted nr (numbered file name nr fnr rs)
-Counted-numbered file name nr fnr [] le = tt
-Counted-numbered file name nr fnr (r ∷ rs) le = (refl, omega arith, Counted-numbered file name (nr + 1) (fnr + 1) rs (omega arith))
+Counted-file_items : (file : ℕ) (name : List ℕ) (nr fnr : ℕ) (rs : List (List ℕ)) → fnr ≤ nr → Counted nr (file_items file name nr fnr rs)
+Counted-file_items file name nr fnr [] le = tt
+Counted-file_items file name nr fnr (r ∷ rs) le = (refl, omega arith, Counted-file_items file name (nr + 1) (fnr + 1) rs (omega arith))
 
 Counted-items_from : (rs : List ℕ) (file nr : ℕ) (fs : List File) → Counted nr (items_from rs file nr fs)
 Counted-items_from rs file nr [] = tt
 Counted-items_from rs file nr (f ∷ fs) =
-    let front = numbered file f.name nr 0 (records_by rs f.bytes) in
-    let same : nr + length (records_by rs f.bytes) ≡ nr + length front = omega (arith, length-numbered file f.name nr 0 (records_by rs f.bytes)) in
+    let front = file_items file f.name nr 0 (records_by rs f.bytes) in
+    let same : nr + length (records_by rs f.bytes) ≡ nr + length front = omega (arith, length-file_items file f.name nr 0 (records_by rs f.bytes)) in
     let later = items_from rs (file + 1) (nr + length (records_by rs f.bytes)) fs in
-    Counted-append nr front later (Counted-numbered file f.name nr 0 (records_by rs f.bytes) (omega arith))
+    Counted-append nr front later (Counted-file_items file f.name nr 0 (records_by rs f.bytes) (omega arith))
     (subst (λ m. Counted m later) same (Counted-items_from rs (file + 1) (nr + length (records_by rs f.bytes)) fs))
 
 module _ (rs : List ℕ) (files : List File) where
-  -- of numbered records that are some, the ones before them are counted right
-  counted_first : (n file : ℕ) (name : List ℕ) (nr fnr : ℕ) (records : List (List ℕ)) (more : List Item) → 0 < length (numbered file name nr fnr records)
-      → Counted n (numbered file name nr fnr records ++ more) → (nr ≡ n) × (fnr ≤ nr)
+  -- of file_items records that are some, the ones before them are counted right
+  counted_first : (n file : ℕ) (name : List ℕ) (nr fnr : ℕ) (records : List (List ℕ)) (more : List Item) → 0 < length (file_items file name nr fnr records)
+      → Counted n (file_items file name nr fnr records ++ more) → (nr ≡ n) × (fnr ≤ nr)
   counted_first n file name nr fnr [] more some h = absurd (omega arith)
   counted_first n file name nr fnr (r ∷ records) more some h = (omega (arith, h.0), omega (arith, h.1))
 
@@ -256,10 +256,10 @@ module _ (rs : List ℕ) (files : List File) where
   counted_chunk n [] i d lt each h = absurd (omega arith)
   counted_chunk n (c ∷ cs) zero d lt each h =
       let first = All-head (λ c. IsChunkOf rs files c) c cs each in
-      let front = numbered c.file (file_at files c.file).name c.nr c.fnr (records_by rs (chunk_bytes files c)) in
+      let front = file_items c.file (file_at files c.file).name c.nr c.fnr (records_by rs (chunk_bytes files c)) in
       let right = counted_first n c.file (file_at files c.file).name c.nr c.fnr (records_by rs (chunk_bytes files c)) (flat_map (chunk_items rs files) cs) first.some h in
       let long = length-append front (flat_map (chunk_items rs files) cs) in
-      let count = length-numbered c.file (file_at files c.file).name c.nr c.fnr (records_by rs (chunk_bytes files c)) in
+      let count = length-file_items c.file (file_at files c.file).name c.nr c.fnr (records_by rs (chunk_bytes files c)) in
       (omega (arith, right.0, long, count), right.1)
   counted_chunk n (c ∷ cs) (suc i) d lt each h =
       let front = chunk_items rs files c in

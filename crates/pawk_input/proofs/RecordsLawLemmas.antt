@@ -2,7 +2,7 @@
 use Rattle.std.proofs.Common.{◌≡◌, ◌≢◌, inl, inr, ℕ, true, false, eqb, List, [], ◌∷◌, ◌++◌, refl, ap, sym, ◌∙◌}
 use Rattle.std.proofs.lemmas.Bool.Decides.{eqb_tells}
 use Rattle.std.specs.List.{onto_first}
-use Rattle.pawk_input.specs.Records.{records, NoSeparator, Spelled, RecordsLaw}
+use Rattle.pawk_input.specs.Records.{records, NoSeparator, IsSpelledBy, RecordsLaw}
 
 module _ (e : ℕ) where
   not_separator : (b : ℕ) → b ≢ e → eqb b e ≡ false
@@ -20,14 +20,14 @@ module _ (e : ℕ) where
   alone (b ∷ []) n some = rw (not_separator b n.0) refl
   alone (b ∷ x ∷ r) n some = rw (not_separator b n.0) (ap (onto_first b) (alone (x ∷ r) n.1 (λ z. cc)))
 
-  unique : (s : List ℕ) (rs : List (List ℕ)) → Spelled e s rs → rs ≡ records e s
+  unique : (s : List ℕ) (rs : List (List ℕ)) → IsSpelledBy e s rs → rs ≡ records e s
   unique s [] h = rw h refl
   unique s (r ∷ rs) h = elim h.1 [
     | inl last ↦ rw (last.0, last.2) (sym (alone r h.0 last.1))
     | inr next ↦ (ap (λ l. r ∷ l) (unique next.0 rs next.2) ∙ sym (more r next.0 h.0) ∙ ap (records e) (sym next.1))
   ]
 
-  grown : (b : ℕ) (s : List ℕ) (rs : List (List ℕ)) → b ≢ e → Spelled e s rs → Spelled e (b ∷ s) (onto_first b rs)
+  grown : (b : ℕ) (s : List ℕ) (rs : List (List ℕ)) → b ≢ e → IsSpelledBy e s rs → IsSpelledBy e (b ∷ s) (onto_first b rs)
   grown b s [] n h = ((n, tt), inl (refl, (λ z. cc), ap (λ l. b ∷ l) h))
   grown b s (r ∷ rs) n h = (
     (n, h.0),
@@ -37,7 +37,7 @@ module _ (e : ℕ) where
     ],
   )
 
-  spelled : (s : List ℕ) → Spelled e s (records e s)
+  spelled : (s : List ℕ) → IsSpelledBy e s (records e s)
   spelled [] = refl
   spelled (b ∷ s) =
       let rest = spelled s in

@@ -1,6 +1,7 @@
 -- The fields of a record that blanks separate.
 -- POSIX.1-2017, awk, "Variables and Special Variables" (FS), the default: one space.
-use Rattle.std.specs.Prelude.{◌≢◌, ◌++◌, ◌≡◌, ℕ, Bool, true, false, not, if◌then◌else◌, List, [], ◌∷◌}
+use Rattle.std.specs.Prelude.{◌≢◌, ◌++◌, ◌≡◌, ℕ, Bool, true, false, not}
+use Rattle.std.specs.Prelude.{if◌then◌else◌, List, [], ◌∷◌}
 use Rattle.std.specs.List.{onto_first}
 use Rattle.pawk_value.specs.Bytes.{is_blank}
 
@@ -24,10 +25,11 @@ EndsWord (b ∷ s) = is_blank b ≡ true
 
 -- The record is blanks, a field, at least one blank, a field, .., a field, blanks:
 -- no field is empty or holds a blank, and there may be no blanks at either end.
-abbrev pub Separated : List ℕ → List (List ℕ) → Type 0
-Separated s [] = AllBlank s
-Separated s (f ∷ fs) =
-    (gap rest : List ℕ) × (s ≡ gap ++ (f ++ rest)) × AllBlank gap × (f ≢ []) × NoBlank f × EndsWord rest × Separated rest fs
+abbrev pub IsPartedInto : List ℕ → List (List ℕ) → Type 0
+IsPartedInto s [] = AllBlank s
+IsPartedInto s (f ∷ fs) =
+    (gap rest : List ℕ) × (s ≡ gap ++ (f ++ rest)) × AllBlank gap
+    × (f ≢ []) × NoBlank f × EndsWord rest × IsPartedInto rest fs
 
 -- whether the first byte is there and no blank
 abbrev pub begins_word : List ℕ → Bool
@@ -43,4 +45,6 @@ blank_fields (b ∷ s) =
 
 -- the fields are the one list that the record is parted into
 abbrev pub FieldsLaw : List ℕ → Type 0
-FieldsLaw s = Separated s (blank_fields s) × ((fs : List (List ℕ)) → Separated s fs → fs ≡ blank_fields s)
+FieldsLaw s =
+    IsPartedInto s (blank_fields s)
+    × ((fs : List (List ℕ)) → IsPartedInto s fs → fs ≡ blank_fields s)

@@ -45,23 +45,23 @@ pub record Item : Type 0 where
 abbrev pub item_of : LentItem → Item
 item_of i = record { bytes = i.bytes.now; file = i.file; name = i.name.now; nr = i.nr; fnr = i.fnr }
 
--- records of one file with their numbers: each has numbers greater by one than the record before it,
--- and before the first came nr records, fnr of them in this file
-abbrev pub numbered : ℕ → List ℕ → ℕ → ℕ → List (List ℕ) → List Item
-numbered file name nr fnr [] = []
-numbered file name nr fnr (r ∷ rs) =
+-- records of one file with their numbers: each has numbers greater by one than the record before
+-- it, and before the first came nr records, fnr of them in this file
+abbrev pub file_items : ℕ → List ℕ → ℕ → ℕ → List (List ℕ) → List Item
+file_items file name nr fnr [] = []
+file_items file name nr fnr (r ∷ rs) =
     record { bytes = r; file = file; name = name; nr = nr + 1; fnr = fnr + 1 }
-    ∷ numbered file name (nr + 1) (fnr + 1) rs
+    ∷ file_items file name (nr + 1) (fnr + 1) rs
 
--- the records of files of which the first stands at place `file` and before which nr records came; fnr
--- begins anew in each
+-- the records of files of which the first stands at place `file` and before which nr records came;
+-- fnr begins anew in each
 abbrev pub items_from : List ℕ → ℕ → ℕ → List File → List Item
 items_from rs file nr [] = []
 items_from rs file nr (f ∷ fs) =
-    numbered file f.name nr 0 (records_by rs f.bytes)
+    file_items file f.name nr 0 (records_by rs f.bytes)
     ++ items_from rs (file + 1) (nr + length (records_by rs f.bytes)) fs
 
--- all records of all files in order, by the bytes of RS: no record spans two files, and a file without
--- records changes nothing
+-- all records of all files in order, by the bytes of RS: no record spans two files, and a file
+-- without records changes nothing
 abbrev pub items : List ℕ → List File → List Item
 items rs files = items_from rs 0 0 files

@@ -1,3 +1,4 @@
+pub mod Limits
 pub mod Records
 pub mod Input
 pub mod Walk

@@ -1,11 +1,16 @@
--- Chunks of the input: a plan writes the list of all records as consecutive runs, none over two files.
-use Rattle.std.specs.Prelude.{ℕ, ◌+◌, ◌-◌, ◌≡◌, ◌≢◌, ◌⊎◌, ◌<◌, ◌≤◌, Bool, true, nat_lt, nat_le, ◌==◌, ◌||◌, ◌&&◌, if◌then◌else◌, List, [], ◌∷◌, ◌++◌, length, take, drop, All, Contains, Option, None, Some, MatchOption, slice_range, slice_index}
+-- Chunks of the input: a plan writes the list of all records as consecutive runs, none over two
+-- files.
+use Rattle.std.specs.Prelude.{ℕ, ◌+◌, ◌-◌, ◌≡◌, ◌≢◌, ◌⊎◌, ◌<◌, ◌≤◌, Bool, true, nat_lt, nat_le}
+use Rattle.std.specs.Prelude.{◌==◌, ◌||◌, ◌&&◌, if◌then◌else◌, List, [], ◌∷◌, ◌++◌, length, take}
+use Rattle.std.specs.Prelude.{drop, All, Contains, Option, None, Some, MatchOption}
+use Rattle.std.specs.Prelude.{slice_range, slice_index}
 use Rattle.std.specs.List.{slice_index_or, flat_map, list_any}
 use Rattle.pawk_input.specs.Records.{records_by, begins_by}
-use Rattle.pawk_input.specs.Input.{File, Item, file_at, numbered, items}
+use Rattle.pawk_input.specs.Input.{File, Item, file_at, file_items, items}
 use Rattle.pawk_input.specs.declared.cutting.Chunk.{Chunk}
 use Rattle.pawk_input.specs.declared.cutting.CutRefusal.{CutRefusal}
-use Rattle.pawk_input.specs.declared.cutting.CutRefusal.TheVariants.{NoRecord, NotRising, TooMany, Memory}
+use Rattle.pawk_input.specs.declared.cutting.CutRefusal.TheVariants.{NoRecord, NotRising}
+use Rattle.pawk_input.specs.declared.cutting.CutRefusal.TheVariants.{TooMany, Memory}
 
 -- the bytes of a chunk's range
 abbrev pub chunk_bytes : List File → Chunk → List ℕ
@@ -14,7 +19,8 @@ chunk_bytes files c = slice_range (file_at files c.file).bytes c.range.start c.r
 -- the records of a chunk's range, with their numbers: before the first came c.nr records, c.fnr of
 -- them in this file
 abbrev pub chunk_items : List ℕ → List File → Chunk → List Item
-chunk_items rs files c = numbered c.file (file_at files c.file).name c.nr c.fnr (records_by rs (chunk_bytes files c))
+chunk_items rs files c =
+    file_items c.file (file_at files c.file).name c.nr c.fnr (records_by rs (chunk_bytes files c))
 
 -- a chunk lies in a file, its first record begins where its range begins, and it has one
 pub record IsChunkOf (rs : List ℕ) (files : List File) (c : Chunk) : Type 0 where
@@ -30,8 +36,8 @@ pub record IsPlanOf (rs : List ℕ) (files : List File) (chunks : List Chunk) : 
   pub each : All (λ c. IsChunkOf rs files c) chunks
 
 -- The chunks of a file that begin at these places: each reaches to the next place, the last to the
--- file's end. Before the file came nr records; those of the bytes before a chunk are the ones before
--- it in its file.
+-- file's end. Before the file came nr records; those of the bytes before a chunk are the ones
+-- before it in its file.
 abbrev pub chunks_at : List ℕ → ℕ → List ℕ → ℕ → List ℕ → List Chunk
 chunks_at rs file bytes nr [] = []
 chunks_at rs file bytes nr (p ∷ ps) =
@@ -44,31 +50,33 @@ chunks_at rs file bytes nr (p ∷ ps) =
     ∷ chunks_at rs file bytes nr ps
 
 -- The chunks of files of which the first stands at place `file` and before which nr records came.
--- `chosen` takes a file's place and the places where its records begin to those where its chunks do.
-abbrev pub planned : List ℕ → (ℕ → List ℕ → List ℕ) → ℕ → ℕ → List File → List Chunk
-planned rs chosen file nr [] = []
-planned rs chosen file nr (f ∷ fs) =
+-- `chosen` takes a file's place and the places where its records begin to those where its chunks
+-- do.
+abbrev pub chunks_of : List ℕ → (ℕ → List ℕ → List ℕ) → ℕ → ℕ → List File → List Chunk
+chunks_of rs chosen file nr [] = []
+chunks_of rs chosen file nr (f ∷ fs) =
     chunks_at rs file f.bytes nr (chosen file (begins_by rs f.bytes))
-    ++ planned rs chosen (file + 1) (nr + length (records_by rs f.bytes)) fs
+    ++ chunks_of rs chosen (file + 1) (nr + length (records_by rs f.bytes)) fs
 
 -- ---- by size
 
--- of places that rise, each first one that lies at least `size` past the one taken before it; the one
--- before the first is `from`
-abbrev pub spaced_from : ℕ → ℕ → List ℕ → List ℕ
-spaced_from size from [] = []
-spaced_from size from (p ∷ ps) =
-    if nat_le (from + size) p then p ∷ spaced_from size p ps else spaced_from size from ps
+-- of places that rise, each first one that lies at least `size` past the one taken before it; the
+-- one before the first is `from`
+abbrev pub places_by_size_from : ℕ → ℕ → List ℕ → List ℕ
+places_by_size_from size from [] = []
+places_by_size_from size from (p ∷ ps) =
+    if nat_le (from + size) p then p ∷ places_by_size_from size p ps
+    else places_by_size_from size from ps
 
 -- the first place, and each first one that lies at least `size` past the one taken before it
-abbrev pub spaced : ℕ → List ℕ → List ℕ
-spaced size [] = []
-spaced size (p ∷ ps) = p ∷ spaced_from size p ps
+abbrev pub places_by_size : ℕ → List ℕ → List ℕ
+places_by_size size [] = []
+places_by_size size (p ∷ ps) = p ∷ places_by_size_from size p ps
 
 -- The plan by size: a chunk ends before the first record that begins at least `size` bytes past the
 -- chunk's begin, or at the end of the file; a file with records always begins a chunk.
 abbrev pub sized : List ℕ → List File → ℕ → List Chunk
-sized rs files size = planned rs (λ _ places. spaced size places) 0 0 files
+sized rs files size = chunks_of rs (λ _ places. places_by_size size places) 0 0 files
 
 -- ---- at cuts, each a file's place and an offset in it, both counted from 0
 
@@ -84,11 +92,12 @@ cut_places cuts file (p ∷ ps) = p ∷ offsets file cuts
 
 -- the plan at cuts
 abbrev pub cut_at : List ℕ → List File → List (ℕ × ℕ) → List Chunk
-cut_at rs files cuts = planned rs (cut_places cuts) 0 0 files
+cut_at rs files cuts = chunks_of rs (cut_places cuts) 0 0 files
 
 -- whether a record after its file's first begins at the cut
 abbrev pub begins_record : List ℕ → List File → ℕ × ℕ → Bool
-begins_record rs files cut = list_any (λ p. cut.1 == p) (drop 1 (begins_by rs (file_at files cut.0).bytes))
+begins_record rs files cut =
+    list_any (λ p. cut.1 == p) (drop 1 (begins_by rs (file_at files cut.0).bytes))
 
 -- whether a cut comes after the cut before it, if there is one: by files first, then by offsets
 abbrev pub is_after : Option (ℕ × ℕ) → ℕ × ℕ → Bool
@@ -109,18 +118,21 @@ cut_fault rs files cuts = cut_fault_from rs files None cuts
 
 -- ---- what the two plans are refused with
 
--- a list of so many chunks is refused because that is more than `most`, or because memory was refused
+-- a list of so many chunks is refused because that is more than `most`, or because memory was
+-- refused
 abbrev pub RefusesMany : ℕ → ℕ → CutRefusal → Type 0
 RefusesMany count most NoRecord = ⊥
 RefusesMany count most NotRising = ⊥
 RefusesMany count most TooMany = most < count
 RefusesMany count most Memory = Unit {0}
 
--- a cutting is refused with what is wrong with the first cut at fault; where none is, because it has
--- more than `most` chunks, or because memory was refused
+-- a cutting is refused with what is wrong with the first cut at fault; where none is, because it
+-- has more than `most` chunks, or because memory was refused
 abbrev pub RefusesCuts : List ℕ → List File → List (ℕ × ℕ) → ℕ → CutRefusal → Type 0
 RefusesCuts rs files cuts most refusal =
-    MatchOption (cut_fault rs files cuts) (RefusesMany (length (cut_at rs files cuts)) most refusal) (λ fault. refusal ≡ fault)
+    MatchOption (cut_fault rs files cuts)
+    (RefusesMany (length (cut_at rs files cuts)) most refusal)
+    (λ fault. refusal ≡ fault)
 
 -- ---- steps of the plans
 
@@ -136,4 +148,5 @@ pub record IsPiece (separator size : ℕ) (s : List ℕ) (n : ℕ) : Type 0 wher
 abbrev pub Rises : ℕ → List ℕ → ℕ → List ℕ → Type 0
 Rises separator bytes p [] = Unit {0}
 Rises separator bytes p (q ∷ qs) =
-    (p < q) × (q < length bytes) × (slice_index bytes (q - 1) ≡ separator) × Rises separator bytes q qs
+    (p < q) × (q < length bytes) × (slice_index bytes (q - 1) ≡ separator)
+    × Rises separator bytes q qs

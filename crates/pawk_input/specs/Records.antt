@@ -1,6 +1,7 @@
 -- The records of a file, and where they begin.
 -- POSIX.1-2017, awk, "Input Files" and "Variables and Special Variables" (RS).
-use Rattle.std.specs.Prelude.{◌⊎◌, ◌≢◌, ◌++◌, ◌≡◌, ℕ, ◌+◌, ◌-◌, ◌<◌, ◌↔◌, Bool, true, ◌==◌, if◌then◌else◌, List, [], ◌∷◌, slice_index, length, Contains}
+use Rattle.std.specs.Prelude.{◌⊎◌, ◌≢◌, ◌++◌, ◌≡◌, ℕ, ◌+◌, ◌-◌, ◌<◌, ◌↔◌, Bool, true, ◌==◌}
+use Rattle.std.specs.Prelude.{if◌then◌else◌, List, [], ◌∷◌, slice_index, length, Contains}
 use Rattle.std.specs.List.{onto_first}
 use Rattle.std.specs.List.Sorted.{IsStrictlyIncreasing}
 
@@ -11,14 +12,15 @@ NoSeparator separator (b ∷ r) = (b ≢ separator) × NoSeparator separator r
 
 -- The bytes are the records, each followed by the separator, which no record holds.
 -- Only the last may lack it, and then is not empty.
-abbrev pub Spelled : ℕ → List ℕ → List (List ℕ) → Type 0
-Spelled separator bytes [] = bytes ≡ []
-Spelled separator bytes (r ∷ rs) =
+abbrev pub IsSpelledBy : ℕ → List ℕ → List (List ℕ) → Type 0
+IsSpelledBy separator bytes [] = bytes ≡ []
+IsSpelledBy separator bytes (r ∷ rs) =
     NoSeparator separator r
     × (((rs ≡ []) × (r ≢ []) × (bytes ≡ r))
-    ⊎ ((rest : List ℕ) × (bytes ≡ r ++ separator ∷ rest) × Spelled separator rest rs))
+    ⊎ ((rest : List ℕ) × (bytes ≡ r ++ separator ∷ rest) × IsSpelledBy separator rest rs))
 
--- the records of a file: each ends at the separator; a last one without it counts if it is not empty
+-- the records of a file: each ends at the separator; a last one without it counts if it is not
+-- empty
 abbrev pub records : ℕ → List ℕ → List (List ℕ)
 records separator [] = []
 records separator (b ∷ s) =
@@ -27,8 +29,8 @@ records separator (b ∷ s) =
 -- the records are the one list that the bytes are spelled by
 abbrev pub RecordsLaw : ℕ → List ℕ → Type 0
 RecordsLaw separator bytes =
-    Spelled separator bytes (records separator bytes)
-    × ((rs : List (List ℕ)) → Spelled separator bytes rs → rs ≡ records separator bytes)
+    IsSpelledBy separator bytes (records separator bytes)
+    × ((rs : List (List ℕ)) → IsSpelledBy separator bytes rs → rs ≡ records separator bytes)
 
 -- The places at which records begin in bytes that stand from place `at` on, counted as `at` is;
 -- `fresh` tells whether one begins at their first byte.
@@ -38,8 +40,8 @@ begins_from separator at fresh (b ∷ s) =
     if fresh then at ∷ begins_from separator (at + 1) (b == separator) s
     else begins_from separator (at + 1) (b == separator) s
 
--- the places, counted from 0, at which records of a file begin: its first byte, and each byte after a
--- separator
+-- the places, counted from 0, at which records of a file begin: its first byte, and each byte
+-- after a separator
 abbrev pub begins : ℕ → List ℕ → List ℕ
 begins separator bytes = begins_from separator 0 true bytes
 

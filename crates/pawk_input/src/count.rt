@@ -44,10 +44,10 @@ pub(crate) fn count_records(bytes: &[u8], separator: u8) -> usize
     if bytes.is_empty() {
         return 0;
     }
-    let ended = count_byte(bytes, separator);
+    let ends = count_byte(bytes, separator);
     if bytes[bytes.len() - 1] == separator {
-        ended
+        ends
     } else {
-        ended + 1
+        ends + 1
     }
 }

@@ -9,7 +9,7 @@ use std::ops::Range;
 pub const MOST_CHUNKS: usize = 1_048_576;
 
 /// A run of records of one file: the bytes of a range that begins where its first record begins.
-#[derive(Debug, PartialEq, Eq, Drop)]
+#[derive(Drop)]
 pub struct Chunk {
     /// The file's place in the list of files, counted from 0.
     pub file: usize,

@@ -1,12 +1,14 @@
 //! A plan in the making.
 
-ghost use Rattle.std.specs.Prelude.{◌≡◌, ℕ, ◌+◌, ◌<◌, ◌≤◌, ◌^◌, [], ◌∷◌, ◌++◌, map, length, vec_len, OnOk, IfOk, IfErr};
+ghost use Rattle.std.specs.Prelude.{◌≡◌, ℕ, ◌+◌, ◌<◌, ◌≤◌, ◌^◌, [], ◌∷◌, ◌++◌, map, length};
+ghost use Rattle.std.specs.Prelude.{vec_len, OnOk, IfOk, IfErr};
+ghost use Rattle.pawk_input.specs.Limits.{most_bytes, most_chunks};
 ghost use Rattle.pawk_input.specs.Records.{records, records_by, begins_by, separator_of};
-ghost use Rattle.pawk_input.specs.Plan.{IsPiece, RefusesMany, Rises, chunks_at, cut_places, offsets, spaced};
+ghost use Rattle.pawk_input.specs.Plan.{IsPiece, RefusesMany, Rises};
+ghost use Rattle.pawk_input.specs.Plan.{chunks_at, cut_places, offsets, places_by_size};
 
 use crate::count::count_records;
 use crate::cutting::{Chunk, CutRefusal, MOST_CHUNKS};
-use crate::files::LIMIT;
 use memchr::memchr;
 use std::alloc::Global;
 
@@ -30,10 +32,10 @@ fn piece_length(rest: &[u8], separator: u8, size: u64) -> usize
 
 /// Appends a chunk.
 fn add_chunk(chunks: &mut Vec<Chunk>, chunk: Chunk) -> Result<(), CutRefusal>
-    requires { vec_len chunks.old ≤ MOST_CHUNKS }
+    requires { vec_len chunks.old ≤ most_chunks }
     ensures added { OnOk result (chunks.new.items ≡ chunks.old.items ++ chunk ∷ []) }
-    ensures few { OnOk result (vec_len chunks.new ≤ MOST_CHUNKS) }
-    ensures refused { IfErr result (RefusesMany (vec_len chunks.old + 1) MOST_CHUNKS) }
+    ensures few { OnOk result (vec_len chunks.new ≤ most_chunks) }
+    ensures refused { IfErr result (RefusesMany (vec_len chunks.old + 1) most_chunks) }
 {
     if chunks.len() == MOST_CHUNKS {
         return Err(CutRefusal::TooMany);
@@ -61,8 +63,8 @@ impl Draft {
         }
     }
 
-    /// Adds a chunk of the next file: `part` stands there from place `start` on, after `fnr` records.
-    /// Gives how many records come before what follows it.
+    /// Adds a chunk of the next file: `part` stands there from place `start` on, after `fnr`
+    /// records. Gives how many records come before what follows it.
     fn add_part(
         &mut self,
         file: usize,
@@ -71,9 +73,9 @@ impl Draft {
         separator: u8,
         fnr: u64,
     ) -> Result<u64, CutRefusal>
-        requires room { self.old.nr + fnr + length part.now ≤ LIMIT }
+        requires room { self.old.nr + fnr + length part.now ≤ most_bytes }
         requires within { start + length part.now < 2 ^ 64 }
-        requires few { vec_len self.old.chunks ≤ MOST_CHUNKS }
+        requires few { vec_len self.old.chunks ≤ most_chunks }
         ensures added { OnOk result (self.new.chunks.items ≡ self.old.chunks.items
             ++ record {
               file = file;
@@ -83,8 +85,8 @@ impl Draft {
             } ∷ []) }
         ensures counted { IfOk result (λ n. n ≡ fnr + length (records separator part.now)) }
         ensures nr { OnOk result (self.new.nr ≡ self.old.nr) }
-        ensures few { OnOk result (vec_len self.new.chunks ≤ MOST_CHUNKS) }
-        ensures refused { IfErr result (RefusesMany (vec_len self.old.chunks + 1) MOST_CHUNKS) }
+        ensures few { OnOk result (vec_len self.new.chunks ≤ most_chunks) }
+        ensures refused { IfErr result (RefusesMany (vec_len self.old.chunks + 1) most_chunks) }
     {
         let chunk = Chunk {
             file,
@@ -106,18 +108,20 @@ impl Draft {
     ) -> Result<(), CutRefusal>
         requires one_byte { length rs.now ≡ 1 }
         requires sized { 0 < size }
-        requires room { self.old.nr + length bytes.now ≤ LIMIT }
-        requires few { vec_len self.old.chunks ≤ MOST_CHUNKS }
+        requires room { self.old.nr + length bytes.now ≤ most_bytes }
+        requires few { vec_len self.old.chunks ≤ most_chunks }
         ensures chunks { OnOk result (self.new.chunks.items
             ≡ self.old.chunks.items
-            ++ chunks_at rs.now file bytes.now self.old.nr (spaced size (begins_by rs.now bytes.now))) }
-        ensures counted { OnOk result (self.new.nr ≡ self.old.nr + length (records_by rs.now bytes.now)) }
-        ensures few { OnOk result (vec_len self.new.chunks ≤ MOST_CHUNKS) }
+            ++ chunks_at rs.now file bytes.now self.old.nr
+            (places_by_size size (begins_by rs.now bytes.now))) }
+        ensures counted { OnOk result
+            (self.new.nr ≡ self.old.nr + length (records_by rs.now bytes.now)) }
+        ensures few { OnOk result (vec_len self.new.chunks ≤ most_chunks) }
         ensures refused { IfErr result (RefusesMany
             (vec_len self.old.chunks
             + length (chunks_at rs.now file bytes.now self.old.nr
-            (spaced size (begins_by rs.now bytes.now))))
-            MOST_CHUNKS) }
+            (places_by_size size (begins_by rs.now bytes.now))))
+            most_chunks) }
     {
         let mut start = 0;
         let mut fnr = 0;
@@ -131,8 +135,8 @@ impl Draft {
         Ok(())
     }
 
-    /// Adds the next file's chunks: one that begins with it, and one more at each of these cuts, all
-    /// of them in it.
+    /// Adds the next file's chunks: one that begins with it, and one more at each of these cuts,
+    /// all of them in it.
     pub(crate) fn add_at_cuts(
         &mut self,
         file: usize,
@@ -141,21 +145,22 @@ impl Draft {
         cuts: &[(usize, usize)],
     ) -> Result<(), CutRefusal>
         requires one_byte { length rs.now ≡ 1 }
-        requires room { self.old.nr + length bytes.now ≤ LIMIT }
-        requires few { vec_len self.old.chunks ≤ MOST_CHUNKS }
+        requires room { self.old.nr + length bytes.now ≤ most_bytes }
+        requires few { vec_len self.old.chunks ≤ most_chunks }
         requires here { offsets file cuts.now ≡ map (λ cut. cut.1) cuts.now }
         requires rising { Rises (separator_of rs.now) bytes.now 0 (offsets file cuts.now) }
         ensures chunks { OnOk result (self.new.chunks.items
             ≡ self.old.chunks.items
             ++ chunks_at rs.now file bytes.now self.old.nr
             (cut_places cuts.now file (begins_by rs.now bytes.now))) }
-        ensures counted { OnOk result (self.new.nr ≡ self.old.nr + length (records_by rs.now bytes.now)) }
-        ensures few { OnOk result (vec_len self.new.chunks ≤ MOST_CHUNKS) }
+        ensures counted { OnOk result
+            (self.new.nr ≡ self.old.nr + length (records_by rs.now bytes.now)) }
+        ensures few { OnOk result (vec_len self.new.chunks ≤ most_chunks) }
         ensures refused { IfErr result (RefusesMany
             (vec_len self.old.chunks
             + length (chunks_at rs.now file bytes.now self.old.nr
             (cut_places cuts.now file (begins_by rs.now bytes.now))))
-            MOST_CHUNKS) }
+            most_chunks) }
     {
         if bytes.is_empty() {
             return Ok(());

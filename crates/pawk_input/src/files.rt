@@ -1,6 +1,8 @@
 //! The input: a list of files.
 
-ghost use Rattle.std.specs.Prelude.{◌≡◌, ℕ, ◌+◌, ◌<◌, ◌≤◌, ◌↔◌, [], ◌∷◌, length, IsTrue, MatchResult};
+ghost use Rattle.std.specs.Prelude.{◌≡◌, ℕ, ◌+◌, ◌<◌, ◌≤◌, ◌↔◌, [], ◌∷◌, length, IsTrue};
+ghost use Rattle.std.specs.Prelude.{MatchResult};
+ghost use Rattle.pawk_input.specs.Limits.{most_bytes};
 ghost use Rattle.pawk_input.specs.Records.{separator_of};
 ghost use Rattle.pawk_input.specs.Input.{files_of, file_at, total_size, items};
 ghost use Rattle.pawk_input.specs.Walk.{items_left};
@@ -14,7 +16,7 @@ use std::marker::Model;
 pub const LIMIT: u64 = 4_611_686_018_427_387_904;
 
 /// The files hold more than [`LIMIT`] bytes together.
-#[derive(Clone, Copy, Debug, PartialEq, Eq)]
+#[derive(Clone, Copy, Debug)]
 pub struct TooLarge;
 
 impl fmt::Display for TooLarge {
@@ -33,18 +35,18 @@ pub struct Input {
 
 impl Model for Input {
     ghost use Rattle.std.specs.Prelude.{◌≤◌, List};
-    ghost use Rattle.pawk_input.specs.declared.files.TheConstants.{LIMIT};
+    ghost use Rattle.pawk_input.specs.Limits.{most_bytes};
     ghost use Rattle.pawk_input.specs.Input.{File, files_of, total_size};
 
     ghost Value = { List File };
 
     ghost view = { λ input. files_of input.files.items };
 
-    ghost invariant = { λ input. total_size (files_of input.files.items) ≤ LIMIT };
+    ghost invariant = { λ input. total_size (files_of input.files.items) ≤ most_bytes };
 }
 
 fn are_limited(files: &[(Vec<u8>, Vec<u8>)]) -> bool
-    ensures { IsTrue result ↔ (total_size (files_of files.now) ≤ LIMIT) }
+    ensures { IsTrue result ↔ (total_size (files_of files.now) ≤ most_bytes) }
 {
     let mut total = 0u64;
     for file in files {
@@ -64,8 +66,8 @@ impl Input {
     /// then given up.
     pub fn new(files: Vec<(Vec<u8>, Vec<u8>)>) -> Result<Input, TooLarge>
         ensures { MatchResult result
-            (λ input. (input ≡ files_of files.items) × (total_size input ≤ LIMIT))
-            (λ _. LIMIT < total_size (files_of files.items)) }
+            (λ input. (input ≡ files_of files.items) × (total_size input ≤ most_bytes))
+            (λ _. most_bytes < total_size (files_of files.items)) }
     {
         if are_limited(&files) {
             Ok(Input { files })
@@ -77,7 +79,7 @@ impl Input {
     /// How many files there are.
     pub fn files(&self) -> usize
         ensures count { result ≡ length self.now }
-        ensures limited { total_size self.now ≤ LIMIT }
+        ensures limited { total_size self.now ≤ most_bytes }
     {
         self.files.len()
     }
@@ -102,7 +104,7 @@ impl Input {
     pub(crate) fn bytes(&self, file: usize) -> &[u8]
         requires { file < length self.now }
         ensures value { result.now ≡ (file_at self.now file).bytes }
-        ensures limited { total_size self.now ≤ LIMIT }
+        ensures limited { total_size self.now ≤ most_bytes }
     {
         &self.files[file].1
     }
@@ -115,7 +117,7 @@ impl Input {
     pub fn records(&self, rs: &[u8]) -> Records<'_>
         requires { length rs.now ≡ 1 }
         ensures walk { items_left result ≡ items rs.now self.now }
-        ensures limited { total_size self.now ≤ LIMIT }
+        ensures limited { total_size self.now ≤ most_bytes }
     {
         Records::of_files(rs[0], &self.files)
     }

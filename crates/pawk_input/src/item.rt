@@ -1,7 +1,7 @@
 //! A record as a walk hands it out.
 
 ghost use Rattle.std.specs.Prelude.{◌≤◌, length};
-ghost use Rattle.pawk_input.specs.declared.files.TheConstants.{LIMIT};
+ghost use Rattle.pawk_input.specs.Limits.{most_bytes};
 
 /// A record, lent from the input.
 #[derive(Clone, Copy)]
@@ -16,7 +16,7 @@ pub struct Item<'a> {
     pub nr: u64,
     /// The record's number in its file, counted from 1 (`FNR`).
     pub fnr: u64,
-    pub ghost counted: { nr ≤ LIMIT },
+    pub ghost counted: { nr ≤ most_bytes },
     pub ghost in_file: { fnr ≤ nr },
-    pub ghost short: { length bytes.now ≤ LIMIT },
+    pub ghost short: { length bytes.now ≤ most_bytes },
 }

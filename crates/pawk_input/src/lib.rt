@@ -2,23 +2,19 @@
 //! records into chunks.
 #![tactic(auto)]
 
-mod blanks;
+mod blank_fields;
 mod count;
 mod cuts;
 mod cutting;
 mod draft;
 mod files;
 mod item;
-mod planning;
-#[cfg(test)]
-mod tests;
+mod plan;
 mod walk;
-mod words;
 
-pub use blanks::{count_fields, field, fields, fields_law};
+pub use blank_fields::{BlankFields, count_fields, field, fields, fields_law};
 pub use cutting::{Chunk, CutRefusal, MOST_CHUNKS};
 pub use files::{Input, LIMIT, TooLarge};
 pub use item::Item;
-pub use planning::Plan;
+pub use plan::Plan;
 pub use walk::{Records, begins_law, records_law};
-pub use words::Fields;

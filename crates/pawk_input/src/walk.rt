@@ -3,10 +3,10 @@
 ghost use Rattle.std.specs.Prelude.{◌≡◌, ℕ, ◌+◌, ◌^◌, ◌<◌, ◌≤◌, [], ◌∷◌, length};
 ghost use Rattle.std.specs.Iterator.{YieldsFirstBy, item_count};
 ghost use Rattle.pawk_input.specs.Records.{records, BeginsLaw, RecordsLaw};
-ghost use Rattle.pawk_input.specs.Input.{files_of, total_size, items, item_of, numbered};
+ghost use Rattle.pawk_input.specs.Input.{files_of, total_size, items, item_of, file_items};
 ghost use Rattle.pawk_input.specs.Walk.{items_left};
+ghost use Rattle.pawk_input.specs.Limits.{most_bytes};
 
-use crate::files::LIMIT;
 use crate::item::Item;
 use memchr::memchr;
 use std::marker::Model;
@@ -25,7 +25,7 @@ pub struct Records<'a> {
 
 impl<'a> Model for Records<'a> {
     ghost use Rattle.std.specs.Prelude.{◌≤◌, ◌<◌, ◌+◌, ◌^◌, List, [], ◌∷◌, length};
-    ghost use Rattle.pawk_input.specs.declared.files.TheConstants.{LIMIT};
+    ghost use Rattle.pawk_input.specs.Limits.{most_bytes};
     ghost use Rattle.pawk_input.specs.Input.{Item, files_of, total_size};
     ghost use Rattle.pawk_input.specs.Walk.{items_ahead};
 
@@ -36,10 +36,11 @@ impl<'a> Model for Records<'a> {
 
     ghost invariant = { λ r.
         (r.nr + length (items_ahead
-        (r.separator ∷ []) r.file r.name.now r.nr r.fnr r.rest.now (files_of r.later.now)) ≤ LIMIT)
+        (r.separator ∷ []) r.file r.name.now r.nr r.fnr r.rest.now (files_of r.later.now))
+        ≤ most_bytes)
         × (r.fnr ≤ r.nr)
         × (r.file + length r.later.now < 2 ^ 64)
-        × (length r.rest.now + total_size (files_of r.later.now) ≤ LIMIT) };
+        × (length r.rest.now + total_size (files_of r.later.now) ≤ most_bytes) };
 }
 
 /// The first record of a text, and what follows it.
@@ -58,7 +59,7 @@ fn split_record(text: &[u8], separator: u8) -> (&[u8], &[u8])
 impl<'a> Records<'a> {
     /// The records of all these files.
     pub(crate) fn of_files(separator: u8, files: &'a [(Vec<u8>, Vec<u8>)]) -> Self
-        requires limited { total_size (files_of files.now) ≤ LIMIT }
+        requires limited { total_size (files_of files.now) ≤ most_bytes }
         requires few { length files.now < 2 ^ 64 }
         ensures { items_left result ≡ items (separator ∷ []) (files_of files.entry.now) }
     {
@@ -94,11 +95,11 @@ impl<'a> Records<'a> {
         nr: u64,
         fnr: u64,
     ) -> Self
-        requires counted { nr + length (records separator bytes.now) ≤ LIMIT }
+        requires counted { nr + length (records separator bytes.now) ≤ most_bytes }
         requires in_file { fnr ≤ nr }
-        requires short { length bytes.now ≤ LIMIT }
+        requires short { length bytes.now ≤ most_bytes }
         ensures { items_left result
-            ≡ numbered file name.entry.now nr fnr (records separator bytes.entry.now) }
+            ≡ file_items file name.entry.now nr fnr (records separator bytes.entry.now) }
     {
         Records {
             separator,

@@ -10,10 +10,10 @@ returns-then-bytes-separator c =
     let s = c.args.bytes.now in
     let some : 0 < length s = search (rules, tests) in
     let last : get_or s (length s - 1) 0 ≡ e = search (rules, tests) in
-    c.count_byte-ended.ensures ∙ sym (length-records-ended e s some last)
+    c.count_byte-ends.ensures ∙ sym (length-records-ended e s some last)
 
 pub overflow_add-result : goal.overflow_add-result
-overflow_add-result c = omega (arith, c.count_byte-ended.ensures, count_by-le-length (is_byte c.args.separator) c.args.bytes.now)
+overflow_add-result c = omega (arith, c.count_byte-ends.ensures, count_by-le-length (is_byte c.args.separator) c.args.bytes.now)
 
 pub returns-else-bytes-separator : goal.returns-else-bytes-separator
 returns-else-bytes-separator c =
@@ -21,4 +21,4 @@ returns-else-bytes-separator c =
     let s = c.args.bytes.now in
     let some : 0 < length s = search (rules, tests) in
     let last : get_or s (length s - 1) 0 ≢ e = search (rules, tests) in
-    ap (λ n. n + 1) c.count_byte-ended.ensures ∙ sym (length-records-open e s some last)
+    ap (λ n. n + 1) c.count_byte-ends.ensures ∙ sym (length-records-open e s some last)

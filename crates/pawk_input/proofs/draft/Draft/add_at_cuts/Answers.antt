@@ -1,7 +1,7 @@
 use Rattle.std.proofs.Common.{◌≡◌, inr, ◌+◌, ◌-◌, ◌<◌, ◌≤◌, ◌++◌, ◌∷◌, [], length, take, drop, get_or, map, vec_len, refl, ap, sym, ◌∙◌, arith, length-append}
 use Rattle.std.proofs.lemmas.List.{drop_more, drop_all, take_rest, length-drop, length-take-le}
 use Rattle.std.proofs.lemmas.Result.{err_from_is_err_and}
-use Rattle.pawk_input.specs.declared.cutting.TheConstants.{MOST_CHUNKS}
+use Rattle.pawk_input.specs.Limits.{most_chunks}
 use Rattle.pawk_input.specs.Records.{records, begins_by, separator_of}
 use Rattle.pawk_input.specs.Plan.{Rises, chunks_at, cut_places}
 use Rattle.pawk_input.proofs.RecordsLemmas.{length-records}
@@ -21,7 +21,7 @@ returns-in_err-fnr-clause-refused c =
     let all = chunks_at rs c.args.file bytes c.args.self.now.nr (0 ∷ map (λ cut. cut.1) cuts) in
     let few : vec_len c.loop-cut.self.chunks + 1 ≤ vec_len c.args.self.now.chunks + length all =
     omega (arith, one_more_fits c.loop-cut.self.chunks.items (c.args.self.now.chunks.items ++ all) _ _ _ c.loop-cut.invariant.chunks refl, length-append c.args.self.now.chunks.items all, c.loop-cut.self.chunks.ok.0, c.args.self.now.chunks.ok.0) in
-    rw (p.1, p.2, places) (RefusesMany-longer _ _ MOST_CHUNKS c.in_err-fnr.field-0.0 few c.in_err-fnr.ensures.refused)
+    rw (p.1, p.2, places) (RefusesMany-longer _ _ most_chunks c.in_err-fnr.field-0.0 few c.in_err-fnr.ensures.refused)
 
 pub loop-cut-preserved : goal.loop-cut-preserved
 loop-cut-preserved c =
@@ -67,7 +67,7 @@ returns-in_err-self-clause-refused c =
     let all = chunks_at rs c.args.file bytes c.args.self.now.nr (0 ∷ map (λ cut. cut.1) cuts) in
     let few : vec_len c.loop-cut.self.chunks + 1 ≤ vec_len c.args.self.now.chunks + length all =
     omega (arith, one_more_fits c.loop-cut.self.chunks.items (c.args.self.now.chunks.items ++ all) _ _ _ c.loop-cut.invariant.chunks refl, length-append c.args.self.now.chunks.items all, c.loop-cut.self.chunks.ok.0, c.args.self.now.chunks.ok.0) in
-    rw (p.1, p.2, places) (RefusesMany-longer _ _ MOST_CHUNKS c.in_err-self.field-0.0 few c.in_err-self.ensures.refused)
+    rw (p.1, p.2, places) (RefusesMany-longer _ _ most_chunks c.in_err-self.field-0.0 few c.in_err-self.ensures.refused)
 
 pub overflow_add-self : goal.overflow_add-self
 overflow_add-self c =

@@ -1,7 +1,7 @@
 use Rattle.std.proofs.Common.{◌≡◌, ◌⊎◌, ◌-◌, ◌≤◌, ◌++◌, true, length, take, drop, vec_len}
-use Rattle.pawk_input.specs.declared.cutting.TheConstants.{MOST_CHUNKS}
+use Rattle.pawk_input.specs.Limits.{most_chunks}
 use Rattle.pawk_input.specs.Records.{records_by, begins_by, begins_from, separator_of}
-use Rattle.pawk_input.specs.Plan.{chunks_at, spaced}
+use Rattle.pawk_input.specs.Plan.{chunks_at, places_by_size}
 use Rattle.pawk_input.proofs.CutLemmas.{IsCut}
 use Rattle.pawk_input.proofs.draft.Draft.add_by_size.Given as goal
 
@@ -12,9 +12,9 @@ invariant-loop-start l = record {
   room : l.fnr ≤ l.start;
   within : l.start ≤ length l.bytes;
   cut : (l.start ≡ length l.bytes) ⊎ IsCut (separator_of l.rs) l.bytes l.start;
-  few : vec_len l.self.chunks ≤ MOST_CHUNKS;
-  chunks : l.self.chunks.items ++ chunks_at l.rs l.file l.bytes l.self.nr (spaced l.size (begins_from (separator_of l.rs) l.start true (drop l.start l.bytes)))
-      ≡ l.initial.self.chunks.items ++ chunks_at l.rs l.file l.bytes l.initial.self.nr (spaced l.size (begins_by l.rs l.bytes));
+  few : vec_len l.self.chunks ≤ most_chunks;
+  chunks : l.self.chunks.items ++ chunks_at l.rs l.file l.bytes l.self.nr (places_by_size l.size (begins_from (separator_of l.rs) l.start true (drop l.start l.bytes)))
+      ≡ l.initial.self.chunks.items ++ chunks_at l.rs l.file l.bytes l.initial.self.nr (places_by_size l.size (begins_by l.rs l.bytes));
 }
 
 abbrev pub decreases-loop-start : goal.decreases-loop-start

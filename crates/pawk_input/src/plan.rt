@@ -1,0 +1,130 @@
+//! Plans: the input cut into chunks of whole records.
+
+ghost use Rattle.std.specs.Prelude.{◌≡◌, ℕ, ◌<◌, ◌≤◌, None, length, slice_get};
+ghost use Rattle.std.specs.Prelude.{IfOk, IfErr, IfSome};
+ghost use Rattle.pawk_input.specs.Limits.{most_chunks};
+ghost use Rattle.pawk_input.specs.Walk.{items_left};
+ghost use Rattle.pawk_input.specs.Plan.{IsPlanOf, RefusesCuts, RefusesMany, chunk_items};
+ghost use Rattle.pawk_input.specs.Plan.{cut_at, cut_fault, sized};
+
+use crate::cuts::{check_cuts, cuts_in};
+use crate::cutting::{Chunk, CutRefusal};
+use crate::draft::Draft;
+use crate::files::Input;
+use crate::walk::Records;
+use std::alloc::Global;
+use std::marker::Model;
+
+/// The records of an input as consecutive runs, none over two files: a list of chunks.
+#[derive(Drop)]
+pub struct Plan {
+    chunks: Vec<Chunk>,
+}
+
+impl Model for Plan {
+    ghost use Rattle.std.specs.Prelude.{List};
+    ghost use Rattle.pawk_input.specs.declared.cutting.Chunk.{Chunk};
+
+    ghost Value = { List Chunk };
+
+    ghost view = { λ plan. plan.chunks.items };
+}
+
+impl Plan {
+    /// The plan by size: a chunk ends before the first record that begins at least `bytes` bytes
+    /// past the chunk's begin, or at the end of its file; a file with records always begins a chunk.
+    ///
+    /// `rs` holds the one byte at which records end.
+    ///
+    /// Gives `TooMany` where that are more than 1,048,576 chunks, and `Memory` where memory was
+    /// refused.
+    pub fn by_size(alloc: Global, input: &Input, rs: &[u8], bytes: u64) -> Result<Plan, CutRefusal>
+        requires one_byte { length rs.now ≡ 1 }
+        requires some { 0 < bytes }
+        ensures value { IfOk result (λ plan. plan ≡ sized rs.now input.now bytes) }
+        ensures plan { IfOk result (λ plan. IsPlanOf rs.now input.now plan) }
+        ensures few { IfOk result (λ plan. length plan ≤ most_chunks) }
+        ensures refused { IfErr result
+            (RefusesMany (length (sized rs.now input.now bytes)) most_chunks) }
+    {
+        let mut draft = Draft::new(alloc);
+        for file in 0..input.files() {
+            draft.add_by_size(file, input.bytes(file), rs, bytes)?;
+        }
+        Ok(Plan {
+            chunks: draft.chunks,
+        })
+    }
+
+    /// The plan at cuts: a file with records begins a chunk, and one more begins at each cut, a
+    /// file's place and an offset in that file, both counted from 0.
+    ///
+    /// `rs` holds the one byte at which records end.
+    ///
+    /// Gives what is wrong with the first cut at fault: `NoRecord` where no record after its file's
+    /// first begins there, else `NotRising` where it does not come after the cut before it, by
+    /// files first, then by offsets. Where no cut is at fault it gives `TooMany` where that are more
+    /// than 1,048,576 chunks, and `Memory` where memory was refused.
+    pub fn at(
+        alloc: Global,
+        input: &Input,
+        rs: &[u8],
+        cuts: &[(usize, usize)],
+    ) -> Result<Plan, CutRefusal>
+        requires { length rs.now ≡ 1 }
+        ensures accepted { IfOk result (λ _. cut_fault rs.now input.now cuts.now ≡ None) }
+        ensures value { IfOk result (λ plan. plan ≡ cut_at rs.now input.now cuts.now) }
+        ensures plan { IfOk result (λ plan. IsPlanOf rs.now input.now plan) }
+        ensures few { IfOk result (λ plan. length plan ≤ most_chunks) }
+        ensures refused { IfErr result (RefusesCuts rs.now input.now cuts.now most_chunks) }
+    {
+        check_cuts(input, rs, cuts)?;
+        let mut draft = Draft::new(alloc);
+        let mut left = cuts;
+        for file in 0..input.files() {
+            let (here, later) = left.split_at(cuts_in(file, left));
+            draft.add_at_cuts(file, input.bytes(file), rs, here)?;
+            left = later;
+        }
+        Ok(Plan {
+            chunks: draft.chunks,
+        })
+    }
+
+    /// How many chunks there are.
+    #[allow(clippy::len_without_is_empty)]
+    pub fn len(&self) -> usize
+        ensures { result ≡ length self.now }
+    {
+        self.chunks.len()
+    }
+
+    /// The chunk at a place counted from 0.
+    pub fn chunk(&self, i: usize) -> &Chunk
+        requires { i < length self.now }
+        ensures { slice_get self.now i ≡ Some result.now }
+    {
+        &self.chunks[i]
+    }
+
+    /// The records of the chunk at a place counted from 0, with their numbers among all records.
+    /// Takes no memory and copies nothing. `input` and `rs` are those that the plan was made of.
+    pub fn walk<'a>(&self, input: &'a Input, rs: &[u8], i: usize) -> Records<'a>
+        requires chunk { i < length self.now }
+        requires plan { IsPlanOf rs.now input.now self.now }
+        requires one_byte { length rs.now ≡ 1 }
+        ensures { IfSome (slice_get self.now i)
+            (λ c. items_left result ≡ chunk_items rs.now input.now c) }
+    {
+        let chunk = self.chunk(i);
+        let bytes = input.bytes(chunk.file);
+        Records::of_part(
+            rs[0],
+            chunk.file,
+            input.name(chunk.file),
+            &bytes[chunk.range.start..chunk.range.end],
+            chunk.nr,
+            chunk.fnr,
+        )
+    }
+}
