@@ -13,5 +13,4 @@ pub const NUMBER_LIMIT: u64 = 9_223_372_036_854_775_808;
 pub fn limits_law()
     ensures length { LENGTH_LIMIT ≡ length_limit }
     ensures number { NUMBER_LIMIT ≡ number_limit }
-{
-}
+{}

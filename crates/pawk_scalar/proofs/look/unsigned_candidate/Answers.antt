@@ -12,5 +12,5 @@ returns c =
     let digit : has_digit c.args.text.now ≡ true = sym c.shows_digit.ensures ∙ c.if-not-shows_digit.false in
     let end = ap (λ n. list_all is_blank (without_exponent (without_fraction (drop n c.args.text.now)))) (sym digits.count) in
     let blanks : list_all is_blank (without_exponent (without_fraction (after_while is_digit c.args.text.now))) ≡ true =
-        end ∙ sym (rw (c.past_exponent.ensures, c.past_fraction.ensures, c.split_at.ensures.back) at c.are_blanks.ensures) ∙ c.if-not-are_blanks.false in
+    end ∙ sym (rw (c.past_exponent.ensures, c.past_fraction.ensures, c.split_at.ensures.back) at c.are_blanks.ensures) ∙ c.if-not-are_blanks.false in
     rw (digit, blanks) (ap Some (c.number_of_digits.ensures ∙ number_of_leading_digits c.args.negative c.args.text.now _ _ _ c.split_at.ensures.back digits.count digits.value))
