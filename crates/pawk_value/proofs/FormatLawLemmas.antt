@@ -4,12 +4,12 @@ use Rattle.std.proofs.lemmas.Bool.Decides.{nat_tests, eqb_tells}
 use Rattle.std.proofs.lemmas.Bool.{false≢true}
 use Rattle.std.specs.List.{prefix_len}
 use Rattle.std.proofs.lemmas.List.{take-append-drop}
-use Rattle.pawk_value.specs.Bytes.{is_digit, is_point}
-use Rattle.pawk_value.specs.Numeral.{AreDigits, after_while, begins}
-use Rattle.pawk_value.specs.Value.{Val}
+use Rattle.pawk_scalar.specs.Bytes.{is_digit, is_point}
+use Rattle.pawk_scalar.specs.Numeral.{AreDigits, after_while, begins}
+use Rattle.pawk_scalar.specs.Value.{Val}
 use Rattle.pawk_value.specs.Format.{Directive, is_flag, is_proper, contains, precision_text, directive_spelling, directive_in_front, past_directive, past_flags, past_width, past_place, values_left, text_in_place, value_text, precision_in_front, without_precision, limited, and_then, is_percent, formatted_from}
 use Rattle.pawk_value.specs.FormatLaw.{AreFlags, ArePrecisionDigits, IsDirective, Piece, Plain, Percent, Place, Malformed, BeginsNothing, IsCut, text_of_pieces, FormatLaw}
-use Rattle.pawk_value.proofs.NumeralLemmas.{digits_prefix, none_in_front, both_true}
+use Rattle.pawk_scalar.proofs.NumeralLemmas.{digits_prefix, none_in_front, both_true}
 use Rattle.pawk_value.proofs.FormatLemmas.{from_place, in_place, from_byte, all_read, begun, end_is_short, end_of_directive}
 
 -- ---- bytes apart

@@ -6,19 +6,19 @@ use Rattle.std.specs.Int.Digits.{digits_of}
 use Rattle.std.proofs.lemmas.Int.Digits.{digits_of_step, first_digits_of}
 use Rattle.std.proofs.lemmas.Bool.Decides.{nat_tests}
 use Rattle.std.proofs.lemmas.Bool.{cases_lt}
-use Rattle.pawk_value.proofs.NumeralLemmas.{both_true}
-use Rattle.pawk_value.specs.Numeral.{begins, after_while}
+use Rattle.pawk_scalar.proofs.NumeralLemmas.{both_true}
+use Rattle.pawk_scalar.specs.Numeral.{begins, after_while}
 use Rattle.pawk_value.specs.Format.{Directive, contains, digit_byte, radix_text, conversion_digits, has_leading_zero, unsigned_digits, is_percent, is_plain, is_flag, past_flags, past_width, without_precision, past_directive, past_place, values_left, text_in_place, value_text, is_proper, directive_in_front, and_then, limited, formatted_from, formatted}
-use Rattle.pawk_value.specs.Bytes.{is_digit, is_point}
-use Rattle.pawk_value.specs.Value.{Val, shown}
+use Rattle.pawk_scalar.specs.Bytes.{is_digit, is_point}
+use Rattle.pawk_scalar.specs.Value.{Val, shown}
 use Rattle.std.specs.List.{prefix_len}
 use Rattle.pawk_value.specs.FormatViews.{IsRadix, Makes, appended}
 use Rattle.pawk_value.specs.FormatResults.{Continues}
 use Rattle.pawk_value.specs.declared.formats.Left.{Left}
-use Rattle.pawk_value.specs.declared.faults.Fault.TheVariants.{Length}
-use Rattle.pawk_value.specs.declared.faults.Fault.{Fault}
-use Rattle.pawk_value.specs.declared.faults.Stop.{Stop}
-use Rattle.pawk_value.specs.declared.faults.Stop.TheVariants as stop
+use Rattle.pawk_scalar.specs.declared.faults.Fault.TheVariants.{Length}
+use Rattle.pawk_scalar.specs.declared.faults.Fault.{Fault}
+use Rattle.pawk_scalar.specs.declared.faults.Stop.{Stop}
+use Rattle.pawk_scalar.specs.declared.faults.Stop.TheVariants as stop
 
 -- ---- digits, from the last to the first
 

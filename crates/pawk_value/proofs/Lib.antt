@@ -1,8 +1,3 @@
-pub mod RangeLemmas
-pub mod NumeralLemmas
-pub mod LookLemmas
-pub mod ArithmeticLemmas
-pub mod ComparisonLemmas
+pub use Rattle.pawk_scalar.proofs.RangeLemmas
 pub mod FormatLemmas
 pub mod FormatLawLemmas
-pub mod ArithmeticLawLemmas

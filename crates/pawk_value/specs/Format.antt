@@ -2,13 +2,13 @@
 use Rattle.std.specs.Prelude.{ℕ, ℤ, zero, suc, pos, negsuc, ◌+◌, ◌-◌, ◌==◌, ◌&&◌, Bool, true, false, not, if◌then◌else◌, nat_lt, nat_le, List, [], ◌∷◌, ◌++◌, codes, length, take, drop, map, replicate, slice_index, Option, Some, None, is_some, Result, Ok, Err, decimal, unsigned_abs}
 use Rattle.std.specs.List.{prefix_len, list_any, list_all}
 use Rattle.std.specs.Int.Digits.{digits_of}
-use Rattle.pawk_value.specs.declared.faults.Fault.{Fault}
-use Rattle.pawk_value.specs.declared.faults.Fault.TheVariants.{Format, Negative, Length}
-use Rattle.pawk_value.specs.Bytes.{is_digit, is_point}
-use Rattle.pawk_value.specs.Numeral.{digits_value, after_while, begins}
-use Rattle.pawk_value.specs.Value.{Val, Uninit, Num, Text, Maybe}
-use Rattle.pawk_value.specs.Look.{looks}
-use Rattle.pawk_value.specs.Conversion.{num_of, text_of}
+use Rattle.pawk_scalar.specs.declared.faults.Fault.{Fault}
+use Rattle.pawk_scalar.specs.declared.faults.Fault.TheVariants.{Format, Negative, Length}
+use Rattle.pawk_scalar.specs.Bytes.{is_digit, is_point}
+use Rattle.pawk_scalar.specs.Numeral.{digits_value, after_while, begins}
+use Rattle.pawk_scalar.specs.Value.{Val, Uninit, Num, Text, Maybe}
+use Rattle.pawk_scalar.specs.Look.{looks}
+use Rattle.pawk_scalar.specs.Conversion.{num_of, text_of}
 
 -- ---- directives
 

@@ -1,9 +1,9 @@
 -- Formatted text in the words of the standard: a format is cut into pieces in one way, and each directive's text stands in its place.
 use Rattle.std.specs.Prelude.{◌≡◌, ℕ, true, false, List, [], ◌∷◌, ◌++◌, drop, Option, Some, None, Result, Err}
-use Rattle.pawk_value.specs.declared.faults.Fault.{Fault}
-use Rattle.pawk_value.specs.declared.faults.Fault.TheVariants.{Format}
-use Rattle.pawk_value.specs.Numeral.{AreDigits, begins}
-use Rattle.pawk_value.specs.Value.{Val}
+use Rattle.pawk_scalar.specs.declared.faults.Fault.{Fault}
+use Rattle.pawk_scalar.specs.declared.faults.Fault.TheVariants.{Format}
+use Rattle.pawk_scalar.specs.Numeral.{AreDigits, begins}
+use Rattle.pawk_scalar.specs.Value.{Val}
 use Rattle.pawk_value.specs.Format.{Directive, is_flag, is_proper, directive_spelling, value_text, limited, and_then, is_percent, formatted}
 
 abbrev pub AreFlags : List ℕ → Type 0

@@ -2,11 +2,11 @@
 use Rattle.std.specs.Prelude.{◌≡◌, ℕ, map, List, Result, Ok, Err}
 use Rattle.std.specs.declared.vec.Vec.{Vec}
 use Rattle.std.specs.declared.alloc.Global.{Global}
-use Rattle.pawk_value.specs.declared.faults.Fault.{Fault}
-use Rattle.pawk_value.specs.declared.faults.Stop.{Stop}
-use Rattle.pawk_value.specs.declared.faults.Stop.TheVariants as stop
+use Rattle.pawk_scalar.specs.declared.faults.Fault.{Fault}
+use Rattle.pawk_scalar.specs.declared.faults.Stop.{Stop}
+use Rattle.pawk_scalar.specs.declared.faults.Stop.TheVariants as stop
 use Rattle.pawk_value.specs.declared.formats.Left.{Left}
-use Rattle.pawk_value.specs.Value.{shown}
+use Rattle.pawk_scalar.specs.Value.{shown}
 use Rattle.pawk_value.specs.Format.{formatted_from}
 
 -- what is wanted is what the rest makes of the bytes so far, or the fault is told; where memory was refused it claims nothing

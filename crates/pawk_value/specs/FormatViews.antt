@@ -1,9 +1,9 @@
 -- What the code's directives show, and what a call of a format's part makes of the text so far.
 use Rattle.std.specs.Prelude.{◌≡◌, ◌⊎◌, ℕ, min, List, [], ◌∷◌, ◌++◌, Option, Some, None, option_to_list, Result, Ok, Err}
 use Rattle.std.specs.Option.{option_copied}
-use Rattle.pawk_value.specs.declared.faults.Fault.{Fault}
-use Rattle.pawk_value.specs.declared.faults.Stop.{Stop}
-use Rattle.pawk_value.specs.declared.faults.Stop.TheVariants as stop
+use Rattle.pawk_scalar.specs.declared.faults.Fault.{Fault}
+use Rattle.pawk_scalar.specs.declared.faults.Stop.{Stop}
+use Rattle.pawk_scalar.specs.declared.faults.Stop.TheVariants as stop
 use Rattle.pawk_value.specs.declared.directive.Directive.{Directive}
 use Rattle.pawk_value.specs.Format as format
 

@@ -7,7 +7,7 @@ ghost use Rattle.pawk_value.specs.Format.{contains, is_flag, flags_of, directive
 ghost use Rattle.pawk_value.specs.FormatViews.{seen};
 ghost use Rattle.pawk_value.specs.Format as spec;
 
-use crate::numeral::leading_digits;
+use pawk_scalar::leading_digits;
 
 /// A directive, each part as it is written.
 #[derive(Clone, Copy)]

@@ -3,23 +3,18 @@
 ghost use Rattle.std.specs.Prelude.{◌≡◌, ◌++◌, ◌<◌, ◌≤◌, ◌==◌, ◌&&◌, is_some, drop, map, length, IfOk};
 ghost use Rattle.std.specs.List.{prefix_len};
 ghost use Rattle.pawk_value.specs.Format.{sign_text, own_digits, signed_text, unsigned_prefix, unsigned_digits, unsigned_text, unsigned_result, padded, padded_result, precision_value, cut, string_text, character, directive_text, value_text, text_in_place, past_place, values_left, is_plain, is_percent, and_then, has_leading_zero, conversion_digits, limited, formatted_from, formatted};
-ghost use Rattle.pawk_value.specs.Numeral.{begins};
+ghost use Rattle.pawk_scalar.specs.Numeral.{begins};
 ghost use Rattle.pawk_value.specs.Format as spec;
-ghost use Rattle.pawk_value.specs.Value.{shown};
+ghost use Rattle.pawk_scalar.specs.Value.{shown};
 ghost use Rattle.pawk_value.specs.FormatViews.{seen, capped, as_bytes, as_text, appended, Makes, IsRadix, IsUnsigned};
 ghost use Rattle.pawk_value.specs.FormatLaw.{FormatLaw};
 ghost use Rattle.pawk_value.specs.FormatResults.{Continues, Formats};
 
-use crate::comparison::{text_in, to_num_lent};
-use crate::conversion::to_num;
 use crate::directive::{Directive, has_byte, is_proper, read_directive};
-use crate::faults::{Fault, Stop};
 use crate::layout::{LENGTH_LIMIT, count_of, push_number, push_padded};
-use crate::look::looks;
-use crate::numeral::number_of;
 use crate::radix::{RADIX_ROOM, write_radix};
-use crate::values::{Value, lend};
 use itoa::Buffer;
+use pawk_scalar::{Fault, Stop, Value, lend, looks, number_of, text_in, to_num};
 use std::alloc::Global;
 
 /// The sign of a number: `+` wins over the space.

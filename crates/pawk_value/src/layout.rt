@@ -1,12 +1,12 @@
 //! The text of one directive: padding, zeros, digits.
 
 ghost use Rattle.std.specs.Prelude.{◌≡◌, ◌++◌, ◌+◌, ◌<◌, ◌≤◌, ◌^◌, min, length, vec_len, is_ok, if◌then◌else◌, replicate, Option, take, drop};
-ghost use Rattle.pawk_value.specs.Numeral.{digits_value};
+ghost use Rattle.pawk_scalar.specs.Numeral.{digits_value};
 ghost use Rattle.pawk_value.specs.Format.{limited, filled, zeros_by, zeros, fills_zeros, number_text, precision_value};
 ghost use Rattle.pawk_value.specs.FormatViews.{seen, capped, Makes};
 
 use crate::directive::{Directive, has_byte};
-use crate::faults::{Fault, Stop};
+use pawk_scalar::{Fault, Stop};
 use std::alloc::AllocError;
 
 /// The greatest length of a text that is made, in bytes.

@@ -1,36 +1,20 @@
-//! The values of awk in whole numbers: numerals, conversion, comparison, arithmetic and formats.
+//! The values of awk in whole numbers: those of `pawk_scalar`, and their texts, copies and formats, which
+//! take memory.
 #![tactic(auto)]
 
-mod arithmetic;
-mod bytes;
-mod comparison;
-mod conversion;
+mod copies;
 mod directive;
-mod faults;
 mod formats;
 mod layout;
-mod look;
-mod numeral;
 mod radix;
-mod range;
-mod values;
+mod texts;
 
-pub use arithmetic::{Op, arith, arithmetic_law};
-pub use bytes::{is_blank_byte, is_digit_byte};
-pub use comparison::{compare, compare_lent, compare_texts, text_order_law, to_num_lent};
-pub use conversion::{candidate_truth, copy_value, push_text, to_num, to_text, truth};
-pub use faults::{Fault, Stop};
+pub use copies::{assign, copy_lent, copy_value};
 pub use formats::{format, format_law};
-pub use look::{look_law, looks};
-pub use numeral::{number_of, numeral_law};
-pub use range::whole_number;
-pub use values::{Value, ValueRef, lend};
-
-#[cfg(test)]
-mod format_rows;
-#[cfg(test)]
-mod format_tests;
-#[cfg(test)]
-mod rows;
-#[cfg(test)]
-mod tests;
+pub use pawk_scalar::{
+    Digits, Fault, LENGTH_LIMIT, NUMBER_LIMIT, Op, Stop, Value, ValueRef, arith, arithmetic_law,
+    candidate_number, candidate_truth, compare, compare_lent, compare_texts, is_blank_byte,
+    is_digit_byte, is_numeric, leading_digits, lend, limits_law, look_law, looks, number_of,
+    numeral_law, text_in, text_order_law, to_num, to_num_lent, truth, truth_lent, whole_number,
+};
+pub use texts::{push_text, push_text_lent, to_text};

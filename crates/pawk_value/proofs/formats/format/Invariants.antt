@@ -1,5 +1,5 @@
 use Rattle.std.proofs.Common.{◌≡◌, map, length}
-use Rattle.pawk_value.specs.Value.{shown}
+use Rattle.pawk_scalar.specs.Value.{shown}
 use Rattle.pawk_value.specs.Format.{formatted_from, formatted}
 use Rattle.pawk_value.proofs.formats.format.Given as goal
 

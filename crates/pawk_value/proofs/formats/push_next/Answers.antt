@@ -1,5 +1,5 @@
 use Rattle.std.proofs.Common.{map}
-use Rattle.pawk_value.specs.Value.{shown}
+use Rattle.pawk_scalar.specs.Value.{shown}
 use Rattle.pawk_value.proofs.FormatLemmas as lemmas
 use Rattle.pawk_value.proofs.formats.push_next.Goals as goal
 

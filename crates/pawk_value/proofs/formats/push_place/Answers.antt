@@ -1,5 +1,5 @@
 use Rattle.std.proofs.Common.{◌∙◌, sym, ap, map}
-use Rattle.pawk_value.specs.Value.{shown}
+use Rattle.pawk_scalar.specs.Value.{shown}
 use Rattle.pawk_value.specs.Format.{value_text, is_proper}
 use Rattle.pawk_value.proofs.FormatLemmas as lemmas
 use Rattle.pawk_value.proofs.formats.push_place.Goals as goal

@@ -1,5 +1,5 @@
 use Rattle.std.proofs.Common.{◌≡◌, take, min}
-use Rattle.pawk_value.specs.Numeral.{digits_value}
+use Rattle.pawk_scalar.specs.Numeral.{digits_value}
 use Rattle.pawk_value.proofs.layout.count_of.Given as goal
 
 abbrev pub invariant-loop-digit : goal.invariant-loop-digit

@@ -1,0 +1,11 @@
+pub mod Bytes
+pub mod Faults
+pub mod Range
+pub mod Limits
+pub mod Value
+pub mod Numeral
+pub mod Look
+pub mod Conversion
+pub mod Comparison
+pub mod Arithmetic
+pub mod ArithmeticLaw
