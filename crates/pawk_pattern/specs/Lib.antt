@@ -1,0 +1,12 @@
+pub mod Sets
+pub mod Escapes
+pub mod Pattern
+pub mod Tree
+pub mod Grammar
+pub mod Brackets
+pub mod Machine
+pub mod Tokens
+pub mod Refusals
+pub mod Reader
+pub mod Spelled
+pub mod Shape
