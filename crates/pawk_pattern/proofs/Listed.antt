@@ -3,9 +3,9 @@ use Rattle.std.proofs.Common.{◌≡◌, ℕ, zero, suc, ◌<◌, ◌≤◌, Boo
 use Rattle.pawk_pattern.specs.declared.bracket.Item.{Item}
 use Rattle.pawk_pattern.specs.declared.refusal.EreRefusal.{EreRefusal}
 use Rattle.pawk_pattern.specs.Brackets.{begins, items, item_at, item_ranges, and_then}
-use Rattle.pawk_pattern.specs.Refusals.{Tells}
+use Rattle.pawk_pattern.specs.Refusals.{TellsOfForm}
 use Rattle.pawk_pattern.specs.Sets.{with_ranges}
-use Rattle.pawk_pattern.proofs.Refused.{tells_map}
+use Rattle.pawk_pattern.proofs.Refused.{form_map}
 
 pub items_over : (m : ℕ) (members : List Bool) (first : Bool) (bytes after : List ℕ) → length after < length bytes → length bytes ≤ m
     → ((begins 93 bytes && not first) ≡ true) × (after ≡ drop 1 bytes) → items m members first bytes ≡ Some (members, after)
@@ -53,10 +53,10 @@ pub same_over : (text rest after : List ℕ) (members begun : List Bool) (first 
     → (n : ℕ) → length text ≤ n → items n begun true text ≡ Some (members, after)
 same_over text rest after members begun first same lt h n le = let s = same n le in sym s.2 ∙ items_over s.0 members first rest after lt s.1 h
 
-pub same_refused : (why : EreRefusal) (text rest : List ℕ) (members begun : List Bool) (first : Bool) → Same text rest members first begun → (begins 93 rest && not first) ≡ false → Tells why (item_at first rest ≡ None)
-    → (n : ℕ) → length text ≤ n → Tells why (items n begun true text ≡ None)
+pub same_refused : (why : EreRefusal) (text rest : List ℕ) (members begun : List Bool) (first : Bool) → Same text rest members first begun → (begins 93 rest && not first) ≡ false → TellsOfForm why (item_at first rest ≡ None)
+    → (n : ℕ) → length text ≤ n → TellsOfForm why (items n begun true text ≡ None)
 same_refused why text rest members begun first same h t n le =
-    let s = same n le in tells_map why _ _ (λ x. sym s.2 ∙ items_none s.0 members first rest h x) t
+    let s = same n le in form_map why _ _ (λ x. sym s.2 ∙ items_none s.0 members first rest h x) t
 
 pub same_ended : (text rest : List ℕ) (members begun : List Bool) (first : Bool) → Same text rest members first begun → rest ≡ [] → (n : ℕ) → length text ≤ n → items n begun true text ≡ None
 same_ended text rest members begun first same h n le =

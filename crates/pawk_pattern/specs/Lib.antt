@@ -1,3 +1,4 @@
+pub mod Limits
 pub mod Sets
 pub mod Escapes
 pub mod Pattern
@@ -5,6 +6,7 @@ pub mod Tree
 pub mod Grammar
 pub mod Brackets
 pub mod Machine
+pub mod Bounds
 pub mod Tokens
 pub mod Refusals
 pub mod Reader

@@ -22,7 +22,17 @@ Tells Escape P = P
 Tells Group P = P
 Tells TooLarge P = P
 
+-- a refusal other than for memory comes only where P holds, and it is not that the expression is too large
+abbrev pub TellsOfForm : EreRefusal → Type 0 → Type 0
+TellsOfForm Memory P = Unit {0}
+TellsOfForm Form P = P
+TellsOfForm Bound P = P
+TellsOfForm Bracket P = P
+TellsOfForm Escape P = P
+TellsOfForm Group P = P
+TellsOfForm TooLarge P = ⊥
+
 -- what is returned, seen by view, is what is asked for, and a refusal other than for memory comes where there is none
 abbrev pub Gives : {X Y : Type 0} → (X → Y) → Result X EreRefusal → Option Y → Type 0
 Gives view (Ok x) o = o ≡ Some (view x)
-Gives view (Err e) o = Tells e (o ≡ None)
+Gives view (Err e) o = TellsOfForm e (o ≡ None)

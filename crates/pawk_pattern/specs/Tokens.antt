@@ -1,45 +1,13 @@
 -- The tokens of a text: awk, "Regular Expressions", and XBD 9.4, Extended Regular Expressions.
-use Rattle.std.specs.Prelude.{◌≡◌, ℕ, ◌+◌, ◌-◌, ◌*◌, ◌==◌, ◌≤◌, ◌⊎◌, ◌&&◌, Bool, Option, Some, None, List, [], ◌∷◌, nat_le, nat_lt, if◌then◌else◌}
+use Rattle.std.specs.Prelude.{◌≡◌, ℕ, ◌==◌, ◌≤◌, ◌⊎◌, Bool, Option, Some, None, List, [], ◌∷◌, if◌then◌else◌}
 use Rattle.pawk_pattern.specs.declared.token.Token.{Token}
 use Rattle.pawk_pattern.specs.declared.token.Token.TheVariants.{Leaf, Times, Bar, Open, Close, Caret, Dollar}
 use Rattle.pawk_pattern.specs.Pattern.{Pattern, Empty}
+use Rattle.pawk_pattern.specs.Bounds.{bound_at}
 use Rattle.pawk_pattern.specs.Escapes.{escape_at}
 use Rattle.pawk_pattern.specs.Sets.{all_bytes, only}
 use Rattle.pawk_pattern.specs.Brackets.{bracket_at}
 use Rattle.pawk_pattern.specs.Grammar.{Alt, Derives, written, size}
-
-abbrev pub is_digit : ℕ → Bool
-is_digit c = nat_le 48 c && nat_lt c 58
-
--- the rest of a number of at most 255
-abbrev pub number_more : ℕ → List ℕ → Option (ℕ × List ℕ)
-number_more v [] = Some (v, [])
-number_more v (c ∷ rest) =
-    if is_digit c then (if nat_lt (v * 10 + (c - 48)) 256 then number_more (v * 10 + (c - 48)) rest else None) else Some (v, c ∷ rest)
-
-unfoldable pub number_at : List ℕ → Option (ℕ × List ℕ)
-number_at [] = None
-number_at (c ∷ rest) = if is_digit c then number_more (c - 48) rest else None
-
--- the greater bound, and the closing brace
-abbrev pub most_of : ℕ → Option (ℕ × List ℕ) → Option (Token × List ℕ)
-most_of least None = None
-most_of least (Some (most, [])) = None
-most_of least (Some (most, c ∷ rest)) = if (c == 125) && nat_le least most then Some (Times least (Some most), rest) else None
-
-abbrev pub after_comma : ℕ → List ℕ → Option (Token × List ℕ)
-after_comma least [] = None
-after_comma least (c ∷ rest) = if c == 125 then Some (Times least None, rest) else most_of least (number_at (c ∷ rest))
-
-abbrev pub bound_of : Option (ℕ × List ℕ) → Option (Token × List ℕ)
-bound_of None = None
-bound_of (Some (least, [])) = None
-bound_of (Some (least, c ∷ rest)) =
-    if c == 125 then Some (Times least (Some least), rest) else if c == 44 then after_comma least rest else None
-
--- what stands behind an opening brace: m}, m,} or m,n}
-unfoldable pub bound_at : List ℕ → Option (Token × List ℕ)
-bound_at bytes = bound_of (number_at bytes)
 
 abbrev pub byte_of : Option (ℕ × List ℕ) → Option (Token × List ℕ)
 byte_of None = None

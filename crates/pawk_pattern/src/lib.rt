@@ -8,6 +8,7 @@ mod escape;
 mod expression;
 pub mod laws;
 mod lex;
+mod limits;
 mod parse;
 mod refusal;
 mod shape;

@@ -8,7 +8,7 @@ use Rattle.pawk_pattern.specs.Refusals.{Gives, Tells}
 use Rattle.pawk_pattern.specs.Tokens.{SpellsEre}
 use Rattle.pawk_pattern.specs.Tree.{pattern_of}
 use Rattle.pawk_pattern.proofs.Progress.{Progress, progress_step, no_token, no_step, none_at_end, too_large, spells_at_end}
-use Rattle.pawk_pattern.proofs.Refused.{tells_map, not_empty, no_length, is_empty_of}
+use Rattle.pawk_pattern.proofs.Refused.{tells_form, not_empty, no_length, is_empty_of}
 use Rattle.pawk_pattern.proofs.Weights.{weight_step}
 use Rattle.pawk_pattern.proofs.parse.build.Goals as goal
 
@@ -16,12 +16,12 @@ pub returns-in_err-next-clause-refused : goal.returns-in_err-next-clause-refused
 returns-in_err-next-clause-refused c =
     let p = err_from_is_err_and c.from_residual.result c.from_residual.ensures.1 in
     let more = not_empty c.loop-rest.rest.now c.is_empty.result c.is_empty.ensures c.loop-rest-test.true in
-    rw (p.1, p.2) (tells_map _ _ _ (no_token _ _ _ c.loop-rest.invariant.progress (no_length c.args.text.now c.requires) more) c.in_err-next.ensures.value)
+    rw (p.1, p.2) (tells_form _ _ _ (no_token _ _ _ c.loop-rest.invariant.progress (no_length c.args.text.now c.requires) more) c.in_err-next.ensures.value)
 
 pub returns-in_err-reader-clause-refused : goal.returns-in_err-reader-clause-refused
 returns-in_err-reader-clause-refused c =
     let p = err_from_is_err_and c.from_residual-in_err-reader.result c.from_residual-in_err-reader.ensures.1 in
-    rw (p.1, p.2) (tells_map _ _ _ (no_step _ _ _ _ _ c.loop-rest.invariant.progress (no_length c.args.text.now c.requires) c.in_ok-next.ensures.value) c.in_err-reader.ensures)
+    rw (p.1, p.2) (tells_form _ _ _ (no_step _ _ _ _ _ c.loop-rest.invariant.progress (no_length c.args.text.now c.requires) c.in_ok-next.ensures.value) c.in_err-reader.ensures)
 
 pub returns-in-None-clause-refused : goal.returns-in-None-clause-refused
 returns-in-None-clause-refused c = too_large _ _ _ _ _ c.loop-rest.invariant.progress (no_length c.args.text.now c.requires) c.in_ok-next.ensures.value c.in-None.ensures
@@ -41,7 +41,7 @@ found (Err why) bytes rest st g p over small = tt
 
 refused : (r : Result Expression EreRefusal) (bytes rest : List ℕ) (st : Reader) → Gives pattern_of r (finish st) → Progress bytes rest st → (bytes ≡ [] → ⊥) → rest ≡ [] → IfErr r (λ why. Tells why ((e : Pattern) → SpellsEre bytes e → ⊥))
 refused (Ok e) bytes rest st g p nonempty over = tt
-refused (Err why) bytes rest st g p nonempty over = tells_map why _ _ (none_at_end bytes rest st p nonempty over) g
+refused (Err why) bytes rest st g p nonempty over = tells_form why _ _ (none_at_end bytes rest st p nonempty over) g
 
 pub returns-clause-found : goal.returns-clause-found
 returns-clause-found c =
