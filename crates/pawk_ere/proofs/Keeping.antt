@@ -10,7 +10,7 @@ use Rattle.lru.proofs.CallerLemmas.{Contains-remove_entry, Contains-lookup_entry
 use Rattle.pawk_ere.specs.declared.node.Node.{Node}
 use Rattle.pawk_ere.specs.Answers.{IsAnswer, IsFor}
 use Rattle.pawk_ere.specs.Kept.{AreOfTexts, IsAnswerOfText, IsOfText}
-use Rattle.pawk_ere.specs.Pattern.{Pattern}
+use Rattle.pawk_pattern.specs.Pattern.{Pattern}
 
 abbrev Entry : Type 0
 Entry = Vec ℕ Global × Node

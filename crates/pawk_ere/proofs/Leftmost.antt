@@ -2,7 +2,7 @@
 use Rattle.std.proofs.Common.{◌≡◌, ℕ, ◌+◌, ◌<◌, ◌≤◌, ◌↔◌, Bool, true, false, List, [], ◌∷◌, length, IsTrue, Option, Some, None, refl, ap, ◌∙◌, subst, inl, inr, ⊎_elim, arith}
 use Rattle.std.proofs.lemmas.Bool.{cases_lt}
 use Rattle.pawk_ere.specs.Regex.{Regex, Empty, Start, End, Bytes, Sequence, Either, Star, Plus, Takes}
-use Rattle.pawk_ere.specs.Pattern.{Leads, StartsNone, IsLongest, HasMatch, Leftmost, IsFound, NoneFrom}
+use Rattle.pawk_pattern.specs.Pattern.{Leads, StartsNone, IsLongest, HasMatch, Leftmost, IsFound, NoneFrom}
 use Rattle.pawk_ere.specs.Marks.{nullable}
 use Rattle.pawk_ere.proofs.Shift.{forward, and_parts, and_whole, or_parts, or_left, or_right}
 

@@ -1,12 +1,6 @@
-pub mod Refused
-pub mod Listed
 pub mod Shift
 pub mod Leftmost
 pub mod Turns
-pub mod Reading
-pub mod Weights
-pub mod Progress
-pub mod Shapes
 pub mod Rows
 pub mod Walks
 pub mod Keeping

@@ -5,7 +5,7 @@ use Rattle.std.proofs.lemmas.List.{get_or_append_left}
 use Rattle.std.proofs.Math.Seq.{get_or-append_right}
 use Rattle.std.specs.Prelude.{slice_index}
 use Rattle.memchr.specs.Find.{OccursAt}
-use Rattle.pawk_ere.specs.Pattern.{Holds, Leads}
+use Rattle.pawk_pattern.specs.Pattern.{Holds, Leads}
 use Rattle.pawk_ere.specs.Hints.{BeginsWith, IsAnchored, IsLiteral}
 use Rattle.pawk_ere.specs.Regex.{Regex, Bytes, Plus, Sequence, Takes}
 

@@ -8,7 +8,7 @@ use Rattle.pawk_ere.specs.Hints.{AreNeeded, EndsIn, HoldsNone, IsLiteral, IsSigh
 use Rattle.pawk_ere.specs.declared.words.Sight.{Sight}
 use Rattle.pawk_ere.specs.declared.words.Sought.{Sought}
 use Rattle.pawk_ere.specs.declared.words.Sought.TheVariants.{Words}
-use Rattle.pawk_ere.specs.Pattern.{Leads, NoneFrom}
+use Rattle.pawk_pattern.specs.Pattern.{Leads, NoneFrom}
 use Rattle.pawk_ere.specs.Regex.{Regex, Sequence, Either, Plus, Takes}
 use Rattle.pawk_ere.proofs.Leftmost.{none_beyond}
 use Rattle.pawk_ere.proofs.Literals.{literal_sequence, occurs_join}

@@ -3,7 +3,7 @@ use Rattle.std.proofs.Common.{◌≡◌, ℕ, ◌+◌, ◌<◌, ◌≤◌, ◌�
 use Rattle.std.proofs.lemmas.Bool.{cases_lt}
 use Rattle.std.proofs.lemmas.List.{drop_at, get_or-drop, get_or_append_left}
 use Rattle.pawk_ere.specs.Regex.{Regex, Empty, Start, End, Bytes, Sequence, Either, Star, Plus, Takes}
-use Rattle.pawk_ere.specs.Pattern.{Leads}
+use Rattle.pawk_pattern.specs.Pattern.{Leads}
 use Rattle.pawk_ere.specs.Marks.{places, nullable, final, shift, Rest}
 
 pub and_parts : (a b : Bool) → a && b ≡ true → (a ≡ true) × (b ≡ true)

@@ -1,10 +1,10 @@
 -- Writing out the repetitions changes no match.
 use Rattle.std.proofs.Common.{◌≡◌, ℕ, zero, suc, ◌+◌, ◌-◌, ◌≤◌, Bool, true, false, cond, get_or, replicate, nat_le, Option, Some, None, List, [], ◌∷◌, ◌++◌, length, refl, sym, subst, inl, inr, ⊎_elim, arith, length-append}
 use borrow.Author.Tests.{leb-true, leb-false}
-use Rattle.pawk_ere.specs.Pattern as pattern
-use Rattle.pawk_ere.specs.Pattern.{Pattern, Leads, Holds, Allows, Matches}
+use Rattle.pawk_pattern.specs.Pattern as pattern
+use Rattle.pawk_pattern.specs.Pattern.{Pattern, Leads, Holds, Allows, Matches}
 use Rattle.pawk_ere.specs.Regex.{Regex, Bytes, Plus, Takes}
-use Rattle.pawk_ere.specs.Sets.{none}
+use Rattle.pawk_pattern.specs.Sets.{none}
 use Rattle.pawk_ere.specs.Expand.{copies, at_most, repeated, expand}
 
 -- each step another relation allows too

@@ -4,7 +4,7 @@ use Rattle.std.proofs.lemmas.Bool.{cases_lt}
 use Rattle.std.proofs.lemmas.List.{get_or-drop}
 use Rattle.std.proofs.lemmas.Option.{get_or_from_slice_get, slice_get_within}
 use Rattle.std.specs.Prelude.{slice_get, slice_index}
-use Rattle.pawk_ere.specs.Pattern.{StartsNone, IsFound, IsLongest, NoneFrom, MayStart}
+use Rattle.pawk_pattern.specs.Pattern.{StartsNone, IsFound, IsLongest, NoneFrom, MayStart}
 use Rattle.pawk_ere.specs.Regex.{Regex, Empty, Start, End, Bytes, Sequence, Either, Star, Plus, Takes}
 use Rattle.pawk_ere.specs.Marks.{places, nullable, final, shift, Rest}
 use Rattle.pawk_ere.specs.Table.{ends_with, AreStates, BeginsAt, HasKey, HasNone, IsBegin, IsDead, IsState, LeadsTo}

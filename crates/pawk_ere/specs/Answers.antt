@@ -1,7 +1,7 @@
 -- What a matcher answers.
 use Rattle.std.specs.Prelude.{◌↔◌, ℕ, List, Option}
 use Rattle.pawk_ere.specs.declared.node.Node.{Node}
-use Rattle.pawk_ere.specs.Pattern.{Pattern, Matches, IsFound}
+use Rattle.pawk_pattern.specs.Pattern.{Pattern, Matches, IsFound}
 use Rattle.pawk_ere.specs.Regex.{Takes}
 use Rattle.pawk_ere.specs.Tree.{regex_of}
 

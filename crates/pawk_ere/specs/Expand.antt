@@ -1,8 +1,8 @@
 -- An expression with its repetitions written out.
 use Rattle.std.specs.Prelude.{ℕ, zero, suc, ◌-◌, Option, Some, None, nat_le, if◌then◌else◌}
-use Rattle.pawk_ere.specs.Pattern as pattern
-use Rattle.pawk_ere.specs.Pattern.{Pattern}
-use Rattle.pawk_ere.specs.Sets.{none}
+use Rattle.pawk_pattern.specs.Pattern as pattern
+use Rattle.pawk_pattern.specs.Pattern.{Pattern}
+use Rattle.pawk_pattern.specs.Sets.{none}
 use Rattle.pawk_ere.specs.Regex.{Regex, Empty, Start, End, Bytes, Sequence, Either, Star, Plus}
 
 -- that many copies before the rest

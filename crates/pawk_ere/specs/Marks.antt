@@ -1,7 +1,7 @@
 -- Sets of places of an expression: a mark for each of its byte sets, in order.
 use Rattle.std.specs.Prelude.{◌≡◌, ℕ, ◌+◌, ◌⊎◌, Bool, true, false, ◌&&◌, ◌||◌, List, [], ◌∷◌, ◌++◌, get_or, drop}
 use Rattle.pawk_ere.specs.Regex.{Regex, Empty, Start, End, Bytes, Sequence, Either, Star, Plus, Takes}
-use Rattle.pawk_ere.specs.Pattern.{Leads}
+use Rattle.pawk_pattern.specs.Pattern.{Leads}
 
 -- how many places it has
 abbrev pub places : Regex → ℕ

@@ -1,6 +1,6 @@
 -- Expressions as the matcher runs them: a repetition makes one turn or more, or any number of them.
 use Rattle.std.specs.Prelude.{◌≡◌, ℕ, ◌+◌, ◌<◌, ◌≤◌, ◌⊎◌, Bool, List, length, get_or}
-use Rattle.pawk_ere.specs.Pattern.{Leads, Holds}
+use Rattle.pawk_pattern.specs.Pattern.{Leads, Holds}
 
 -- an expression, without where its parts lie in memory
 pub data Regex : Type 0 where

@@ -1,14 +1,14 @@
 // A cache of the expressions that were read.
 
 ghost use Rattle.pawk_ere.specs.Kept.{AreOfTexts, IsAnswerOfText, IsOfText};
-ghost use Rattle.pawk_ere.specs.Pattern.{Pattern};
-ghost use Rattle.pawk_ere.specs.Refusals.{Tells};
-ghost use Rattle.pawk_ere.specs.Tokens.{SpellsEre};
+ghost use Rattle.pawk_pattern.specs.Pattern.{Pattern};
+ghost use Rattle.pawk_pattern.specs.Refusals.{Tells};
+ghost use Rattle.pawk_pattern.specs.Tokens.{SpellsEre};
 ghost use Rattle.std.specs.Prelude.{◌≡◌, ◌≤◌, length, IfErr, IfOk, IfSome};
 
 use crate::matcher::Matcher;
-use crate::parse::Ere;
-use crate::refusal::EreRefusal;
+use pawk_pattern::Ere;
+use pawk_pattern::EreRefusal;
 use lru::LruCache;
 use std::alloc::{AllocError, Global};
 use std::marker::Model;

@@ -3,11 +3,12 @@
 ghost use Rattle.std.specs.Prelude.{◌≡◌, ◌-◌, ◌≤◌, IfOk};
 ghost use Rattle.pawk_ere.specs.Expand.{at_least, at_most, copies, expand, repeated};
 ghost use Rattle.pawk_ere.specs.Regex.{Bytes};
-ghost use Rattle.pawk_ere.specs.Sets.{none};
-ghost use Rattle.pawk_ere.specs.Tree.{pattern_of, regex_of};
+ghost use Rattle.pawk_pattern.specs.Sets.{none};
+ghost use Rattle.pawk_pattern.specs.Tree.{pattern_of};
+ghost use Rattle.pawk_ere.specs.Tree.{regex_of};
 
-use crate::byte_set::ByteSet;
-use crate::expression::Expression;
+use pawk_pattern::ByteSet;
+use pawk_pattern::Expression;
 use crate::node::Node;
 use std::alloc::{AllocError, Global};
 

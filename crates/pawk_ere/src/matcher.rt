@@ -1,14 +1,14 @@
 // A matcher of one expression.
 
 ghost use Rattle.pawk_ere.specs.Answers.{IsAnswer, IsFor};
-ghost use Rattle.pawk_ere.specs.Pattern.{HasMatch, Matches, Pattern};
-ghost use Rattle.pawk_ere.specs.Spelled.{expression};
+ghost use Rattle.pawk_pattern.specs.Pattern.{HasMatch, Matches, Pattern};
+ghost use Rattle.pawk_pattern.specs.Spelled.{expression};
 ghost use Rattle.std.specs.Prelude.{◌≡◌, ◌↔◌, ◌≤◌, length, IfOk, IsTrue};
 
 use crate::expand::expanded;
 use crate::hints::first_byte;
 use crate::node::Node;
-use crate::parse::Ere;
+use pawk_pattern::Ere;
 use crate::scan::{has_literal, has_match, search, search_literal};
 use crate::table::{Table, begun};
 use crate::words::{Sought, lacks_words, sought_for};

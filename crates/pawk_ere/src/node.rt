@@ -1,6 +1,6 @@
 // Expressions as the matcher runs them.
 
-use crate::byte_set::ByteSet;
+use pawk_pattern::ByteSet;
 
 /// An expression whose repetitions are expanded.
 #[derive(Drop)]

@@ -1,7 +1,7 @@
 // Walks over a text, from state to state.
 
 ghost use Rattle.pawk_ere.specs.Hints.{BeginsWith, IsLiteral};
-ghost use Rattle.pawk_ere.specs.Pattern.{HasMatch, IsFound, IsLongest, MayStart, NoneFrom, StartsNone};
+ghost use Rattle.pawk_pattern.specs.Pattern.{HasMatch, IsFound, IsLongest, MayStart, NoneFrom, StartsNone};
 ghost use Rattle.pawk_ere.specs.Regex.{Regex, Takes};
 ghost use Rattle.pawk_ere.specs.Table.{IsTable};
 ghost use Rattle.pawk_ere.specs.Tree.{regex_of};

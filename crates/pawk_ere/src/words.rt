@@ -5,7 +5,7 @@ ghost use Rattle.pawk_ere.specs.Regex.{Regex, Bytes, Sequence, Either, Plus};
 ghost use Rattle.pawk_ere.specs.Tree.{regex_of};
 ghost use Rattle.std.specs.Prelude.{◌≡◌, ◌≤◌, ◌⊎◌, [], false, length, IfOk, IsTrue};
 
-use crate::byte_set::ByteSet;
+use pawk_pattern::ByteSet;
 use crate::hints::is_anchored;
 use crate::node::Node;
 use memchr::memmem::{Finder, FinderBuilder};

@@ -1,6 +1,6 @@
 use Rattle.std.proofs.Common.{subst, sym}
-use Rattle.pawk_ere.specs.Spelled.{expression}
-use Rattle.pawk_ere.specs.Tokens.{SpellsEre}
+use Rattle.pawk_pattern.specs.Spelled.{expression}
+use Rattle.pawk_pattern.specs.Tokens.{SpellsEre}
 use Rattle.pawk_ere.proofs.cache.made.Goals as goal
 
 pub returns-clause-made : goal.returns-clause-made

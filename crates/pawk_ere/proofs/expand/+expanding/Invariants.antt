@@ -1,6 +1,7 @@
 use Rattle.std.proofs.Common.{◌≡◌}
 use Rattle.pawk_ere.specs.Expand.{at_most, copies, expand}
-use Rattle.pawk_ere.specs.Tree.{pattern_of, regex_of}
+use Rattle.pawk_pattern.specs.Tree.{pattern_of}
+use Rattle.pawk_ere.specs.Tree.{regex_of}
 use Rattle.pawk_ere.proofs.expand.+expanding.Given as goal
 
 abbrev pub invariant-before-loop-i : goal.invariant-before-loop-i

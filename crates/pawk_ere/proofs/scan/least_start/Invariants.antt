@@ -1,5 +1,5 @@
 use Rattle.std.proofs.Common.{ℕ, length, ◌-◌, ◌<◌, ◌≤◌}
-use Rattle.pawk_ere.specs.Pattern.{StartsNone}
+use Rattle.pawk_pattern.specs.Pattern.{StartsNone}
 use Rattle.pawk_ere.specs.Regex.{Takes}
 use Rattle.pawk_ere.specs.Table.{IsTable}
 use Rattle.pawk_ere.specs.Tree.{regex_of}

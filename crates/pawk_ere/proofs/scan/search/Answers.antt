@@ -1,6 +1,6 @@
 use Rattle.std.proofs.Common.{◌≡◌, ℕ, ◌+◌, ◌<◌, ◌≤◌, Option, None, MatchOption, ⊎_elim, subst, arith}
 use Rattle.std.proofs.lemmas.Bool.{cases_lt}
-use Rattle.pawk_ere.specs.Pattern.{IsLongest, StartsNone}
+use Rattle.pawk_pattern.specs.Pattern.{IsLongest, StartsNone}
 use Rattle.pawk_ere.specs.Regex.{Takes}
 use Rattle.pawk_ere.specs.Tree.{regex_of}
 use Rattle.pawk_ere.proofs.Leftmost.{none_beyond, found_none}

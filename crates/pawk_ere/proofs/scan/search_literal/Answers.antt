@@ -1,5 +1,5 @@
 use Rattle.std.proofs.Common.{◌+◌, ap, subst, sym, length, Some}
-use Rattle.pawk_ere.specs.Pattern.{IsFound}
+use Rattle.pawk_pattern.specs.Pattern.{IsFound}
 use Rattle.pawk_ere.specs.Regex.{Takes}
 use Rattle.pawk_ere.proofs.Walks.{literal_none, literal_some}
 use Rattle.pawk_ere.proofs.scan.search_literal.Goals as goal

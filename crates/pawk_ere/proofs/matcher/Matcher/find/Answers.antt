@@ -1,7 +1,7 @@
 use Rattle.std.proofs.Common.{ℕ, List, Option, None, Result, Ok, Err, IfOk, subst, sym}
 use Rattle.std.specs.declared.alloc.AllocError.{AllocError}
 use Rattle.pawk_ere.specs.Answers.{IsAnswer, IsFor}
-use Rattle.pawk_ere.specs.Pattern.{Pattern, Matches, IsFound}
+use Rattle.pawk_pattern.specs.Pattern.{Pattern, Matches, IsFound}
 use Rattle.pawk_ere.specs.Hints.{IsSought}
 use Rattle.pawk_ere.specs.Regex.{Takes}
 use Rattle.pawk_ere.specs.Tree.{regex_of}

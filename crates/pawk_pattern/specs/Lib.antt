@@ -1,0 +1,14 @@
+pub mod Limits
+pub mod Sets
+pub mod Escapes
+pub mod Pattern
+pub mod Tree
+pub mod Grammar
+pub mod Brackets
+pub mod Machine
+pub mod Bounds
+pub mod Tokens
+pub mod Refusals
+pub mod Reader
+pub mod Spelled
+pub mod Shape

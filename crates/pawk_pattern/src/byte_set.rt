@@ -1,0 +1,91 @@
+// Sets of bytes.
+
+ghost use Rattle.pawk_pattern.specs.Sets.{all_bytes, complement, none, only, with_range};
+ghost use Rattle.std.specs.Prelude.{◌≡◌};
+
+/// A set of bytes: an answer for each byte.
+#[derive(Clone, Copy)]
+pub struct ByteSet {
+    pub members: [bool; 256],
+}
+
+impl ByteSet {
+    ghost use Rattle.pawk_pattern.specs.Pattern.{Holds};
+    ghost use Rattle.std.specs.Prelude.{◌↔◌, ℕ, IfSome, IsTrue};
+
+    /// Whether the byte belongs to the set.
+    pub fn contains(&self, byte: u8) -> bool
+        ensures { IsTrue result ↔ Holds self.now.members byte }
+    {
+        self.members[byte as usize]
+    }
+
+    /// The one byte of a set, if there is one and no other.
+    pub fn only_member(&self) -> Option<u8>
+        ensures { IfSome result (λ byte. Holds self.now.members byte × ((b : ℕ) → Holds self.now.members b → b ≡ byte)) }
+    {
+        let mut found = None;
+        for byte in 0..256 {
+            if self.members[byte] {
+                if found.is_some() {
+                    return None;
+                }
+                found = Some(byte as u8);
+            }
+        }
+        found
+    }
+
+    /// The set of no byte.
+    #[tactic(auto, unfolding(crate::specs::Sets::none))]
+    pub fn none() -> ByteSet
+        ensures { result.members ≡ none }
+    {
+        ByteSet {
+            members: [false; 256],
+        }
+    }
+
+    /// The set of all bytes.
+    #[tactic(auto, unfolding(crate::specs::Sets::all_bytes))]
+    pub fn all() -> ByteSet
+        ensures { result.members ≡ all_bytes }
+    {
+        ByteSet {
+            members: [true; 256],
+        }
+    }
+
+    /// The set of one byte.
+    #[tactic(auto, unfolding(crate::specs::Sets::only))]
+    pub fn only(byte: u8) -> ByteSet
+        ensures { result.members ≡ only byte }
+    {
+        let mut members = [false; 256];
+        members[byte as usize] = true;
+        ByteSet { members }
+    }
+
+    /// The set with the bytes from `low` to `high` added, both included.
+    pub fn with_range(&self, low: u8, high: u8) -> ByteSet
+        ensures { result.members ≡ with_range low high self.now.members }
+    {
+        let mut members = [false; 256];
+        for byte in 0..256 {
+            let had = self.members[byte];
+            members[byte] = had || (low as usize <= byte && byte <= high as usize);
+        }
+        ByteSet { members }
+    }
+
+    /// The bytes that are not in the set.
+    pub fn complement(&self) -> ByteSet
+        ensures { result.members ≡ complement self.now.members }
+    {
+        let mut members = [false; 256];
+        for byte in 0..256 {
+            members[byte] = !self.members[byte];
+        }
+        ByteSet { members }
+    }
+}
