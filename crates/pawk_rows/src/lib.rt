@@ -1,0 +1,77 @@
+// What the programs that answer rows share: a row is cut at its tabs, and bytes are written as text.
+#![tactic(auto)]
+
+ghost use Rattle.std.specs.Prelude.{◌≤◌, length};
+
+use std::alloc::{AllocError, Global};
+
+/// The cell of a row with that number, counted from 0: the row's pieces between its tabs. A row without it has an empty one.
+pub fn cell(row: &[u8], number: usize) -> &[u8] {
+    row.split(|byte| *byte == b'\t').nth(number).unwrap_or(b"")
+}
+
+/// The number that a cell writes in decimal digits, or 0.
+pub fn number(cell: &[u8]) -> u64 {
+    str::from_utf8(cell).unwrap_or("").parse().unwrap_or(0)
+}
+
+/// The value of an octal digit.
+fn octal_digit(byte: u8) -> Option<u8>
+    ensures { Rattle.std.specs.Prelude.IfSome result (λ digit. digit ≤ 7) }
+{
+    match byte {
+        b'0'..=b'7' => Some(byte - b'0'),
+        _ => None,
+    }
+}
+
+/// The byte that a backslash stands for with what follows it, and how many bytes follow: three octal digits, or one byte
+/// that stands for itself.
+fn escaped(rest: &[u8]) -> (u8, usize) {
+    match rest {
+        [a, b, c, ..] => match (octal_digit(*a), octal_digit(*b), octal_digit(*c)) {
+            (Some(a), Some(b), Some(c)) if a <= 3 => (a * 64 + b * 8 + c, 3),
+            _ => (*a, 1),
+        },
+        [a, ..] => (*a, 1),
+        [] => (b'\\', 0),
+    }
+}
+
+/// The bytes that a cell writes: each byte is itself, but a backslash with three octal digits is the byte of that value,
+/// and a backslash with another byte that byte.
+pub fn decode(alloc: Global, cell: &[u8]) -> Result<Vec<u8>, AllocError> {
+    let mut bytes = Vec::new(alloc);
+    let mut skipped = 0;
+    for (place, byte) in cell.iter().enumerate() {
+        if skipped > 0 {
+            skipped -= 1;
+        } else if *byte == b'\\' {
+            let (value, length) = escaped(&cell[place + 1..]);
+            bytes.push(value)?;
+            skipped = length;
+        } else {
+            bytes.push(*byte)?;
+        }
+    }
+    Ok(bytes)
+}
+
+/// Adds bytes as a cell writes them: 32 to 126 as they are, but a backslash and every other byte as a backslash with three
+/// octal digits.
+pub fn push_encoded(bytes: &[u8], out: &mut Vec<u8>) -> Result<(), AllocError> {
+    for byte in bytes {
+        match *byte {
+            b'\\' | 0..=31 | 127..=255 => {
+                out.extend_from_slice(&[
+                    b'\\',
+                    b'0' + *byte / 64,
+                    b'0' + *byte / 8 % 8,
+                    b'0' + *byte % 8,
+                ])?;
+            }
+            plain => out.push(plain)?,
+        }
+    }
+    Ok(())
+}
