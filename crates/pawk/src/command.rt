@@ -4,8 +4,8 @@ use crate::command_line::{Request, read_words};
 use crate::files::read_files;
 use crate::reports::{Stop, tell_ending, tell_stop};
 use pawk_par::{
-    Cutting, Ending, Open, Reader, Refusal, Report, Settings, SettingsRefusal, Writer, parse, run,
-    run_streams,
+    Cutting, Ending, Job, Open, Reader, Refusal, Report, Request as StreamRequest, Settings,
+    SettingsRefusal, Writer, parse, run, run_streams,
 };
 use std::io;
 use std::io::{Read, Write};
@@ -27,23 +27,17 @@ where
     I: Drop,
 {
     let alloc = rt.alloc();
-    let text = request.program.as_bytes();
     let cutting = Cutting::Size(request.chunk);
-    let workers = usize::from(request.workers);
+    let streams = StreamRequest {
+        text: request.program.as_bytes(),
+        assigns: &[],
+        budget: STEPS,
+        cutting: &cutting,
+        workers: usize::from(request.workers),
+    };
     let mut source = Reader::new(input);
     let mut sink = Writer::new(output);
-    match run_streams(
-        rt,
-        alloc,
-        text,
-        &[],
-        STEPS,
-        &mut source,
-        &mut sink,
-        &cutting,
-        workers,
-        &Open,
-    ) {
+    match run_streams(rt, alloc, &streams, &mut source, &mut sink, &Open) {
         Ok(answer) => Ok(answer),
         Err(refusal) => Err(Stop::of_streams(alloc, refusal)),
     }
@@ -68,9 +62,12 @@ fn run_files<R: Files + AllocGlobal + Threads + Wait, O: Write>(
     let input = read_files(rt, &request.files)?;
     let cutting = Cutting::Size(request.chunk);
     let workers = usize::from(request.workers);
-    let (outcome, report) = match run(
-        rt, alloc, &program, &settings, &input, &cutting, workers, &Open,
-    ) {
+    let job = Job {
+        program: &program,
+        settings: &settings,
+        input: &input,
+    };
+    let (outcome, report) = match run(rt, alloc, job, &cutting, workers, &Open) {
         Ok(answer) => answer,
         Err(Refusal::Memory) => return Err(Stop::Memory),
         Err(Refusal::Thread) => return Err(Stop::Thread),
@@ -141,7 +138,7 @@ where
 {
     let told = match do_words(rt, words, input, &mut output, &mut errors) {
         Ok(told) => told,
-        Err(stop) => tell_stop(&stop, &mut output, &mut errors),
+        Err(stop) => tell_stop(rt.alloc(), &stop, &mut output, &mut errors),
     };
     match told {
         Ok(status) => status,

@@ -62,10 +62,15 @@ fn why<'a>(alloc: Global) -> Arg<'a> {
         .action(ArgAction::SetTrue)
 }
 
-fn operands<'a>(alloc: Global) -> Arg<'a> {
-    Arg::new(alloc, "operands")
-        .value_name("program file")
-        .help("The program, and the files that are its input; without files it is standard input")
+fn program<'a>(alloc: Global) -> Arg<'a> {
+    Arg::new(alloc, "program")
+        .help("The program's text")
+        .required(true)
+}
+
+fn files<'a>(alloc: Global) -> Arg<'a> {
+    Arg::new(alloc, "file")
+        .help("The files that are its input; without files it is standard input")
         .action(ArgAction::Append)
         .num_args(0..)
 }
@@ -77,7 +82,8 @@ fn definition<'a>(alloc: Global) -> Result<Command<'a>, AllocError> {
         .arg(workers(alloc))?
         .arg(chunk(alloc))?
         .arg(why(alloc))?
-        .arg(operands(alloc))
+        .arg(program(alloc))?
+        .arg(files(alloc))
 }
 
 /// Whether an option's value is written in digits alone.
@@ -94,11 +100,11 @@ fn is_plain(matches: &ArgMatches<'_>, id: &str) -> bool {
 pub(crate) fn read_words<'a>(alloc: Global, words: &'a [String]) -> Result<Request<'a>, Stop> {
     let mut command = definition(alloc)?;
     let matches = command.try_get_matches_from_mut(words)?;
-    let operands = matches.get_strs("operands").unwrap_or(&[]);
-    let Some((program, files)) = operands.split_first() else {
+    let Some(program) = matches.get_str("program") else {
         let error = command.error(ErrorKind::MissingRequiredArgument, "no program")?;
         return Err(Stop::Line(error));
     };
+    let files = matches.get_strs("file").unwrap_or(&[]);
     if !is_plain(&matches, "workers") || !is_plain(&matches, "chunk") {
         let error = command.error(
             ErrorKind::ValueValidation,
@@ -107,7 +113,7 @@ pub(crate) fn read_words<'a>(alloc: Global, words: &'a [String]) -> Result<Reque
         return Err(Stop::Line(error));
     }
     Ok(Request {
-        program: *program,
+        program,
         files: Vec::from_slice(alloc, files)?,
         workers: matches
             .get_one::<u8>("workers")

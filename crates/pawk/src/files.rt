@@ -2,15 +2,33 @@
 
 use crate::reports::Stop;
 use pawk_par::{Input, TooLarge};
-use std::fs;
+use std::fs::File;
+use std::io::Read;
 use std::rt::Files;
+use std::{fs, io};
+
+/// The size of a regular file in bytes, and 0 where nothing is known of it.
+fn known_size<R: Files>(rt: &R, name: &str) -> usize {
+    match fs::metadata(rt, name) {
+        Ok(metadata) if metadata.is_file() => metadata.len() as usize,
+        _ => 0,
+    }
+}
+
+/// Reads a file to its end, into room for the size that is known of it.
+fn read_file<R: Files + AllocGlobal>(rt: &R, name: &str) -> io::Result<Vec<u8>> {
+    let mut file = File::open(rt, name)?;
+    let mut bytes = Vec::with_capacity(rt.alloc(), known_size(rt, name))?;
+    file.read_to_end(&mut bytes)?;
+    Ok(bytes)
+}
 
 /// Reads the files of these names in order; the first that cannot be read is told.
 pub(crate) fn read_files<R: Files + AllocGlobal>(rt: &R, names: &[&str]) -> Result<Input, Stop> {
     let alloc = rt.alloc();
     let mut files = Vec::with_capacity(alloc, names.len())?;
     for name in names {
-        let bytes = match fs::read(rt, *name) {
+        let bytes = match read_file(rt, *name) {
             Ok(bytes) => bytes,
             Err(error) => return Err(Stop::read(alloc, *name, &error)),
         };

@@ -5,8 +5,6 @@ mod command;
 mod command_line;
 mod files;
 mod reports;
-#[cfg(test)]
-mod tests;
 
 use std::io;
 use std::process::ExitCode;
@@ -15,7 +13,7 @@ use std::process::ExitCode;
 const NO_MEMORY: &str = "pawk: refused: memory";
 
 /// What is told where an argument is no text.
-const NO_TEXT: &str = "error: an argument is no text";
+const NO_TEXT: &str = "pawk: an argument is no text";
 
 /// The words of the command line, or the line to print in their place.
 fn words_of(rt: &HostRuntime) -> Result<Vec<String>, &'static str> {

@@ -8,7 +8,7 @@ use std::io;
 use std::io::Write;
 
 /// Why nothing was run to its end.
-#[derive(Debug, Drop)]
+#[derive(Drop)]
 pub(crate) enum Stop {
     /// Memory was refused.
     Memory,
@@ -22,7 +22,7 @@ pub(crate) enum Stop {
     Program(SyntaxRefusal),
     /// An assignment or the budget is refused, by this number.
     Settings(u8),
-    /// A file of this name could not be read; standard input has none.
+    /// A file of this name, as messages show it, could not be read; standard input has none.
     Read(String),
     /// The output could not be written.
     Write,
@@ -52,13 +52,26 @@ impl From<Error> for Stop {
     }
 }
 
+/// A file's name as messages show it: with `?` for each control character.
+fn printable(alloc: Global, name: &str) -> Result<String, AllocError> {
+    let mut text = String::with_capacity(alloc, name.len())?;
+    for character in name.chars() {
+        text.push(if character.is_control() {
+            '?'
+        } else {
+            character
+        })?;
+    }
+    Ok(text)
+}
+
 impl Stop {
     /// A file that could not be read, or want of memory where the name cannot be kept or the error says so.
     pub(crate) fn read(alloc: Global, name: &str, error: &io::Error) -> Stop {
         if error.kind() == io::ErrorKind::OutOfMemory {
             return Stop::Memory;
         }
-        match String::from_str(alloc, name) {
+        match printable(alloc, name) {
             Ok(name) => Stop::Read(name),
             Err(_) => Stop::Memory,
         }
@@ -81,6 +94,7 @@ impl Stop {
 
 /// Tells why nothing was run to its end, and gives the exit status.
 pub(crate) fn tell_stop<O: Write, E: Write>(
+    alloc: Global,
     stop: &Stop,
     output: &mut O,
     errors: &mut E,
@@ -95,7 +109,7 @@ pub(crate) fn tell_stop<O: Write, E: Write>(
         Stop::Settings(number) => writeln!(errors, "pawk: bad assignment: {number}")?,
         Stop::Read(name) => writeln!(errors, "pawk: cannot read {name}")?,
         Stop::Write => errors.write_all(b"pawk: cannot write\n")?,
-        Stop::Line(error) => return tell_line(error, output, errors),
+        Stop::Line(error) => return tell_line(alloc, error, output, errors),
     }
     Ok(2)
 }
@@ -106,10 +120,22 @@ fn tell_program<E: Write>(refusal: SyntaxRefusal, errors: &mut E) -> io::Result<
     writeln!(errors, "pawk: program refused: {number} at byte {place}")
 }
 
-/// The command line's own text: help that was asked for goes to the output.
-fn tell_line<O: Write, E: Write>(error: &Error, output: &mut O, errors: &mut E) -> io::Result<u8> {
+/// The command line's own text: help that was asked for goes to the output. A fault begins as every message does.
+fn tell_line<O: Write, E: Write>(
+    alloc: Global,
+    error: &Error,
+    output: &mut O,
+    errors: &mut E,
+) -> io::Result<u8> {
     if error.use_stderr() {
-        write!(errors, "{error}")?;
+        match format!(in alloc; "{error}") {
+            Ok(text) => {
+                let fault = text.as_str();
+                let rest = fault.strip_prefix("error: ").unwrap_or(fault);
+                write!(errors, "pawk: {rest}")?;
+            }
+            Err(_) => errors.write_all(b"pawk: refused: memory\n")?,
+        }
         return Ok(2);
     }
     write!(output, "{error}")?;

@@ -53,6 +53,12 @@ lawful_words C n m s t hands a b =
 pub are_the_words : (C n s : ℕ) (hands : List Hand) → Lawful C n s hands → AreTheWords C n s hands
 are_the_words C n s hands l = (l, λ m t other. lawful_words C m n t s hands other l)
 
+-- the words of a new board: the counter is 0, and the stop is the count of chunks
+pub words_at_start : (C n : ℕ) (s : SeatView) → s.hand ≡ blank → AreTheWords C 0 C (hands_in (replicate n s))
+words_at_start C n s none =
+    let hands : hands_in (replicate n s) ≡ replicate n blank = hands_in_fresh n s ∙ ap (replicate n) none in
+    are_the_words C 0 C _ (subst (Lawful C 0 C) (sym hands) (lawful_start C n))
+
 -- all numbers that were drawn are below the counter
 pub all_drawn_below : (C n s : ℕ) (hands : List Hand) → Lawful C n s hands → All (λ m. m < n) (drawn_by hands)
 all_drawn_below C n s hands l = All-permutation (λ m. m < n) (range_with_len 0 n) (drawn_by hands) l.draws (range_below n)

@@ -1,3 +1,4 @@
+pub mod Limits
 pub mod History
 pub mod Rule
 pub mod Views

@@ -5,6 +5,7 @@ use Rattle.atomic_table.specs.Table.{State, Me, Step}
 use Rattle.atomic_table.specs.Seated.{TableId}
 use Rattle.pawk_board.specs.declared.hand.Hand.{Hand}
 use Rattle.pawk_board.specs.declared.hand.Terms.{Terms}
+use Rattle.pawk_board.specs.Limits.{most_chunks, most_workers}
 use Rattle.pawk_board.specs.History.{blank, Lawful, drew, tells, sees}
 
 -- a table of two words that keeps the rule for so many chunks and seats
@@ -13,8 +14,8 @@ pub record Fits (id : TableId) (terms : Terms) (chunks workers : ℕ) : Type 0 w
   pub slots : id.slots ≡ 0
   pub chunks_are : terms.chunks ≡ chunks
   pub workers_are : terms.workers ≡ workers
-  pub few_chunks : chunks ≤ 1048576
-  pub few_workers : workers ≤ 64
+  pub few_chunks : chunks ≤ most_chunks
+  pub few_workers : workers ≤ most_workers
 
 -- the hands of all seats of the table, each of which has one for each seat of the board that it stands for
 abbrev pub hands_of : List (List Hand) → List Hand

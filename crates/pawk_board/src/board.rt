@@ -1,6 +1,7 @@
 //! The board and its seats.
 ghost use Rattle.std.specs.Prelude.{◌≡◌, ◌<◌, ◌≤◌, replicate, All, IfOk, vec_len};
-ghost use Rattle.pawk_board.specs.History.{tells, Lawful, AreTheWords, EachOnce, DoneMeansAll, PastMeansTold};
+ghost use Rattle.pawk_board.specs.Limits.{most_chunks, most_workers};
+ghost use Rattle.pawk_board.specs.History.{tells, Lawful, EachOnce, DoneMeansAll, PastMeansTold};
 ghost use Rattle.pawk_board.specs.Views.{fresh, hands_in};
 ghost use Rattle.pawk_board.specs.Claims.{IsUndone, HasClaimed, Claims, LooksPast};
 
@@ -55,7 +56,7 @@ impl Model for Board {
 }
 
 /// What a seat was told.
-#[derive(Clone, Copy, Debug, PartialEq, Eq)]
+#[derive(Clone, Copy, PartialEq, Eq)]
 pub enum Claim {
     /// The number of a chunk, counted from 0, which is now this seat's own.
     Chunk(u64),
@@ -71,13 +72,10 @@ impl Board {
         chunks: u64,
         workers: usize,
     ) -> Result<(Board, Vec<BoardSeat>), AllocError>
-        requires chunks { chunks ≤ 1048576 }
-        requires workers { (0 < workers) × (workers ≤ 64) }
+        requires chunks { chunks ≤ most_chunks }
+        requires workers { (0 < workers) × (workers ≤ most_workers) }
         ensures board { IfOk result (λ r. (r.0.chunks ≡ chunks) × (r.0.workers ≡ workers)) }
         ensures seats { IfOk result (λ r. r.1.items ≡ replicate workers (fresh r.0.id)) }
-
-        // The counter is 0, and the stop is the count of chunks.
-        ensures words { IfOk result (λ r. AreTheWords chunks 0 chunks (hands_in r.1.items)) }
     {
         let mut seats = Vec::with_capacity(alloc, workers)?;
         let terms = Terms {

@@ -14,8 +14,6 @@ mod board;
 mod hand;
 mod rule;
 mod tally;
-#[cfg(test)]
-mod tests;
 
 pub use board::{Board, BoardSeat, Claim};
 pub use hand::Hand;

@@ -9,18 +9,19 @@ use Rattle.pawk_value.specs.Value.{Uninit}
 use Rattle.pawk_input.specs.Input.{File, Item}
 use Rattle.pawk_input.specs.Plan.{chunk_items}
 use Rattle.pawk_input.specs.declared.cutting.Chunk.{Chunk}
-use Rattle.pawk_par.specs.Program.{Shape}
-use Rattle.pawk_par.specs.Outcome.{newline}
-use Rattle.pawk_par.specs.Meaning.{State, opening, record_phase}
-use Rattle.pawk_par.specs.Merge.{end_to_end, HaveTables, CanMerge, StopsAt as MergeStopsAt}
-use Rattle.pawk_par.specs.Chunks.{Told, RanChunk, Ran, told}
+use Rattle.pawk_sequence.specs.Outcome.{newline}
+use Rattle.pawk_sequence.specs.Meaning.{opening, record_phase}
+use Rattle.pawk_merge.specs.Merge.{end_to_end, HaveTables, CanMerge, StopsAt as MergeStopsAt}
+use Rattle.pawk_merge.specs.Results.{ResultView, StoreView, opening_view, result_view}
+use Rattle.pawk_sequence.specs.Chunks.{RanChunk, Ran}
+use Rattle.pawk_par.specs.declared.job.Task.{Task}
 use Rattle.pawk_par.specs.Worker.{Numbered, IsResultOf, numbers, stops}
 use Rattle.pawk_par.specs.Shifts.{limit_of}
-use Rattle.pawk_par.specs.declared.merging.MergeStop.{MergeStop}
-use Rattle.pawk_par.specs.declared.merging.MergeStop.TheVariants as stop
-use Rattle.pawk_par.specs.declared.chunk.Left.{Left}
-use Rattle.pawk_par.specs.declared.chunk.Left.TheVariants as left
-use Rattle.pawk_par.proofs.PhaseLemmas.{tables_of, fault_of_stop}
+use Rattle.pawk_merge.specs.declared.merging.MergeStop.{MergeStop}
+use Rattle.pawk_merge.specs.declared.merging.MergeStop.TheVariants as stop
+use Rattle.pawk_merge.specs.declared.chunk.Left.{Left}
+use Rattle.pawk_merge.specs.declared.chunk.Left.TheVariants as left
+use Rattle.pawk_sequence.proofs.PhaseLemmas.{tables_of, fault_of_stop}
 use Rattle.pawk_par.proofs.GatheringLemmas.{StopsAt}
 
 abbrev pub no_chunk : Chunk
@@ -52,10 +53,10 @@ no_stop (left.Fault f) e s = cc
 
 -- these are the results of the first chunks, all ran through but the one at the stop, and there are no more
 pub Ran-upto : (k : ℕ) (records : Chunk → List Item) (stop : ℕ) (plan : List Chunk) (rs : List Numbered) → length rs ≡ limit_of stop (length plan)
-    → ((i : ℕ) (d : Numbered) → i < length rs → RanChunk k (records (get_or plan i no_chunk)) (told (get_or rs i d).1))
+    → ((i : ℕ) (d : Numbered) → i < length rs → RanChunk k (records (get_or plan i no_chunk)) (result_view (get_or rs i d).1))
     → ((i : ℕ) (d : Numbered) → i < length rs → i < stop → (get_or rs i d).1.ending ≡ left.Through)
     → (stop < length plan → (d : Numbered) × (stops (get_or rs stop d).1.ending ≡ true))
-    → Ran k (map records plan) (map told (map (λ (r : Numbered). r.1) rs))
+    → Ran k (map records plan) (map result_view (map (λ (r : Numbered). r.1) rs))
 Ran-upto k records stop [] [] len ran through last = tt
 Ran-upto k records stop [] (r ∷ rs) len ran through last = absurd (let none : limit_of stop 0 ≤ 0 = grind (arith, nat_tests) in omega (arith, len, none))
 Ran-upto k records stop (c ∷ plan) [] len ran through last = absurd (omega (arith, len, limit_some stop (length plan)))
@@ -77,24 +78,26 @@ key_at n rs e i d h =
     sym (get_or-map (λ (r : Numbered). r.0) rs i d 0 h) ∙ (ap (λ l. get_or l i 0) e ∙ there)
 
 -- results of the first chunks in order, up to the one that did not run through
-pub Ran-numbered : (s : Shape) (files : List File) (stop : ℕ) (plan : List Chunk) (rs : List Numbered) → numbers rs ≡ range_with_len 0 (limit_of stop (length plan))
-    → All (IsResultOf s files plan) rs → All (λ (r : Numbered). stops r.1.ending ≡ true → r.0 ≡ stop) rs → (stop < length plan → StopsAt stop rs)
-    → Ran s.field (map (chunk_items newline files) plan) (map told (map (λ (r : Numbered). r.1) rs))
-Ran-numbered s files stop plan rs order made settled last =
+pub Ran-numbered : (t : Task) (stop : ℕ) (rs : List Numbered) → numbers rs ≡ range_with_len 0 (limit_of stop (length t.plan.now))
+    → All (IsResultOf t) rs → All (λ (r : Numbered). stops r.1.ending ≡ true → r.0 ≡ stop) rs → (stop < length t.plan.now → StopsAt stop rs)
+    → Ran t.program.now.field (map (chunk_items newline t.input.now) t.plan.now) (map result_view (map (λ (r : Numbered). r.1) rs))
+Ran-numbered t stop rs order run only last =
+    let files : List File = t.input.now in
+    let plan : List Chunk = t.plan.now in
     let n = limit_of stop (length plan) in
     let long : length rs ≡ n = sym (length-map rs (λ (r : Numbered). r.0)) ∙ (ap length order ∙ length-range_with_len 0 n) in
     let key = key_at n rs order in
-    Ran-upto s.field (chunk_items newline files) stop plan rs long
-    (λ i d h. one i (get_or rs i d) (key i d h) (made i d h))
-    (λ i d h l. through_of (get_or rs i d).1.ending (λ e. let a = settled i d h e in let b = key i d h in omega arith))
+    Ran-upto t.program.now.field (chunk_items newline files) stop plan rs long
+    (λ i d h. one i (get_or rs i d) (key i d h) (run i d h))
+    (λ i d h l. through_of (get_or rs i d).1.ending (λ e. let a = only i d h e in let b = key i d h in omega arith))
     (λ small. let at = last small in
     let where_ : at.1.0 ≡ stop = sym (key at.1.0 at.0 at.1.1) ∙ (ap (λ (r : Numbered). r.0) at.1.2 ∙ at.3) in
     (at.0, subst (λ (i : ℕ). stops (get_or rs i at.0).1.ending ≡ true) where_ (ap (λ (r : Numbered). stops r.1.ending) at.1.2 ∙ at.2)))
   where
-    one : (i : ℕ) (r : Numbered) → r.0 ≡ i → IsResultOf s files plan r → RanChunk s.field (chunk_items newline files (get_or plan i no_chunk)) (told r.1)
+    one : (i : ℕ) (r : Numbered) → r.0 ≡ i → IsResultOf t r → RanChunk t.program.now.field (chunk_items newline t.input.now (get_or t.plan.now i no_chunk)) (result_view r.1)
     one i r e m =
-        let P : Chunk → Type 0 = λ c. RanChunk s.field (chunk_items newline files c) (told r.1) in
-        subst (λ (j : ℕ). P (get_or plan j no_chunk)) e (at_index P plan r.0 no_chunk m.0 m.1)
+        let P : Chunk → Type 0 = λ c. RanChunk t.program.now.field (chunk_items newline t.input.now c) (result_view r.1) in
+        subst (λ (j : ℕ). P (get_or t.plan.now j no_chunk)) e (at_index P t.plan.now r.0 no_chunk m.0 m.1)
 
 -- lists that are made one from each item, end to end
 pub joined_map : {X Y : Type 0} (f : X → List Y) (xs : List X) → end_to_end (map f xs) ≡ flat_map f xs
@@ -106,9 +109,9 @@ some_of None h = absurd (h refl)
 some_of (Some x) h = refl
 
 -- what a merge that stops says of one run over all records
-pub fault_of_merge : (k : ℕ) (iss : List (List Item)) (cs : List Told) (whole : List Item) (st : State) (s : MergeStop) → end_to_end iss ≡ whole → st ≡ opening → Ran k iss cs → s ≢ stop.Memory
+pub fault_of_merge : (k : ℕ) (iss : List (List Item)) (cs : List ResultView) (whole : List Item) (st : StoreView) (s : MergeStop) → end_to_end iss ≡ whole → st ≡ opening_view → Ran k iss cs → s ≢ stop.Memory
     → ((adds : List (List ℤ)) → HaveTables cs adds → s ≢ stop.Memory → MergeStopsAt st.value cs adds s × (¬ CanMerge st.value cs adds)) → IsSome (record_phase k opening whole).fault
 fault_of_merge k iss cs whole st s joined opened ran memory stops =
     let tables = tables_of k iss cs ran in
-    let cannot : CanMerge Uninit cs tables.0 → ⊥ = λ can. (stops tables.0 tables.1 memory).1 (subst (λ (t : State). CanMerge t.value cs tables.0) (sym opened) can) in
+    let cannot : CanMerge Uninit cs tables.0 → ⊥ = λ can. (stops tables.0 tables.1 memory).1 (subst (λ (t : StoreView). CanMerge t.value cs tables.0) (sym opened) can) in
     subst (λ l. IsSome (record_phase k opening l).fault) joined (some_of _ (fault_of_stop k iss cs tables.0 ran tables.2 cannot))

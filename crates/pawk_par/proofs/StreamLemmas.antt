@@ -1,8 +1,10 @@
 -- What several calls of a device tell together.
-use Rattle.std.proofs.Common.{◌≡◌, ℕ, zero, suc, ◌+◌, ◌<◌, ◌≤◌, List, [], ◌∷◌, ◌++◌, length, take, drop, Option, None, Some, Ok, refl, ap, sym, ◌∙◌, arith, IfSome, length-append}
+use Rattle.std.proofs.Common.{◌≡◌, ℕ, zero, suc, ◌+◌, ◌<◌, ◌≤◌, List, [], ◌∷◌, ◌++◌, length, take, drop, Option, None, Some, Ok, refl, ap, sym, subst, ◌∙◌, arith, IfSome, length-append}
 use Rattle.std.proofs.lemmas.List.{append_assoc, append-nil}
 use Rattle.std.specs.Io.KnownBytes.{Appends, Consumes, IsAtEnd}
+use Rattle.pawk_input.specs.Input.{File}
 use Rattle.pawk_par.specs.Device.{CountsWrite}
+use Rattle.pawk_par.specs.Streams.{standard_input}
 
 pub Appends-more : (a b c : Option (List ℕ)) (xs ys : List ℕ) → Appends a b xs → Appends b c ys → Appends a c (xs ++ ys)
 Appends-more None b c xs ys h j = tt
@@ -43,3 +45,8 @@ take-more (suc n) m [] = nothing m ∙ sym (nothing (suc n + m))
     nothing zero = refl
     nothing (suc k) = refl
 take-more (suc n) m (x ∷ xs) = let e : suc (n + m) ≡ suc n + m = omega arith in ap (λ l. x ∷ l) (take-more n m xs) ∙ ap (λ k. take k (x ∷ xs)) e
+
+-- what holds of the input holds of the source's bytes, where they are known
+pub over_input : (left : Option (List ℕ)) (files : List File) (P : List File → Type 0) → IfSome left (λ bytes. files ≡ standard_input bytes) → P files → IfSome left (λ bytes. P (standard_input bytes))
+over_input None files P e p = tt
+over_input (Some bytes) files P e p = subst P e p

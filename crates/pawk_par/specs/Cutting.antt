@@ -5,7 +5,7 @@ use Rattle.pawk_input.specs.Plan.{sized, RefusesMany, RefusesCuts}
 use Rattle.pawk_input.specs.declared.cutting.CutRefusal.{CutRefusal}
 use Rattle.pawk_input.specs.declared.cutting.CutRefusal.TheVariants.{Memory}
 use Rattle.pawk_input.specs.declared.cutting.TheConstants.{MOST_CHUNKS}
-use Rattle.pawk_par.specs.Outcome.{newline}
+use Rattle.pawk_sequence.specs.Outcome.{newline}
 use Rattle.pawk_par.specs.declared.cutting.Cutting.{Cutting}
 use Rattle.pawk_par.specs.declared.cutting.Cutting.TheVariants.{Size, At}
 

@@ -2,8 +2,8 @@
 use Rattle.std.specs.Prelude.{List, Option, None, Some}
 use Rattle.pawk_value.specs.declared.faults.Fault.{Fault}
 use Rattle.pawk_input.specs.Input.{File}
-use Rattle.pawk_par.specs.Program.{Shape}
-use Rattle.pawk_par.specs.Outcome.{phase_over}
+use Rattle.pawk_shape.specs.Program.{Shape}
+use Rattle.pawk_sequence.specs.Outcome.{phase_over}
 use Rattle.pawk_par.specs.declared.report.Route.{Route}
 use Rattle.pawk_par.specs.declared.report.Route.TheVariants.{Redo, Parallel}
 

@@ -7,15 +7,20 @@ use Rattle.pawk_board.specs.History.{blank}
 use Rattle.pawk_board.specs.Views.{BoardView}
 use Rattle.pawk_input.specs.Input.{File}
 use Rattle.pawk_input.specs.declared.cutting.Chunk.{Chunk}
-use Rattle.pawk_par.specs.Program.{Shape}
-use Rattle.pawk_par.specs.Worker.{Numbered, HasWorked, IsResultOf}
+use Rattle.pawk_shape.specs.Program.{Shape}
+use Rattle.pawk_par.specs.Worker.{Numbered, HasWorked, IsResultIn}
+use Rattle.pawk_par.specs.declared.job.Task.{Task}
 use Rattle.pawk_par.specs.declared.shifts.Shift.{Shift}
 
 -- a worker that had done nothing has worked on this board, and each result is what a run of its chunk tells
-abbrev pub Worked : BoardView → Shape → List File → List Chunk → Shift → Type 0
-Worked board s files plan shift =
+abbrev pub WorkedOn : BoardView → Shape → List File → List Chunk → Shift → Type 0
+WorkedOn board s files plan shift =
     (shift.seat.board ≡ board.id)
-    × IfOk shift.results (λ v. HasWorked board.chunks blank shift.seat.hand v.items × All (IsResultOf s files plan) v.items)
+    × IfOk shift.results (λ v. HasWorked board.chunks blank shift.seat.hand v.items × All (IsResultIn s files plan) v.items)
+
+-- the same of a task
+abbrev pub Worked : Task → Shift → Type 0
+Worked t shift = WorkedOn t.board.now t.program.now t.input.now t.plan.now shift
 
 abbrev pub results_in : Result (Vec Numbered Global) AllocError → List Numbered
 results_in (Ok v) = v.items

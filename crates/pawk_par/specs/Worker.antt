@@ -5,12 +5,14 @@ use Rattle.pawk_board.specs.History.{tells, sees}
 use Rattle.pawk_input.specs.Input.{File}
 use Rattle.pawk_input.specs.Plan.{chunk_items}
 use Rattle.pawk_input.specs.declared.cutting.Chunk.{Chunk}
-use Rattle.pawk_par.specs.Program.{Shape}
-use Rattle.pawk_par.specs.Outcome.{newline}
-use Rattle.pawk_par.specs.Chunks.{RanChunk, told}
-use Rattle.pawk_par.specs.declared.chunk.ChunkResult.{ChunkResult}
-use Rattle.pawk_par.specs.declared.chunk.Left.{Left}
-use Rattle.pawk_par.specs.declared.chunk.Left.TheVariants as left
+use Rattle.pawk_shape.specs.Program.{Shape}
+use Rattle.pawk_merge.specs.Results.{result_view}
+use Rattle.pawk_sequence.specs.Outcome.{newline}
+use Rattle.pawk_sequence.specs.Chunks.{RanChunk}
+use Rattle.pawk_par.specs.declared.job.Task.{Task}
+use Rattle.pawk_merge.specs.declared.chunk.ChunkResult.{ChunkResult}
+use Rattle.pawk_merge.specs.declared.chunk.Left.{Left}
+use Rattle.pawk_merge.specs.declared.chunk.Left.TheVariants as left
 
 -- a chunk's number and its result
 abbrev pub Numbered : Type 0
@@ -29,8 +31,14 @@ abbrev pub stopping : List Numbered → List ℕ
 stopping rs = numbers (filter (λ (r : Numbered). stops r.1.ending) rs)
 
 -- the result is what a run of the plan's chunk of that number tells
-abbrev pub IsResultOf : Shape → List File → List Chunk → Numbered → Type 0
-IsResultOf s files plan r = (r.0 < length plan) × IfSome (slice_get plan r.0) (λ c. RanChunk s.field (chunk_items newline files c) (told r.1))
+abbrev pub IsResultIn : Shape → List File → List Chunk → Numbered → Type 0
+IsResultIn s files plan r =
+    (r.0 < length plan)
+    × IfSome (slice_get plan r.0) (λ c. RanChunk s.field (chunk_items newline files c) (result_view r.1))
+
+-- the same of a task's chunk
+abbrev pub IsResultOf : Task → Numbered → Type 0
+IsResultOf t r = IsResultIn t.program.now t.input.now t.plan.now r
 
 -- the seat saw a stop below n
 abbrev pub Skips : Hand → ℕ → Hand → Type 0

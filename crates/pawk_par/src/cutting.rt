@@ -1,7 +1,7 @@
 //! How the input is to be cut into chunks.
 
 /// How the input is to be cut into chunks.
-#[derive(Debug, Drop)]
+#[derive(Drop)]
 pub enum Cutting {
     /// A chunk ends before the first record that begins at least so many bytes past the chunk's begin, or at the end of
     /// the file. The size is 1 or more.

@@ -8,7 +8,7 @@ use crate::count::Count;
 use std::io::{Read, Write};
 
 /// A read or a write failed.
-#[derive(Clone, Copy, Debug, PartialEq, Eq)]
+#[derive(Clone, Copy)]
 pub struct Failed;
 
 /// A device that bytes come from.

@@ -10,7 +10,7 @@ pub trait Gate {
 }
 
 /// Does nothing.
-#[derive(Clone, Copy, Debug)]
+#[derive(Clone, Copy)]
 pub struct Open;
 
 impl Gate for Open {

@@ -1,26 +1,28 @@
 //! The results of all workers, brought together.
 
-ghost use Rattle.std.specs.Prelude.{◌≡◌, ◌≢◌, ◌<◌, ◌≤◌, nat_lt, length, map, filter, All, IfOk, IfErr, IsOk};
+ghost use Rattle.std.specs.Prelude.{◌≡◌, ◌≢◌, ◌≤◌, nat_lt, length, map, filter, All, IfOk, IfErr, IsOk};
 ghost use Rattle.std.specs.List.{flat_map};
+ghost use Rattle.pawk_board.specs.Limits.{most_chunks};
 ghost use Rattle.pawk_input.specs.Plan.{IsPlanOf, chunk_items};
-ghost use Rattle.pawk_par.specs.Chunks.{Ran, told};
-ghost use Rattle.pawk_par.specs.Outcome.{newline};
+ghost use Rattle.pawk_merge.specs.Results.{result_view};
+ghost use Rattle.pawk_sequence.specs.Chunks.{Ran};
+ghost use Rattle.pawk_sequence.specs.Outcome.{newline};
 ghost use Rattle.pawk_par.specs.Shifts.{limit_of, results_of};
+ghost use Rattle.pawk_par.specs.Task.{IsCrew};
 
-use crate::chunk::ChunkResult;
 use crate::gate::Gate;
-use crate::program::Program;
+use crate::job::{Job, Task};
 use crate::report::Refusal;
-use crate::settings::Settings;
 use crate::shifts::{Shift, all_work};
 use pawk_board::{Board, BoardSeat};
-use pawk_input::{Input, Plan};
+use pawk_input::Plan;
+use pawk_merge::ChunkResult;
 use std::alloc::{AllocError, Global};
 use std::sync::Wait;
 use std::thread::Threads;
 
 /// The seats and the results of all shifts, each result with its chunk's number.
-fn gathered(
+fn join_shifts(
     alloc: Global,
     shifts: Vec<Shift>,
 ) -> Result<(Vec<BoardSeat>, Vec<(u64, ChunkResult)>), AllocError>
@@ -69,29 +71,34 @@ fn without_numbers(
     Ok(results)
 }
 
-/// The results of the chunks in order, up to the first that did not run through, by so many workers.
+/// The results of the chunks in order, up to the first that did not run through, by so many workers, or fewer where there
+/// are fewer chunks.
 pub(crate) fn run_chunks<G: Gate + Sync, R: Threads + Wait>(
     rt: &R,
     alloc: Global,
-    program: &Program,
-    settings: &Settings,
-    input: &Input,
+    job: Job<'_>,
     plan: &Plan,
     workers: usize,
     gate: &G,
 ) -> Result<Vec<ChunkResult>, Refusal>
-    requires plan { IsPlanOf newline input.now plan.now }
-    requires few { length plan.now ≤ 1048576 }
-    requires workers { (0 < workers) × (workers ≤ 64) }
+    requires plan { IsPlanOf newline job.input.now plan.now }
+    requires few { length plan.now ≤ most_chunks }
+    requires workers { IsCrew workers }
     ensures refused { IfErr result (λ e. e ≢ Refusal.Cutting) }
-    ensures ran { IfOk result (λ rs. Ran program.now.field (map (chunk_items newline input.now) plan.now) (map told rs.items)) }
+    ensures ran { IfOk result (λ rs. Ran job.entry.program.now.field
+        (map (chunk_items newline job.entry.input.now) plan.now) (map result_view rs.items)) }
 {
     let chunks = plan.len() as u64;
-    let (board, seats) = Board::new(alloc, chunks, workers)?;
-    let shifts = all_work(
-        rt, alloc, &board, seats, program, settings, input, plan, gate,
-    )?;
-    let (seats, mut results) = gathered(alloc, shifts)?;
+    let crew = workers.min(plan.len()).max(1);
+    let (board, seats) = Board::new(alloc, chunks, crew)?;
+    let task = Task {
+        program: job.program,
+        input: job.input,
+        plan,
+        board: &board,
+    };
+    let shifts = all_work(rt, alloc, &task, seats, gate)?;
+    let (seats, mut results) = join_shifts(alloc, shifts)?;
     let tally = board.finish(seats);
     let stop = tally.stop();
     keep_below(&mut results, limit(stop, chunks));

@@ -1,10 +1,9 @@
 //! How a run went, and why one was refused.
 
-use pawk_input::CutRefusal;
 use std::alloc::AllocError;
 
 /// Which way a run went.
-#[derive(Clone, Copy, Debug, PartialEq, Eq)]
+#[derive(Clone, Copy, PartialEq, Eq)]
 pub enum Route {
     /// The record phase faults, so the input was run again, one record after the other.
     Redo,
@@ -13,14 +12,14 @@ pub enum Route {
 }
 
 /// How a run went.
-#[derive(Clone, Copy, Debug, PartialEq, Eq)]
+#[derive(Clone, Copy, PartialEq, Eq)]
 pub struct Report {
     /// Which way it went.
     pub route: Route,
 }
 
 /// Why a run was refused.
-#[derive(Clone, Copy, Debug, PartialEq, Eq)]
+#[derive(Clone, Copy, PartialEq, Eq)]
 pub enum Refusal {
     /// Memory was refused.
     Memory = 1,

@@ -1,27 +1,23 @@
 //! A whole run.
 
 ghost use Rattle.std.specs.Prelude.{◌≡◌, ◌≢◌, ◌≤◌, length, None, Err, IfOk, IfErr, IsSome, MatchOption};
+ghost use Rattle.pawk_board.specs.Limits.{most_chunks};
 ghost use Rattle.pawk_input.specs.Plan.{IsPlanOf};
-ghost use Rattle.pawk_input.specs.declared.cutting.TheConstants.{MOST_CHUNKS};
-ghost use Rattle.pawk_par.specs.Chunks.{state_of};
+ghost use Rattle.pawk_merge.specs.Results.{view_of};
+ghost use Rattle.pawk_sequence.specs.Chunks.{state_over};
+ghost use Rattle.pawk_sequence.specs.Outcome.{meaning, newline, phase_over, shown_outcome};
 ghost use Rattle.pawk_par.specs.Cutting.{IsSized, IsRefused, PlanRefused};
-ghost use Rattle.pawk_par.specs.Outcome.{meaning, newline, phase_over, shown_outcome};
 ghost use Rattle.pawk_par.specs.Run.{route_over};
-ghost use Rattle.pawk_par.specs.Sequence.{phase_told};
+ghost use Rattle.pawk_par.specs.Task.{IsCrew};
 
-use crate::chunk_run::NEWLINE;
 use crate::cutting::Cutting;
-use crate::finish::finish;
 use crate::gate::Gate;
 use crate::gathering::run_chunks;
-use crate::merging::{MergeStop, merge};
-use crate::outcome::Outcome;
-use crate::program::Program;
+use crate::job::Job;
 use crate::report::{Refusal, Report, Route};
-use crate::sequence::{Ended, run_sequence};
-use crate::settings::Settings;
-use crate::state::Store;
 use pawk_input::{CutRefusal, Input, Plan};
+use pawk_merge::{MergeStop, Store, merge};
+use pawk_sequence::{NEWLINE, Outcome, RecordPhase, finish, run_sequence};
 use std::alloc::Global;
 use std::sync::Wait;
 use std::thread::Threads;
@@ -30,7 +26,8 @@ use std::thread::Threads;
 fn plan_of(alloc: Global, input: &Input, cutting: &Cutting) -> Result<Plan, CutRefusal>
     requires { IsSized cutting.now }
     ensures plan { IfOk result (λ p. IsPlanOf newline input.now p) }
-    ensures few { IfOk result (λ p. length p ≤ MOST_CHUNKS) }
+    ensures few { IfOk result (λ p. length p ≤ most_chunks) }
+    ensures accepted { IfOk result (λ _. ¬ IsRefused input.now cutting.now) }
     ensures refused { IfErr result (PlanRefused input.now cutting.now) }
 {
     match cutting {
@@ -43,21 +40,21 @@ fn plan_of(alloc: Global, input: &Input, cutting: &Cutting) -> Result<Plan, CutR
 fn run_plan<G: Gate + Sync, R: Threads + Wait>(
     rt: &R,
     alloc: Global,
-    program: &Program,
-    settings: &Settings,
-    input: &Input,
+    job: Job<'_>,
     plan: &Plan,
     workers: usize,
     gate: &G,
 ) -> Result<Option<Store>, Refusal>
-    requires plan { IsPlanOf newline input.now plan.now }
-    requires few { length plan.now ≤ MOST_CHUNKS }
-    requires workers { (1 ≤ workers) × (workers ≤ 64) }
+    requires plan { IsPlanOf newline job.input.now plan.now }
+    requires few { length plan.now ≤ most_chunks }
+    requires workers { IsCrew workers }
     ensures refused { IfErr result (λ e. e ≢ Refusal.Cutting) }
-    ensures ends { IfOk result (λ o. MatchOption o (IsSome (phase_over program.now input.now).fault)
-        (λ store. phase_over program.now input.now ≡ record { state = state_of store; fault = None })) }
+    ensures ends { IfOk result (λ o. MatchOption o
+        (IsSome (phase_over job.entry.program.now job.entry.input.now).fault)
+        (λ store. phase_over job.entry.program.now job.entry.input.now
+        ≡ record { state = state_over job.entry.input.now (view_of store); fault = None })) }
 {
-    let results = run_chunks(rt, alloc, program, settings, input, plan, workers, gate)?;
+    let results = run_chunks(rt, alloc, job, plan, workers, gate)?;
     match merge(alloc, &Store::new(), results) {
         Ok(merged) => Ok(Some(merged.store)),
         Err(MergeStop::Memory) => Err(Refusal::Memory),
@@ -67,44 +64,46 @@ fn run_plan<G: Gate + Sync, R: Threads + Wait>(
 }
 
 /// Runs a program over an input that is cut into chunks, and gives what the run shows and how it went: what the records
-/// one after the other give, whatever the cutting and the number of workers.
+/// one after the other give, whatever the cutting and the number of workers, 1 to 64.
 ///
-/// Each worker is a thread that draws chunks from a board until none is left; all have ended when this returns. The gate is
-/// called round each chunk that is run, on its worker's thread. The route is `Redo` exactly where a record of the
-/// sequential record phase ends in a fault; the input is then run again, one record after the other, on this thread.
+/// Each worker is a thread that draws chunks from a board until none is left; there are no more of them than chunks, and at
+/// least one. All have ended when this returns. The gate is called round each chunk that is run, on its worker's thread.
+/// The route is `Redo` exactly where a record of the sequential record phase ends in a fault; the input is then run again,
+/// one record after the other, on this thread.
 ///
-/// `Cutting` comes only where the cutting has no plan, `Thread` where a worker could not be started, `Memory` where memory
-/// was refused.
+/// `Cutting` comes only where the cutting has no plan, and where it has none nothing is run; `Thread` comes where a worker
+/// could not be started, `Memory` where memory was refused.
 pub fn run<G: Gate + Sync, R: Threads + Wait>(
     rt: &R,
     alloc: Global,
-    program: &Program,
-    settings: &Settings,
-    input: &Input,
+    job: Job<'_>,
     cutting: &Cutting,
     workers: usize,
     gate: &G,
 ) -> Result<(Outcome, Report), Refusal>
     requires sized { IsSized cutting.now }
-    requires workers { (1 ≤ workers) × (workers ≤ 64) }
-    ensures outcome { IfOk result (λ r. shown_outcome r.0 ≡ meaning program.now input.now) }
-    ensures route { IfOk result (λ r. r.1.route ≡ route_over program.now input.now) }
-    ensures cutting { result ≡ Err Refusal.Cutting → IsRefused input.now cutting.now }
+    requires workers { IsCrew workers }
+    ensures outcome { IfOk result (λ r.
+        shown_outcome r.0 ≡ meaning job.entry.program.now job.entry.input.now) }
+    ensures route { IfOk result (λ r.
+        r.1.route ≡ route_over job.entry.program.now job.entry.input.now) }
+    ensures accepted { IfOk result (λ _. ¬ IsRefused job.entry.input.now cutting.now) }
+    ensures refused { result ≡ Err Refusal.Cutting → IsRefused job.entry.input.now cutting.now }
 {
-    let plan = match plan_of(alloc, input, cutting) {
+    let plan = match plan_of(alloc, job.input, cutting) {
         Ok(plan) => plan,
         Err(CutRefusal::Memory) => return Err(Refusal::Memory),
         Err(_) => return Err(Refusal::Cutting),
     };
-    match run_plan(rt, alloc, program, settings, input, &plan, workers, gate)? {
+    match run_plan(rt, alloc, job, &plan, workers, gate)? {
         Some(store) => {
-            let outcome = finish(alloc, program, store, None)?;
+            let outcome = finish(alloc, job.program, job.input, store, None)?;
             let route = Route::Parallel;
             Ok((outcome, Report { route }))
         }
         None => {
-            let Ended { store, fault } = run_sequence(alloc, program, input)?;
-            let outcome = finish(alloc, program, store, fault)?;
+            let RecordPhase { store, fault } = run_sequence(job.program, job.input);
+            let outcome = finish(alloc, job.program, job.input, store, fault)?;
             let route = Route::Redo;
             Ok((outcome, Report { route }))
         }

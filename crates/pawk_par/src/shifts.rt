@@ -3,17 +3,18 @@
 ghost use Rattle.std.specs.Prelude.{◌≡◌, ◌≢◌, length, All, IfOk, IfErr, vec_len};
 ghost use Rattle.pawk_board.specs.Views.{fresh};
 ghost use Rattle.pawk_input.specs.Plan.{IsPlanOf};
-ghost use Rattle.pawk_par.specs.Outcome.{newline};
-ghost use Rattle.pawk_par.specs.Shifts.{Worked};
+ghost use Rattle.pawk_sequence.specs.Outcome.{newline};
+ghost use Rattle.pawk_par.specs.Shifts.{Worked, WorkedOn};
+ghost use Rattle.pawk_par.specs.Task.{IsTask};
 
-use crate::chunk::ChunkResult;
 use crate::gate::Gate;
-use crate::program::Program;
+use crate::job::Task;
 use crate::report::Refusal;
-use crate::settings::Settings;
 use crate::worker::work;
 use pawk_board::{Board, BoardSeat};
 use pawk_input::{Input, Plan};
+use pawk_merge::ChunkResult;
+use pawk_shape::Program;
 use std::alloc::{AllocError, Global};
 use std::sync::Wait;
 use std::thread;
@@ -26,40 +27,35 @@ pub(crate) struct Shift {
     pub(crate) results: Result<Vec<(u64, ChunkResult)>, AllocError>,
 }
 
-/// The promise that a shift is of this board, and of this program over this input by this plan.
-#[derive(Clone, Copy)]
-struct Task<'a> {
-    board: &'a Board,
-    program: &'a Program,
-    input: &'a Input,
-    plan: &'a Plan,
-}
-
+/// A task is the promise that a shift is of it.
 impl<'a> Promise<Shift> for Task<'a> {
     ghost use Rattle.pawk_par.specs.Shifts.{Worked};
 
-    ghost kept_by = { λ t s. Worked t.board.now t.program.now t.input.now t.plan.now s };
+    ghost kept_by = { λ t s. Worked t s };
 }
 
 /// The work of one thread.
 fn one_shift<G: Gate>(
     alloc: Global,
-    board: &Board,
-    mut seat: BoardSeat,
     program: &Program,
-    settings: &Settings,
     input: &Input,
     plan: &Plan,
+    board: &Board,
+    mut seat: BoardSeat,
     gate: &G,
 ) -> Shift
     requires plan { IsPlanOf newline input.now plan.now }
     requires chunks { board.now.chunks ≡ length plan.now }
     requires seat { seat ≡ fresh board.now.id }
-    ensures { Worked board.now program.now input.now plan.now result }
+    ensures { WorkedOn board.now program.now input.now plan.now result }
 {
-    let results = work(
-        alloc, board, &mut seat, program, settings, input, plan, gate,
-    );
+    let task = Task {
+        program,
+        input,
+        plan,
+        board,
+    };
+    let results = work(alloc, &task, &mut seat, gate);
     Shift { seat, results }
 }
 
@@ -68,34 +64,29 @@ fn in_scope<'s, E, G: Gate + Sync, R: Threads>(
     scope: &Scope<'s, E>,
     rt: &R,
     alloc: Global,
-    board: &'s Board,
+    task: Task<'s>,
     seats: Vec<BoardSeat>,
-    program: &'s Program,
-    settings: &'s Settings,
-    input: &'s Input,
-    plan: &'s Plan,
     gate: &'s G,
 ) -> Result<Vec<Shift>, Refusal>
-    requires plan { IsPlanOf newline input.now plan.now }
-    requires chunks { board.now.chunks ≡ length plan.now }
-    requires seats { All (λ s. s ≡ fresh board.now.id) seats.items }
+    requires task { IsTask task }
+    requires seats { All (λ s. s ≡ fresh task.board.now.id) seats.items }
     ensures len { IfOk result (λ v. vec_len v ≡ vec_len seats) }
-    ensures worked { IfOk result (λ v. All (Worked board.entry.now program.entry.now input.entry.now plan.entry.now) v.items) }
+    ensures worked { IfOk result (λ v. All (Worked task.entry) v.items) }
     ensures refused { IfErr result (λ e. e ≢ Refusal.Cutting) }
 {
+    let Task {
+        program,
+        input,
+        plan,
+        board,
+    } = task;
     let count = seats.len();
     let mut shifts = Vec::with_capacity(alloc, count)?;
     let mut handles = Vec::with_capacity(alloc, count)?;
     for seat in seats {
-        let started = scope.spawn_with(
-            Task {
-                board,
-                program,
-                input,
-                plan,
-            },
-            move || one_shift(alloc, board, seat, program, settings, input, plan, gate),
-        );
+        let started = scope.spawn_with(task, move || {
+            one_shift(alloc, program, input, plan, board, seat, gate)
+        });
         match started {
             Ok(handle) => handles.push_reserved(handle),
             Err(_) => break,
@@ -115,32 +106,40 @@ fn in_scope<'s, E, G: Gate + Sync, R: Threads>(
 pub(crate) fn all_work<G: Gate + Sync, R: Threads + Wait>(
     rt: &R,
     alloc: Global,
-    board: &Board,
+    task: &Task<'_>,
     seats: Vec<BoardSeat>,
-    program: &Program,
-    settings: &Settings,
-    input: &Input,
-    plan: &Plan,
     gate: &G,
 ) -> Result<Vec<Shift>, Refusal>
-    requires plan { IsPlanOf newline input.now plan.now }
-    requires chunks { board.now.chunks ≡ length plan.now }
-    requires seats { All (λ s. s ≡ fresh board.now.id) seats.items }
+    requires task { IsTask task.now }
+    requires seats { All (λ s. s ≡ fresh task.now.board.now.id) seats.items }
     ensures len { IfOk result (λ v. vec_len v ≡ vec_len seats) }
-    ensures worked { IfOk result (λ v. All (Worked board.now program.now input.now plan.now) v.items) }
+    ensures worked { IfOk result (λ v. All (Worked task.now) v.items) }
     ensures refused { IfErr result (λ e. e ≢ Refusal.Cutting) }
 {
+    let Task {
+        program,
+        input,
+        plan,
+        board,
+    } = *task;
     thread::scope(
         thread::scope_env(),
         rt,
         |scope| -> Result<Vec<Shift>, Refusal>
-            requires { (IsPlanOf newline input.now plan.now) × (board.now.chunks ≡ length plan.now) × All (λ s. s ≡ fresh board.now.id) seats.items }
-            ensures worked { IfOk result (λ v. (vec_len v ≡ vec_len seats) × All (Worked board.entry.now program.entry.now input.entry.now plan.entry.now) v.items) }
+            requires { IsPlanOf newline input.now plan.now
+                × (board.now.chunks ≡ length plan.now)
+                × All (λ s. s ≡ fresh board.now.id) seats.items }
+            ensures worked { IfOk result (λ v. (vec_len v ≡ vec_len seats)
+                × All (WorkedOn board.entry.now program.entry.now input.entry.now plan.entry.now) v.items) }
             ensures refused { IfErr result (λ e. e ≢ Refusal.Cutting) }
         {
-            in_scope(
-                scope, rt, alloc, board, seats, program, settings, input, plan, gate,
-            )
+            let task = Task {
+                program,
+                input,
+                plan,
+                board,
+            };
+            in_scope(scope, rt, alloc, task, seats, gate)
         },
     )
 }

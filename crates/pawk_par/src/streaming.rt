@@ -2,32 +2,68 @@
 
 ghost use Rattle.std.specs.Prelude.{◌≡◌, ◌≤◌, ◌<◌, [], take, drop, length, Some, Ok, Err, IfOk, IfErr, IfSome, OnOk};
 ghost use Rattle.std.specs.Io.KnownBytes.{Appends, Keeps};
+ghost use Rattle.pawk_sequence.specs.Outcome.{meaning, shown_outcome};
+ghost use Rattle.pawk_shape.specs.Limits.{IsBudget};
+ghost use Rattle.pawk_shape.specs.Program.{Spells};
 ghost use Rattle.pawk_par.specs.Cutting.{IsSized, IsRefused};
-ghost use Rattle.pawk_par.specs.Outcome.{meaning, shown_outcome};
-ghost use Rattle.pawk_par.specs.Program.{Spells};
 ghost use Rattle.pawk_par.specs.Run.{route_over};
-ghost use Rattle.pawk_par.specs.Streams.{Answers, WhyRefused, WhyUnprepared, WhyUnread, standard_input};
+ghost use Rattle.pawk_par.specs.Streams.{Answers, WhyRefused, WhyUnprepared, WhyUnread, devices, standard_input};
+ghost use Rattle.pawk_par.specs.Task.{IsCrew};
 
 use crate::cutting::Cutting;
 use crate::device::{Failed, Sink, Source};
 use crate::gate::Gate;
-use crate::outcome::Ending;
-use crate::program::{Program, SyntaxRefusal, parse};
+use crate::job::Job;
 use crate::report::{Refusal, Report};
 use crate::running::run;
-use crate::settings::{Assignment, Settings, SettingsRefusal};
-use crate::slices::past;
-use crate::streams::StreamRefusal;
 use pawk_input::{Input, LIMIT, TooLarge};
+use pawk_sequence::Ending;
+use pawk_shape::{Assignment, Program, Settings, SettingsRefusal, SyntaxRefusal, parse};
 use std::alloc::{AllocError, AllocFailed, Global};
 use std::sync::Wait;
 use std::thread::Threads;
+
+/// What is asked of a run over streams.
+#[derive(Clone, Copy)]
+pub struct Request<'a> {
+    /// The program's text.
+    pub text: &'a [u8],
+    /// The assignments before BEGIN; so far none can be given.
+    pub assigns: &'a [Assignment<'a>],
+    /// How many steps each record may take, 1 to 1,000,000,000,000.
+    pub budget: u64,
+    /// How the input is to be cut.
+    pub cutting: &'a Cutting,
+    /// How many workers there may be, 1 to 64.
+    pub workers: usize,
+}
+
+/// Why a run over streams was refused. Nothing was written, but with `Write`.
+#[derive(Clone, Copy, PartialEq, Eq)]
+pub enum StreamRefusal {
+    /// Memory was refused.
+    Memory,
+    /// A worker could not be started.
+    Thread,
+    /// There is no plan of this cutting.
+    Cutting,
+    /// The text is no program that is read. Nothing was read.
+    Program(SyntaxRefusal),
+    /// The settings are refused. Nothing was read.
+    Settings(SettingsRefusal),
+    /// A read failed.
+    Read,
+    /// A write failed, after so many bytes of the output.
+    Write(u64),
+    /// The input is larger than an input may be.
+    Input,
+}
 
 /// How many bytes are asked of a source at once.
 const PIECE: usize = 131_072;
 
 /// Why a source was not read to its end.
-#[derive(Clone, Copy, Debug, PartialEq, Eq)]
+#[derive(Clone, Copy)]
 enum ReadStop {
     Memory,
     Failed,
@@ -61,7 +97,8 @@ fn read_pieces<S: Source>(
     ensures bytes { IfOk result (λ v. IfSome (S.left source.old) (λ bytes. v.items ≡ bytes)) }
     ensures small { IfOk result (λ v. length v.items ≤ LIMIT) }
     ensures failed { result ≡ Err ReadStop.Failed → S.failures source.old < S.failures source.new }
-    ensures large { result ≡ Err ReadStop.TooLarge → IfSome (S.left source.old) (λ bytes. LIMIT < length bytes) }
+    ensures large { result ≡ Err ReadStop.TooLarge →
+        IfSome (S.left source.old) (λ bytes. LIMIT < length bytes) }
 {
     let mut bytes = Vec::new(alloc);
     loop {
@@ -84,17 +121,30 @@ fn read_all<S: Source>(alloc: Global, source: &mut S) -> Result<Vec<u8>, ReadSto
     ensures bytes { IfOk result (λ v. IfSome (S.left source.old) (λ bytes. v.items ≡ bytes)) }
     ensures small { IfOk result (λ v. length v.items ≤ LIMIT) }
     ensures failed { result ≡ Err ReadStop.Failed → S.failures source.old < S.failures source.new }
-    ensures large { result ≡ Err ReadStop.TooLarge → IfSome (S.left source.old) (λ bytes. LIMIT < length bytes) }
+    ensures large { result ≡ Err ReadStop.TooLarge →
+        IfSome (S.left source.old) (λ bytes. LIMIT < length bytes) }
 {
     let mut piece = zeros(alloc, PIECE)?;
     read_pieces(alloc, source, &mut piece)
+}
+
+/// What follows the first `count` bytes.
+fn past(bytes: &[u8], count: usize) -> &[u8]
+    ensures { result.now ≡ drop count bytes.now }
+{
+    if count < bytes.len() {
+        &bytes[count..]
+    } else {
+        &[]
+    }
 }
 
 /// Writes all the bytes, or tells how many went out before a write failed.
 fn write_all<K: Sink>(sink: &mut K, bytes: &[u8]) -> Result<(), u64>
     ensures all { OnOk result (Appends (K.taken sink.old) (K.taken sink.new) bytes.now) }
     ensures failed { IfErr result (λ _. K.failures sink.old < K.failures sink.new) }
-    ensures part { IfErr result (λ n. (n < length bytes.now) × Appends (K.taken sink.old) (K.taken sink.new) (take n bytes.now)) }
+    ensures part { IfErr result (λ n.
+        (n < length bytes.now) × Appends (K.taken sink.old) (K.taken sink.new) (take n bytes.now)) }
 {
     let mut done = 0;
     while done < bytes.len() {
@@ -111,24 +161,20 @@ fn write_all<K: Sink>(sink: &mut K, bytes: &[u8]) -> Result<(), u64>
 }
 
 /// The program and the settings.
-fn prepare(
-    alloc: Global,
-    text: &[u8],
-    assigns: &[Assignment<'_>],
-    budget: u64,
-) -> Result<(Program, Settings), StreamRefusal>
-    requires none { assigns.now ≡ [] }
-    ensures program { IfOk result (λ p. Spells text.now p.0) }
-    ensures refused { IfErr result (WhyUnprepared text.now budget) }
+fn prepare(alloc: Global, request: &Request<'_>) -> Result<(Program, Settings), StreamRefusal>
+    requires none { request.now.assigns.now ≡ [] }
+    ensures program { IfOk result (λ p. Spells request.now.text.now p.0) }
+    ensures budget { IfOk result (λ _. IsBudget request.now.budget) }
+    ensures refused { IfErr result (WhyUnprepared request.now) }
 {
-    let program = match parse(alloc, text) {
+    let program = match parse(alloc, request.text) {
         Ok(program) => program,
         Err(SyntaxRefusal::Memory) => return Err(StreamRefusal::Memory),
         Err(SyntaxRefusal::OutsideFirstPath) => return Err(StreamRefusal::Program(
             SyntaxRefusal::OutsideFirstPath,
         )),
     };
-    match Settings::new(alloc, &program, assigns, budget) {
+    match Settings::new(alloc, &program, request.assigns, request.budget) {
         Ok(settings) => Ok((program, settings)),
         Err(SettingsRefusal::Memory) => Err(StreamRefusal::Memory),
         Err(SettingsRefusal::Budget) => Err(StreamRefusal::Settings(SettingsRefusal::Budget)),
@@ -152,8 +198,10 @@ fn nameless(alloc: Global, bytes: Vec<u8>) -> Result<Input, StreamRefusal>
 
 /// A source's bytes as the one file of an input.
 fn read_input<S: Source>(alloc: Global, source: &mut S) -> Result<Input, StreamRefusal>
-    ensures input { IfOk result (λ input. IfSome (S.left source.old) (λ bytes. input ≡ standard_input bytes)) }
-    ensures refused { IfErr result (WhyUnread (S.left source.old) (S.failures source.old) (S.failures source.new)) }
+    ensures input { IfOk result (λ input.
+        IfSome (S.left source.old) (λ bytes. input ≡ standard_input bytes)) }
+    ensures refused { IfErr result
+        (WhyUnread (S.left source.old) (S.failures source.old) (S.failures source.new)) }
 {
     match read_all(alloc, source) {
         Ok(bytes) => nameless(alloc, bytes),
@@ -174,27 +222,23 @@ fn read_input<S: Source>(alloc: Global, source: &mut S) -> Result<Input, StreamR
 pub fn run_streams<S: Source, K: Sink, G: Gate + Sync, R: Threads + Wait>(
     rt: &R,
     alloc: Global,
-    text: &[u8],
-    assigns: &[Assignment<'_>],
-    budget: u64,
+    request: &Request<'_>,
     source: &mut S,
     sink: &mut K,
-    cutting: &Cutting,
-    workers: usize,
     gate: &G,
 ) -> Result<(Ending, Report), StreamRefusal>
-    requires none { assigns.now ≡ [] }
-    requires sized { IsSized cutting.now }
-    requires workers { (1 ≤ workers) × (workers ≤ 64) }
-    ensures answered { IfOk result (λ r. Answers text.now
-        (record { left = S.left source.old; read_failures = S.failures source.old; taken = K.taken sink.old; write_failures = K.failures sink.old })
-        (record { left = S.left source.new; read_failures = S.failures source.new; taken = K.taken sink.new; write_failures = K.failures sink.new })
+    requires none { request.now.assigns.now ≡ [] }
+    requires sized { IsSized request.now.cutting.now }
+    requires workers { IsCrew request.now.workers }
+    ensures answered { IfOk result (λ r. Answers request.now
+        (devices (S.left source.old) (S.failures source.old) (K.taken sink.old) (K.failures sink.old))
+        (devices (S.left source.new) (S.failures source.new) (K.taken sink.new) (K.failures sink.new))
         r.0 r.1) }
-    ensures refused { IfErr result (WhyRefused text.now budget cutting.now
-        (record { left = S.left source.old; read_failures = S.failures source.old; taken = K.taken sink.old; write_failures = K.failures sink.old })
-        (record { left = S.left source.new; read_failures = S.failures source.new; taken = K.taken sink.new; write_failures = K.failures sink.new })) }
+    ensures refused { IfErr result (WhyRefused request.now
+        (devices (S.left source.old) (S.failures source.old) (K.taken sink.old) (K.failures sink.old))
+        (devices (S.left source.new) (S.failures source.new) (K.taken sink.new) (K.failures sink.new))) }
 {
-    let (program, settings) = match prepare(alloc, text, assigns, budget) {
+    let (program, settings) = match prepare(alloc, request) {
         Ok(prepared) => prepared,
         Err(refusal) => return Err(refusal),
     };
@@ -202,9 +246,12 @@ pub fn run_streams<S: Source, K: Sink, G: Gate + Sync, R: Threads + Wait>(
         Ok(input) => input,
         Err(refusal) => return Err(refusal),
     };
-    let (outcome, report) = match run(
-        rt, alloc, &program, &settings, &input, cutting, workers, gate,
-    ) {
+    let job = Job {
+        program: &program,
+        settings: &settings,
+        input: &input,
+    };
+    let (outcome, report) = match run(rt, alloc, job, request.cutting, request.workers, gate) {
         Ok(answer) => answer,
         Err(Refusal::Memory) => return Err(StreamRefusal::Memory),
         Err(Refusal::Thread) => return Err(StreamRefusal::Thread),

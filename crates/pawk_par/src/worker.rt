@@ -2,17 +2,14 @@
 
 ghost use Rattle.std.specs.Prelude.{◌≡◌, ◌<◌, length, All, IfOk, MatchOption};
 ghost use Rattle.pawk_board.specs.Claims.{IsUndone, HasClaimed};
-ghost use Rattle.pawk_input.specs.Plan.{IsPlanOf};
-ghost use Rattle.pawk_par.specs.Outcome.{newline};
+ghost use Rattle.pawk_par.specs.Task.{IsTask};
 ghost use Rattle.pawk_par.specs.Worker.{HasWorked, IsResultOf, Runs, Skips, stops};
 
-use crate::chunk::{ChunkResult, Left};
-use crate::chunk_run::run_chunk;
 use crate::gate::Gate;
-use crate::program::Program;
-use crate::settings::Settings;
-use pawk_board::{Board, BoardSeat, Claim};
-use pawk_input::{Input, Plan};
+use crate::job::Task;
+use pawk_board::{BoardSeat, Claim};
+use pawk_merge::{ChunkResult, Left};
+use pawk_sequence::run_chunk;
 use std::alloc::{AllocError, Global};
 
 /// Whether no chunk after one that ended so is wanted.
@@ -28,18 +25,16 @@ fn is_stop(ending: Left) -> bool
 /// Runs a chunk between the calls of the gate.
 fn run_watched<G: Gate>(
     alloc: Global,
-    program: &Program,
-    input: &Input,
-    plan: &Plan,
+    task: &Task<'_>,
     gate: &G,
     chunk: u64,
 ) -> Result<ChunkResult, AllocError>
-    requires plan { IsPlanOf newline input.now plan.now }
-    requires chunk { chunk < length plan.now }
-    ensures { IfOk result (λ r. IsResultOf program.now input.now plan.now (chunk, r)) }
+    requires task { IsTask task.now }
+    requires chunk { chunk < length task.now.plan.now }
+    ensures { IfOk result (λ r. IsResultOf task.now (chunk, r)) }
 {
     gate.enter(chunk);
-    match run_chunk(alloc, program, input, plan, chunk as usize) {
+    match run_chunk(alloc, task.program, task.input, task.plan, chunk as usize) {
         Ok(result) => {
             gate.leave(chunk, Some(result.output.as_slice()));
             Ok(result)
@@ -54,68 +49,59 @@ fn run_watched<G: Gate>(
 /// Runs a chunk that was drawn, unless a stop below it is seen.
 fn one_chunk<G: Gate>(
     alloc: Global,
-    board: &Board,
+    task: &Task<'_>,
     seat: &mut BoardSeat,
-    program: &Program,
-    input: &Input,
-    plan: &Plan,
     gate: &G,
     chunk: u64,
 ) -> Result<Option<ChunkResult>, AllocError>
-    requires plan { IsPlanOf newline input.now plan.now }
-    requires chunks { board.now.chunks ≡ length plan.now }
-    requires board { seat.old.board ≡ board.now.id }
-    requires drawn { HasClaimed board.now.chunks seat.old.hand chunk }
+    requires task { IsTask task.now }
+    requires board { seat.old.board ≡ task.now.board.now.id }
+    requires drawn { HasClaimed task.now.board.now.chunks seat.old.hand chunk }
     ensures board { seat.new.board ≡ seat.old.board }
     ensures seat { IfOk result (λ o. MatchOption o (Skips seat.old.hand chunk seat.new.hand)
-        (λ r. IsResultOf program.now input.now plan.now (chunk, r) × Runs seat.old.hand chunk (stops r.ending) seat.new.hand)) }
+        (λ r. IsResultOf task.now (chunk, r)
+        × Runs seat.old.hand chunk (stops r.ending) seat.new.hand)) }
 {
-    if board.past_stop(seat, chunk) {
+    if task.board.past_stop(seat, chunk) {
         return Ok(None);
     }
-    let result = run_watched(alloc, program, input, plan, gate, chunk)?;
+    let result = run_watched(alloc, task, gate, chunk)?;
     if is_stop(result.ending) {
-        board.stop_at(seat, chunk);
+        task.board.stop_at(seat, chunk);
     }
     Ok(Some(result))
 }
 
-/// One worker, for a thread of any caller: it draws chunks from the board until none is left, runs each that it sees no
-/// stop below, and gives the results with the chunks' numbers, counted from 0, in the order in which it drew them. Where a
-/// chunk did not run through, it tells the board a stop there. The gate is called round each chunk that is run.
+/// One worker, for a thread of any caller: it draws chunks from the task's board until none is left, runs each that it sees
+/// no stop below, and gives the results with the chunks' numbers, counted from 0, in the order in which it drew them. Where
+/// a chunk did not run through, it tells the board a stop there. The gate is called round each chunk that is run.
 ///
-/// The plan is of this input by newlines, the board has as many chunks as the plan, and the seat is the board's and was
-/// not told that none is left.
+/// The plan is of the task's input by newlines, the board has as many chunks as the plan, and the seat is the board's and
+/// was not told that none is left.
 ///
 /// The error comes where memory was refused; it then draws no more.
 pub fn work<G: Gate>(
     alloc: Global,
-    board: &Board,
+    task: &Task<'_>,
     seat: &mut BoardSeat,
-    program: &Program,
-    _settings: &Settings,
-    input: &Input,
-    plan: &Plan,
     gate: &G,
 ) -> Result<Vec<(u64, ChunkResult)>, AllocError>
-    requires plan { IsPlanOf newline input.now plan.now }
-    requires chunks { board.now.chunks ≡ length plan.now }
-    requires board { seat.old.board ≡ board.now.id }
-    requires undone { IsUndone board.now.chunks seat.old.hand }
+    requires task { IsTask task.now }
+    requires board { seat.old.board ≡ task.now.board.now.id }
+    requires undone { IsUndone task.now.board.now.chunks seat.old.hand }
     ensures board { seat.new.board ≡ seat.old.board }
-    ensures worked { IfOk result (λ v. HasWorked board.now.chunks seat.old.hand seat.new.hand v.items) }
-    ensures results { IfOk result (λ v. All (IsResultOf program.now input.now plan.now) v.items) }
+    ensures worked { IfOk result (λ v.
+        HasWorked task.now.board.now.chunks seat.old.hand seat.new.hand v.items) }
+    ensures results { IfOk result (λ v. All (IsResultOf task.now) v.items) }
 {
     let mut results = Vec::new(alloc);
     loop {
-        match board.claim(seat) {
+        match task.board.claim(seat) {
             Claim::Done => return Ok(results),
-            Claim::Chunk(chunk) => {
-                match one_chunk(alloc, board, seat, program, input, plan, gate, chunk)? {
-                    Some(result) => results.push((chunk, result))?,
-                    None => {}
-                }
-            }
+            Claim::Chunk(chunk) => match one_chunk(alloc, task, seat, gate, chunk)? {
+                Some(result) => results.push((chunk, result))?,
+                None => {}
+            },
         }
     }
 }

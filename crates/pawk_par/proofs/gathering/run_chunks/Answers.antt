@@ -8,11 +8,13 @@ use Rattle.pawk_board.specs.Views.{SeatView, fresh}
 use Rattle.pawk_board.proofs.Keyed.{kept_below, in_order}
 use Rattle.pawk_board.proofs.Weights.{Weighs}
 use Rattle.pawk_input.specs.Plan.{chunk_items}
-use Rattle.pawk_par.specs.Chunks.{Ran, told}
-use Rattle.pawk_par.specs.Outcome.{newline}
+use Rattle.pawk_merge.specs.Results.{result_view}
+use Rattle.pawk_sequence.specs.Chunks.{Ran}
+use Rattle.pawk_sequence.specs.Outcome.{newline}
 use Rattle.pawk_par.specs.Worker.{Numbered, IsResultOf, numbers, stops}
 use Rattle.pawk_par.specs.Shifts.{Worked, results_of, limit_of}
-use Rattle.pawk_par.specs.declared.chunk.ChunkResult.{ChunkResult}
+use Rattle.pawk_merge.specs.declared.chunk.ChunkResult.{ChunkResult}
+use Rattle.pawk_par.specs.declared.job.Task.{Task}
 use Rattle.pawk_par.specs.declared.shifts.Shift.{Shift}
 use Rattle.pawk_par.proofs.GatheringLemmas.{number, hands, hands_of_seats, each_once, all_made, past_stop, at_stop, settled, stop_kept, StopsAt}
 use Rattle.pawk_par.proofs.PlanRunLemmas.{Ran-numbered}
@@ -21,7 +23,8 @@ use Rattle.pawk_par.proofs.gathering.run_chunks.Goals as goal
 pub finish-tally-requires-clause-board : goal.finish-tally-requires-clause-board
 finish-tally-requires-clause-board g c =
     let id = c.in_ok-board.board.id in
-    let W = Worked c.in_ok-board.board c.args.program.now c.args.input.now c.args.plan.now in
+    let t : Task = record { program = c.args.job.program; input = c.args.job.input; plan = c.args.plan; board = record { ref_ptr = (0, 0); now = c.in_ok-board.board } } in
+    let W = Worked t in
     All-same (λ (s : SeatView). s.board ≡ id) _ _ c.in_ok-seats.ensures.seats
     (All-map (λ (s : SeatView). s.board ≡ id) (λ (s : Shift). s.seat) c.in_ok-shifts.shifts.items (All-weaker W (λ (s : Shift). s.seat.board ≡ id) (λ s w. w.0) c.in_ok-shifts.shifts.items c.in_ok-shifts.ensures.worked))
 
@@ -33,10 +36,11 @@ returns-clause-ran g c =
     let counter = c.finish-tally.result.counter in
     let shifts = c.in_ok-shifts.shifts.items in
     let plan = c.args.plan.now in
-    let shape = c.args.program.now in
-    let files = c.args.input.now in
+    let t : Task = record { program = c.args.job.program; input = c.args.job.input; plan = c.args.plan; board = record { ref_ptr = (0, 0); now = board } } in
+    let shape = c.args.job.program.now in
+    let files = c.args.job.input.now in
     let D = limit_of stop C in
-    let Q = IsResultOf shape files plan in
+    let Q = IsResultOf t in
     let S = λ (r : Numbered). stops r.1.ending ≡ true → r.0 ≡ stop in
     let all = flat_map results_of shifts in
     let sorted = c.sort_unstable_by_key.new.self.items in
@@ -47,9 +51,10 @@ returns-clause-ran g c =
     let counted : C ≡ length plan = c.in_ok-board.ensures.board.0 ∙ c.len-chunks.ensures in
     let limit_is : c.limit.result ≡ D = c.limit.ensures ∙ ap (limit_of stop) (sym c.in_ok-board.ensures.board.0) in
     let kept : c.keep_below.new.results.items ≡ kept_below number D all = c.keep_below.ensures ∙ (λ i. kept_below number (limit_is i) (c.in_ok-seats.ensures.results i)) in
-    let begun = ap length c.in_ok-board.ensures.seats ∙ length-replicate c.args.workers (fresh board.id) in
-    let long : length shifts ≡ c.args.workers = sym c.in_ok-shifts.shifts.ok.0 ∙ (c.in_ok-shifts.ensures.len ∙ (c.in_ok-board.seats.ok.0 ∙ begun)) in
-    let some : 0 < length shifts = omega (arith, long, c.requires.workers.0) in
+    let begun = ap length c.in_ok-board.ensures.seats ∙ length-replicate c.max-crew.result (fresh board.id) in
+    let long : length shifts ≡ c.max-crew.result = sym c.in_ok-shifts.shifts.ok.0 ∙ (c.in_ok-shifts.ensures.len ∙ (c.in_ok-board.seats.ok.0 ∙ begun)) in
+    let crew : 0 < c.max-crew.result = grind (arith, c.max-crew.ensures) in
+    let some : 0 < length shifts = omega (arith, long, crew) in
     let weighs : Weighs (range_with_len 0 D) (numbers (kept_below number D all)) = each_once Q board stop counter shifts does met some lawful in
     let perm = c.sort_unstable_by_key.ensures.permutation in
     let perm_kept : IsPermutation (kept_below number D all) sorted = subst (λ (l : List Numbered). IsPermutation l sorted) kept perm in
@@ -60,5 +65,5 @@ returns-clause-ran g c =
     let last : stop < length plan → StopsAt stop sorted = λ small.
     let less : stop < C = subst (λ (k : ℕ). stop < k) (sym counted) small in
     stop_kept stop C all sorted perm_kept less (at_stop Q board stop counter shifts does met lawful less) in
-    let ran = Ran-numbered shape files stop plan sorted (order ∙ ap (λ (k : ℕ). range_with_len 0 (limit_of stop k)) counted) made still last in
-    subst (λ (l : List ChunkResult). Ran shape.field (map (chunk_items newline files) plan) (map told l)) (sym c.in_ok-without_numbers.ensures) ran
+    let ran = Ran-numbered t stop sorted (order ∙ ap (λ (k : ℕ). range_with_len 0 (limit_of stop k)) counted) made still last in
+    subst (λ (l : List ChunkResult). Ran shape.field (map (chunk_items newline files) plan) (map result_view l)) (sym c.in_ok-without_numbers.ensures) ran

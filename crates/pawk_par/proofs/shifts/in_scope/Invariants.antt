@@ -7,16 +7,16 @@ use Rattle.pawk_par.proofs.shifts.in_scope.Given as goal
 
 abbrev pub invariant-loop-seat : goal.invariant-loop-seat
 invariant-loop-seat g l = record {
-  fresh_seats : All (λ (s : SeatView). s ≡ fresh l.board.id) l.seat-iterator.rest.items;
+  fresh_seats : All (λ (s : SeatView). s ≡ fresh l.task.board.now.id) l.seat-iterator.rest.items;
   room : vec_len l.handles + length l.seat-iterator.rest.items ≤ l.count;
   space : vec_capacity l.handles ≡ l.count;
-  kept : All (Keeps l.board l.program l.input l.plan) l.handles.items;
+  kept : All (Keeps l.task) l.handles.items;
 }
 
 abbrev pub invariant-loop-handle : goal.invariant-loop-handle
 invariant-loop-handle g l = record {
-  kept : All (Keeps l.board l.program l.input l.plan) l.handle-iterator.rest.items;
+  kept : All (Keeps l.task) l.handle-iterator.rest.items;
   room : vec_len l.shifts + length l.handle-iterator.rest.items ≤ l.count;
   space : vec_capacity l.shifts ≡ l.count;
-  worked : All (Worked l.board l.program l.input l.plan) l.shifts.items;
+  worked : All (Worked l.task) l.shifts.items;
 }

@@ -10,14 +10,14 @@ use Rattle.pawk_par.proofs.worker.work.Goals as goal
 pub returns-in-Done-clause-worked : goal.returns-in-Done-clause-worked
 returns-in-Done-clause-worked g c =
     let claims = c.in-Done.ensures in
-    done c.args.seat.now.hand c.loop-results.seat.hand c.args.board.now.chunks claims.0 c.loop-results.results.items c.claim.new.seat.hand c.loop-results.invariant.so_far claims.3 claims.2 (ap (λ s. s.hand) claims.1)
+    done c.args.seat.now.hand c.loop-results.seat.hand c.args.task.now.board.now.chunks claims.0 c.loop-results.results.items c.claim.new.seat.hand c.loop-results.invariant.so_far claims.3 claims.2 (ap (λ s. s.hand) claims.1)
 
 pub one_chunk-requires-clause-drawn : goal.one_chunk-requires-clause-drawn
-one_chunk-requires-clause-drawn g c = has_claimed c.args.board.now.chunks c.in-Chunk.chunk c.loop-results.seat c.claim.new.seat c.in-Chunk.ensures
+one_chunk-requires-clause-drawn g c = has_claimed c.args.task.now.board.now.chunks c.in-Chunk.chunk c.loop-results.seat c.claim.new.seat c.in-Chunk.ensures
 
 pub loop-results-smaller-in-Continue-branch-3 : goal.loop-results-smaller-in-Continue-branch-3
 loop-results-smaller-in-Continue-branch-3 g c =
-    let C = c.args.board.now.chunks in
+    let C = c.args.task.now.board.now.chunks in
     let n = c.in-Chunk.chunk in
     let old = c.loop-results.seat in
     let new = c.claim.new.seat in
@@ -28,7 +28,7 @@ loop-results-smaller-in-Continue-branch-3 g c =
 
 pub loop-results-preserved-in-Continue-branch-3 : goal.loop-results-preserved-in-Continue-branch-3
 loop-results-preserved-in-Continue-branch-3 g c =
-    let C = c.args.board.now.chunks in
+    let C = c.args.task.now.board.now.chunks in
     let n = c.in-Chunk.chunk in
     let old = c.loop-results.seat in
     let new = c.claim.new.seat in
@@ -37,7 +37,7 @@ loop-results-preserved-in-Continue-branch-3 g c =
     let ran = subst (λ (x : Hand). Runs x n (stops result.ending) c.one_chunk.new.seat.hand) (drew_chunk C n old new c.in-Chunk.ensures) fact.1 in
     let items = c.in_ok-push-in-Some.ensures.items in
     let start = c.args.seat.now.hand in
-    let P = IsResultOf c.args.program.now c.args.input.now c.args.plan.now in
+    let P = IsResultOf c.args.task.now in
     record {
       board = c.in_ok-result-in-Chunk.ensures.board ∙ (same_board C n old new c.in-Chunk.ensures ∙ c.loop-results.invariant.board);
       so_far = subst (SoFar start c.one_chunk.new.seat.hand C) (sym items)
@@ -47,7 +47,7 @@ loop-results-preserved-in-Continue-branch-3 g c =
 
 pub loop-results-smaller : goal.loop-results-smaller
 loop-results-smaller g c =
-    let C = c.args.board.now.chunks in
+    let C = c.args.task.now.board.now.chunks in
     let n = c.in-Chunk.chunk in
     let old = c.loop-results.seat in
     let new = c.claim.new.seat in
@@ -57,7 +57,7 @@ loop-results-smaller g c =
 
 pub loop-results-preserved : goal.loop-results-preserved
 loop-results-preserved g c =
-    let C = c.args.board.now.chunks in
+    let C = c.args.task.now.board.now.chunks in
     let n = c.in-Chunk.chunk in
     let old = c.loop-results.seat in
     let new = c.claim.new.seat in

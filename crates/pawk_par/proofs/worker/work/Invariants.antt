@@ -6,10 +6,10 @@ use Rattle.pawk_par.proofs.worker.work.Given as goal
 
 abbrev pub invariant-loop-results : goal.invariant-loop-results
 invariant-loop-results g l = record {
-  board : l.seat.board ≡ l.board.id;
-  so_far : SoFar l.fn.seat.hand l.seat.hand l.board.chunks l.results.items;
-  made : All (IsResultOf l.program l.input l.plan) l.results.items;
+  board : l.seat.board ≡ l.task.board.now.id;
+  so_far : SoFar l.fn.seat.hand l.seat.hand l.task.board.now.chunks l.results.items;
+  made : All (IsResultOf l.task) l.results.items;
 }
 
 abbrev pub decreases-loop-results : goal.decreases-loop-results
-decreases-loop-results g l = l.board.chunks - above l.seat.hand.drawn
+decreases-loop-results g l = l.task.board.now.chunks - above l.seat.hand.drawn

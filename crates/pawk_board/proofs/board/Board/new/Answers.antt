@@ -1,10 +1,9 @@
 use Rattle.std.proofs.Common.{rules, ◌≡◌, ℕ, ◌+◌, ◌-◌, List, [], ◌∷◌, ◌++◌, replicate, sym, ap, subst, ◌∙◌, arith}
 use Rattle.pawk_board.specs.declared.hand.Hand.{Hand}
-use Rattle.pawk_board.specs.History.{blank, Lawful}
+use Rattle.pawk_board.specs.History.{blank}
 use Rattle.pawk_board.specs.Rule.{hand_in, first_hand, other_hands}
-use Rattle.pawk_board.specs.Views.{fresh, hands_in}
+use Rattle.pawk_board.specs.Views.{fresh}
 use Rattle.std.proofs.lemmas.List.{replicate-append-replicate}
-use Rattle.pawk_board.proofs.Histories.{lawful_start, hands_in_fresh, are_the_words}
 use Rattle.pawk_board.proofs.Moves.{begins, deals, one_hand, more_left}
 use Rattle.pawk_board.proofs.board.Board.new.Goals as goal
 
@@ -37,10 +36,3 @@ pub returns-clause-seats : goal.returns-clause-seats
 returns-clause-seats c =
     let all : c.loop.counter ≡ c.args.workers = omega arith in
     c.loop.invariant.seats ∙ ap (λ (k : ℕ). replicate k (fresh c.in_ok-table.table.shared.table_id)) all
-
-pub returns-clause-words : goal.returns-clause-words
-returns-clause-words c =
-    let all : c.loop.counter ≡ c.args.workers = omega arith in
-    let seats = c.loop.invariant.seats ∙ ap (λ (k : ℕ). replicate k (fresh c.in_ok-table.table.shared.table_id)) all in
-    let hands = ap hands_in seats ∙ hands_in_fresh c.args.workers (fresh c.in_ok-table.table.shared.table_id) in
-    are_the_words c.args.chunks 0 c.args.chunks _ (subst (Lawful c.args.chunks 0 c.args.chunks) (sym hands) (lawful_start c.args.chunks c.args.workers))

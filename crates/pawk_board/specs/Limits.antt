@@ -1,0 +1,10 @@
+-- How large a board may be.
+use Rattle.std.specs.Prelude.{ℕ}
+
+-- the greatest count of chunks
+abbrev pub most_chunks : ℕ
+most_chunks = 1048576
+
+-- the greatest count of seats
+abbrev pub most_workers : ℕ
+most_workers = 64

@@ -1,0 +1,4 @@
+pub mod ChunkLemmas
+pub mod NameLemmas
+pub mod OutcomeLemmas
+pub mod PhaseLemmas

@@ -1,0 +1,4 @@
+pub mod Meaning
+pub mod Outcome
+pub mod Chunks
+pub mod Sequence

@@ -1,0 +1,3 @@
+pub mod Limits
+pub mod Words
+pub mod Program
