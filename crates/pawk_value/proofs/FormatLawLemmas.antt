@@ -1,16 +1,15 @@
--- A format is cut into pieces in one way, and `formatted` gives the text of the pieces.
-use Rattle.std.proofs.Common.{◌≡◌, ◌⊎◌, inl, inr, ℕ, zero, suc, ◌+◌, ◌≤◌, Bool, true, false, cond, if◌then◌else◌, eqb, ◌||◌, codes, List, [], ◌∷◌, ◌++◌, length, take, drop, slice_index, Option, Some, None, refl, ap, sym, ◌∙◌, subst, arith, append_assoc, length-append, length-drop, one-add}
+-- A format is cut into pieces in one way.
+use Rattle.std.proofs.Common.{◌≡◌, ◌⊎◌, inl, inr, ℕ, zero, suc, ◌+◌, ◌≤◌, Bool, true, false, cond, eqb, ◌||◌, List, [], ◌∷◌, ◌++◌, length, take, drop, slice_index, Option, Some, None, refl, ap, sym, ◌∙◌, subst, arith, append_assoc, length-append, length-drop, one-add}
 use Rattle.std.proofs.lemmas.Bool.Decides.{nat_tests, eqb_tells}
 use Rattle.std.proofs.lemmas.Bool.{false≢true}
 use Rattle.std.specs.List.{prefix_len}
 use Rattle.std.proofs.lemmas.List.{take-append-drop}
 use Rattle.pawk_scalar.specs.Bytes.{is_digit, is_point}
 use Rattle.pawk_scalar.specs.Numeral.{AreDigits, after_while, begins}
-use Rattle.pawk_scalar.specs.Value.{Val}
-use Rattle.pawk_value.specs.Format.{Directive, is_flag, is_proper, contains, precision_text, directive_spelling, directive_in_front, past_directive, past_flags, past_width, past_place, values_left, text_in_place, value_text, precision_in_front, without_precision, limited, and_then, is_percent, formatted_from}
-use Rattle.pawk_value.specs.FormatLaw.{AreFlags, ArePrecisionDigits, IsDirective, Piece, Plain, Percent, Place, Malformed, BeginsNothing, IsCut, text_of_pieces, FormatLaw}
 use Rattle.pawk_scalar.proofs.NumeralLemmas.{digits_prefix, none_in_front, both_true}
-use Rattle.pawk_value.proofs.FormatLemmas.{from_place, in_place, from_byte, all_read, begun, end_is_short, end_of_directive}
+use Rattle.pawk_value.specs.Format.{Spelling, is_flag, is_conversion, is_proper, directive_of, precision_text, bytes_of_spelling, spelling_in_front, past_directive, past_flags, past_width, precision_in_front, without_precision, is_percent, Piece, Plain, Percent, Place, Malformed, pieces_within, pieces_of}
+use Rattle.pawk_value.specs.FormatLaw.{AreFlags, ArePrecisionDigits, IsSpelling, BeginsNothing, IsCut, FormatLaw}
+use Rattle.pawk_value.proofs.FormatLemmas.{shorter_directive}
 
 -- ---- bytes apart
 
@@ -33,7 +32,7 @@ digit_no_percent : (b : ℕ) → is_digit b ≡ true → is_percent b ≡ false
 digit_no_percent b h = grind (arith, nat_tests)
 
 -- a conversion is a letter
-conversion_is : (c : ℕ) → contains (codes "diouxXsc") c ≡ true → IsLetter c
+conversion_is : (c : ℕ) → is_conversion c ≡ true → IsLetter c
 conversion_is c h =
     elim (either_is 100 c _ h) [
       | inl e ↦ letter 100 c e (refl, refl, refl, refl)
@@ -88,7 +87,7 @@ drop_front (d ∷ ds) r = drop_front ds r
 abbrev behind_width : Option (List ℕ) → ℕ → List ℕ → List ℕ
 behind_width p c t = precision_text p ++ c ∷ t
 
-spelled_out : (d : Directive) (t : List ℕ) → directive_spelling d ++ t ≡ d.flags ++ (d.width ++ behind_width d.precision d.conversion t)
+spelled_out : (d : Spelling) (t : List ℕ) → bytes_of_spelling d ++ t ≡ d.flags ++ (d.width ++ behind_width d.precision d.letter t)
 spelled_out d t = simp append_assoc
 
 no_flag_behind : (p : Option (List ℕ)) (c : ℕ) (t : List ℕ) → IsLetter c → begins is_flag (behind_width p c t) ≡ false
@@ -113,17 +112,17 @@ front_precision : (p : Option (List ℕ)) (c : ℕ) (t : List ℕ) → IsLetter 
 front_precision None c t l h = rw l.2 (refl, refl)
 front_precision (Some ds) c t l h = let all = front_digits ds (c ∷ t) h l.1 in (ap Some all.0, all.1)
 
-is_letter : (d : Directive) → IsDirective d → IsLetter d.conversion
-is_letter d h = conversion_is d.conversion (both_true (contains (codes "diouxXsc") d.conversion) _ h.proper).0
+is_letter : (d : Spelling) → IsSpelling d → IsLetter d.letter
+is_letter d h = conversion_is d.letter (both_true (is_conversion d.letter) _ h.proper).0
 
-reads : (d : Directive) (t : List ℕ) → IsDirective d → (directive_in_front (directive_spelling d ++ t) ≡ d) × (past_directive (directive_spelling d ++ t) ≡ t)
+reads : (d : Spelling) (t : List ℕ) → IsSpelling d → (spelling_in_front (bytes_of_spelling d ++ t) ≡ d) × (past_directive (bytes_of_spelling d ++ t) ≡ t)
 reads d t h =
     let l = is_letter d h in
-    let b = behind_width d.precision d.conversion t in
+    let b = behind_width d.precision d.letter t in
     let w = d.width ++ b in
-    let f = front_flags d.flags w h.flags (no_flag_width d.width d.precision d.conversion t l h.first) in
-    let g = front_digits d.width b h.width (no_digit_behind d.precision d.conversion t l) in
-    let p = front_precision d.precision d.conversion t l h.precision in
+    let f = front_flags d.flags w h.flags (no_flag_width d.width d.precision d.letter t l h.first) in
+    let g = front_digits d.width b h.width (no_digit_behind d.precision d.letter t l) in
+    let p = front_precision d.precision d.letter t l h.precision in
     rw (spelled_out d t, f.0, f.1, g.0, g.1, p.0, p.1) (refl, refl)
 
 first_of : (fs w : List ℕ) (p : Option (List ℕ)) (c : ℕ) (t : List ℕ) → AreFlags fs → AreDigits w → IsLetter c → begins is_percent (fs ++ (w ++ behind_width p c t)) ≡ false
@@ -132,8 +131,8 @@ first_of [] (b ∷ w) p c t hf hw l = digit_no_percent b hw.0
 first_of [] [] (Some ds) c t hf hw l = refl
 first_of [] [] None c t hf hw l = l.3
 
-no_percent_spelled : (d : Directive) (t : List ℕ) → IsDirective d → begins is_percent (directive_spelling d ++ t) ≡ false
-no_percent_spelled d t h = rw (spelled_out d t) (first_of d.flags d.width d.precision d.conversion t h.flags h.width (is_letter d h))
+no_percent_spelled : (d : Spelling) (t : List ℕ) → IsSpelling d → begins is_percent (bytes_of_spelling d ++ t) ≡ false
+no_percent_spelled d t h = rw (spelled_out d t) (first_of d.flags d.width d.precision d.letter t h.flags h.width (is_letter d h))
 
 -- ---- what is read is spelled
 
@@ -172,7 +171,7 @@ no_flag_taken (suc n) (b ∷ s) h = h
 precision_taken : (s : List ℕ) → ArePrecisionDigits (precision_in_front s)
 precision_taken s = elim (begins is_point s) as (λ v. ArePrecisionDigits (cond v (Some (take (prefix_len is_digit (drop 1 s)) (drop 1 s))) None)) [ true ↦ digits_taken (drop 1 s) | false ↦ tt ]
 
-read_directive : (t : List ℕ) → is_proper (directive_in_front t) ≡ true → IsDirective (directive_in_front t)
+read_directive : (t : List ℕ) → is_proper (spelling_in_front t) ≡ true → IsSpelling (spelling_in_front t)
 read_directive t h = record {
   flags = flags_taken t;
   width = digits_taken (past_flags t);
@@ -189,14 +188,14 @@ precision_back (b ∷ s) =
       | inr f ↦ rw f.0 refl
     ]
 
-some_back : (s : List ℕ) → contains (codes "diouxXsc") (slice_index s 0) ≡ true → s ≡ slice_index s 0 ∷ drop 1 s
+some_back : (s : List ℕ) → is_conversion (slice_index s 0) ≡ true → s ≡ slice_index s 0 ∷ drop 1 s
 some_back [] h = absurd (false≢true h)
 some_back (b ∷ s) h = refl
 
-spelled_back : (t : List ℕ) → is_proper (directive_in_front t) ≡ true → t ≡ directive_spelling (directive_in_front t) ++ past_directive t
+spelled_back : (t : List ℕ) → is_proper (spelling_in_front t) ≡ true → t ≡ bytes_of_spelling (spelling_in_front t) ++ past_directive t
 spelled_back t h =
-    let d = directive_in_front t in
-    let letter = (both_true (contains (codes "diouxXsc") d.conversion) _ h).0 in
+    let d = spelling_in_front t in
+    let letter = (both_true (is_conversion d.letter) _ h).0 in
     let last = some_back (without_precision (past_width t)) letter in
     let width = precision_back (past_width t) ∙ ap (λ l. precision_text d.precision ++ l) last in
     let flags = sym (take-append-drop (prefix_len is_digit (past_flags t)) (past_flags t)) ∙ ap (λ l. d.width ++ l) width in
@@ -205,24 +204,15 @@ spelled_back t h =
 
 -- ---- the cut
 
-abbrev pieces_of : ℕ → List ℕ → List Piece
-pieces_of zero s = []
-pieces_of (suc n) [] = []
-pieces_of (suc n) (b ∷ s) =
-    if is_percent b
-    then (if begins is_percent s then Percent ∷ pieces_of n (drop 1 s) else
-    (if is_proper (directive_in_front s) then Place (directive_in_front s) ∷ pieces_of n (past_directive s) else Malformed s ∷ []))
-    else Plain b ∷ pieces_of n s
-
-begins_nothing : (t : List ℕ) → begins is_percent t ≡ false → is_proper (directive_in_front t) ≡ false → BeginsNothing t
+begins_nothing : (t : List ℕ) → begins is_percent t ≡ false → is_proper (spelling_in_front t) ≡ false → BeginsNothing t
 begins_nothing t n f = record {
   percent = n;
-  directive = λ d r h e. let read = reads d r h in let same = ap directive_in_front e ∙ read.0 in false≢true (sym f ∙ ap is_proper same ∙ h.proper);
+  directive = λ d r h e. let read = reads d r h in let same = ap spelling_in_front e ∙ read.0 in false≢true (sym f ∙ ap is_proper same ∙ h.proper);
 }
 
-not_proper : (t : List ℕ) → BeginsNothing t → is_proper (directive_in_front t) ≡ false
-not_proper t h = elim (is_proper (directive_in_front t)) as (λ v. (is_proper (directive_in_front t) ≡ v) → v ≡ false) [
-  | true ↦ (λ e. absurd (h.directive (directive_in_front t) (past_directive t) (read_directive t e) (spelled_back t e)))
+not_proper : (t : List ℕ) → BeginsNothing t → is_proper (spelling_in_front t) ≡ false
+not_proper t h = elim (is_proper (spelling_in_front t)) as (λ v. (is_proper (spelling_in_front t) ≡ v) → v ≡ false) [
+  | true ↦ (λ e. absurd (h.directive (spelling_in_front t) (past_directive t) (read_directive t e) (spelled_back t e)))
   | false ↦ (λ e. refl)
 ] refl
 
@@ -230,77 +220,84 @@ first_percent : (s : List ℕ) → begins is_percent s ≡ true → s ≡ 37 ∷
 first_percent [] h = absurd (false≢true h)
 first_percent (b ∷ s) h = elim (eqb_tells b 37) [ inl y ↦ ap (λ x. x ∷ s) y.1 | inr f ↦ absurd (false≢true (sym f.0 ∙ h)) ]
 
-shorter_directive : (s : List ℕ) (n : ℕ) → length s ≤ n → length (past_directive s) ≤ n
-shorter_directive s n h = let short = end_is_short (past_directive s) s (end_of_directive s) in omega arith
+past_is_shorter : (s : List ℕ) (n : ℕ) → length s ≤ n → length (past_directive s) ≤ n
+past_is_shorter s n h = let short = shorter_directive s in omega arith
 
-cut_after_percent : (n : ℕ) (s : List ℕ) → length s ≤ n → ((t : List ℕ) → length t ≤ n → IsCut t (pieces_of n t)) → IsCut (37 ∷ s) (if begins is_percent s then Percent ∷ pieces_of n (drop 1 s) else (if is_proper (directive_in_front s) then Place (directive_in_front s) ∷ pieces_of n (past_directive s) else Malformed s ∷ []))
+-- what the pieces behind a `%` are
+abbrev behind_percent : ℕ → List ℕ → List Piece
+behind_percent n s =
+    cond (begins is_percent s) (Percent ∷ pieces_within n (drop 1 s))
+    (cond (is_proper (spelling_in_front s)) (Place (directive_of (spelling_in_front s)) ∷ pieces_within n (past_directive s)) (Malformed ∷ []))
+
+pub from_percent : (n : ℕ) (s : List ℕ) → pieces_within (suc n) (37 ∷ s) ≡ behind_percent n s
+unfolding pieces_within
+from_percent n s = refl
+
+pub from_plain_byte : (n b : ℕ) (s : List ℕ) → is_percent b ≡ false → pieces_within (suc n) (b ∷ s) ≡ Plain b ∷ pieces_within n s
+unfolding pieces_within
+from_plain_byte n b s h = rw h refl
+
+no_pieces : (n : ℕ) → pieces_within n [] ≡ []
+unfolding pieces_within
+no_pieces zero = refl
+no_pieces (suc n) = refl
+
+cut_after_percent : (n : ℕ) (s : List ℕ) → length s ≤ n → ((t : List ℕ) → length t ≤ n → IsCut t (pieces_within n t)) → IsCut (37 ∷ s) (behind_percent n s)
 cut_after_percent n s h more =
-    elim (begins is_percent s) as (λ v. (begins is_percent s ≡ v) → IsCut (37 ∷ s) (cond v (Percent ∷ pieces_of n (drop 1 s)) (cond (is_proper (directive_in_front s)) (Place (directive_in_front s) ∷ pieces_of n (past_directive s)) (Malformed s ∷ [])))) [
+    elim (begins is_percent s) as (λ v. (begins is_percent s ≡ v) → IsCut (37 ∷ s) (cond v (Percent ∷ pieces_within n (drop 1 s)) (cond (is_proper (spelling_in_front s)) (Place (directive_of (spelling_in_front s)) ∷ pieces_within n (past_directive s)) (Malformed ∷ [])))) [
       | true ↦ (λ e. (drop 1 s, ap (λ l. 37 ∷ l) (first_percent s e), more (drop 1 s) (omega (arith, length-drop 1 s))))
-      | false ↦ (λ e. elim (is_proper (directive_in_front s)) as (λ v. (is_proper (directive_in_front s) ≡ v) → IsCut (37 ∷ s) (cond v (Place (directive_in_front s) ∷ pieces_of n (past_directive s)) (Malformed s ∷ []))) [
-        | true ↦ (λ p. (read_directive s p, (past_directive s, ap (λ l. 37 ∷ l) (spelled_back s p), more (past_directive s) (shorter_directive s n h))))
-        | false ↦ (λ p. (begins_nothing s e p, refl, refl))
+      | false ↦ (λ e. elim (is_proper (spelling_in_front s)) as (λ v. (is_proper (spelling_in_front s) ≡ v) → IsCut (37 ∷ s) (cond v (Place (directive_of (spelling_in_front s)) ∷ pieces_within n (past_directive s)) (Malformed ∷ []))) [
+        | true ↦ (λ p. (spelling_in_front s, (read_directive s p, refl, (past_directive s, ap (λ l. 37 ∷ l) (spelled_back s p), more (past_directive s) (past_is_shorter s n h)))))
+        | false ↦ (λ p. (s, (begins_nothing s e p, refl, refl)))
       ] refl)
     ] refl
 
-cut_is : (n : ℕ) (s : List ℕ) → length s ≤ n → IsCut s (pieces_of n s)
-cut_is zero [] h = refl
+pub cut_is : (n : ℕ) (s : List ℕ) → length s ≤ n → IsCut s (pieces_within n s)
+cut_is n [] h = rw (no_pieces n) refl
 cut_is zero (b ∷ s) h = absurd (omega arith)
-cut_is (suc n) [] h = refl
 cut_is (suc n) (b ∷ s) h =
     elim (eqb_tells b 37) [
-      | inl y ↦ rw (y.0, y.1) (cut_after_percent n s (omega arith) (cut_is n))
-      | inr f ↦ rw f.0 (f.0, (s, refl, cut_is n s (omega arith)))
+      | inl y ↦ rw y.1 (rw (from_percent n s) (cut_after_percent n s (omega arith) (cut_is n)))
+      | inr f ↦ rw (from_plain_byte n b s f.0) (f.0, (s, refl, cut_is n s (omega arith)))
     ]
 
-place_piece : (n : ℕ) (s : List ℕ) → begins is_percent s ≡ false → is_proper (directive_in_front s) ≡ true → pieces_of (suc n) (37 ∷ s) ≡ Place (directive_in_front s) ∷ pieces_of n (past_directive s)
-place_piece n s e p = rw (e, p) refl
+pub place_piece : (n : ℕ) (s : List ℕ) → begins is_percent s ≡ false → is_proper (spelling_in_front s) ≡ true → pieces_within (suc n) (37 ∷ s) ≡ Place (directive_of (spelling_in_front s)) ∷ pieces_within n (past_directive s)
+place_piece n s e p = from_percent n s ∙ rw (e, p) refl
 
-one_cut : (n : ℕ) (qs : List Piece) (s : List ℕ) → length s ≤ n → IsCut s qs → qs ≡ pieces_of n s
-one_cut zero [] s h c = refl
-one_cut (suc n) [] s h c = rw c refl
+pub percent_piece : (n : ℕ) (s : List ℕ) → begins is_percent s ≡ true → pieces_within (suc n) (37 ∷ s) ≡ Percent ∷ pieces_within n (drop 1 s)
+percent_piece n s e = from_percent n s ∙ rw e refl
+
+pub malformed_piece : (n : ℕ) (s : List ℕ) → begins is_percent s ≡ false → is_proper (spelling_in_front s) ≡ false → pieces_within (suc n) (37 ∷ s) ≡ Malformed ∷ []
+malformed_piece n s e p = from_percent n s ∙ rw (e, p) refl
+
+pub one_cut : (n : ℕ) (qs : List Piece) (s : List ℕ) → length s ≤ n → IsCut s qs → qs ≡ pieces_within n s
+one_cut n [] s h c = rw c (sym (no_pieces n))
 one_cut zero (Plain b ∷ qs) s h c = absurd (omega (arith, ap length c.1.1))
 one_cut zero (Percent ∷ qs) s h c = absurd (omega (arith, ap length c.1))
-one_cut zero (Place d ∷ qs) s h c = absurd (omega (arith, ap length c.1.1))
-one_cut zero (Malformed t ∷ qs) s h c = absurd (omega (arith, ap length c.1))
+one_cut zero (Place d ∷ qs) s h c = absurd (omega (arith, ap length c.1.2.1))
+one_cut zero (Malformed ∷ qs) s h c = absurd (omega (arith, ap length c.1.1))
 one_cut (suc n) (Plain b ∷ qs) s h c =
     let short = ap length c.1.1 in
     let more = one_cut n qs c.1.0 (omega arith) c.1.2 in
-    rw c.1.1 (rw c.0 (ap (λ l. Plain b ∷ l) more))
+    rw c.1.1 (ap (λ l. Plain b ∷ l) more ∙ sym (from_plain_byte n b c.1.0 c.0))
 one_cut (suc n) (Percent ∷ qs) s h c =
     let short = ap length c.1 in
     let more = one_cut n qs c.0 (omega arith) c.2 in
-    rw c.1 (ap (λ l. Percent ∷ l) more)
+    rw c.1 (ap (λ l. Percent ∷ l) more ∙ sym (percent_piece n (37 ∷ c.0) refl))
 one_cut (suc n) (Place d ∷ qs) s h c =
-    let t = c.1.0 in
-    let read = reads d t c.0 in
-    let short = ap length c.1.1 in
-    let more = one_cut n qs t (omega (arith, length-append (directive_spelling d) t)) c.1.2 in
-    rw c.1.1 (ap (λ l. Place d ∷ l) more ∙ sym (place_piece n (directive_spelling d ++ t) (no_percent_spelled d t c.0) (ap is_proper read.0 ∙ c.0.proper) ∙ (λ i. Place (read.0 i) ∷ pieces_of n (read.1 i))))
-one_cut (suc n) (Malformed t ∷ qs) s h c =
-    rw (c.1, c.2) (rw (c.0.percent, not_proper t c.0) refl)
-
--- ---- the text of the pieces
-
-text_is : (qs : List Piece) (s : List ℕ) → IsCut s qs → (vs : List Val) (out : List ℕ) → formatted_from 0 s vs out ≡ text_of_pieces qs vs out
-text_is [] s c vs out = rw c (all_read [] vs out refl)
-text_is (Plain b ∷ qs) s c vs out = rw c.1.1 (from_byte b c.1.0 vs out c.0 ∙ text_is qs c.1.0 c.1.2 vs (out ++ b ∷ []))
-text_is (Percent ∷ qs) s c vs out =
-    let more = text_is qs c.0 c.2 in
-    rw c.1 (from_place (37 ∷ c.0) vs out ∙ (λ i. and_then {B = List ℕ} (limited (out ++ 37 ∷ [])) (λ all. more vs all i)))
-text_is (Place d ∷ qs) s c vs out =
-    let t = c.1.0 in
-    let read = reads d t c.0 in
-    let more = text_is qs t c.1.2 in
-    let plain = no_percent_spelled d t c.0 in
-    let here : text_in_place (directive_spelling d ++ t) vs ≡ value_text d vs = in_place (directive_spelling d ++ t) vs plain (ap is_proper read.0 ∙ c.0.proper) ∙ ap (λ x. value_text x vs) read.0 in
-    let past : past_place (directive_spelling d ++ t) ≡ t = rw plain read.1 in
-    let left : values_left (directive_spelling d ++ t) vs ≡ drop 1 vs = rw plain refl in
-    rw c.1.1 (from_place (directive_spelling d ++ t) vs out
-    ∙ (λ i. and_then {B = List ℕ} (here i) (λ text. and_then {B = List ℕ} (limited (out ++ text)) (λ all. formatted_from 0 (past i) (left i) all)))
-    ∙ (λ i. and_then {B = List ℕ} (value_text d vs) (λ text. and_then {B = List ℕ} (limited (out ++ text)) (λ all. more (drop 1 vs) all i))))
-text_is (Malformed t ∷ qs) s c vs out =
-    rw c.1 (from_place t vs out ∙ rw (c.0.percent, not_proper t c.0) refl)
+    let p = c.0 in
+    let is = c.1.0 in
+    let t = c.1.2.0 in
+    let read = reads p t is in
+    let short = ap length c.1.2.1 in
+    let more = one_cut n qs t (omega (arith, length-append (bytes_of_spelling p) t)) c.1.2.2 in
+    rw (c.1.2.1, c.1.1) (ap (λ l. Place (directive_of p) ∷ l) more ∙ sym (place_piece n (bytes_of_spelling p ++ t) (no_percent_spelled p t is) (ap is_proper read.0 ∙ is.proper) ∙ (λ i. Place (directive_of (read.0 i)) ∷ pieces_within n (read.1 i))))
+one_cut (suc n) (Malformed ∷ qs) s h c =
+    rw (c.1.1, c.1.2) (sym (malformed_piece n c.0 c.1.0.percent (not_proper c.0 c.1.0)))
 
 pub format_law : (s : List ℕ) → FormatLaw s
-format_law s = (pieces_of (length s) s, cut_is (length s) s (omega arith), (λ qs c. one_cut (length s) qs s (omega arith) c), (λ vs. begun s vs ∙ text_is (pieces_of (length s) s) s (cut_is (length s) s (omega arith)) vs []))
+format_law s = (cut_is (length s) s (omega arith), λ qs c. one_cut (length s) qs s (omega arith) c)
+
+-- more bytes than there are make no difference
+pub enough_bytes : (n : ℕ) (s : List ℕ) → length s ≤ n → pieces_within n s ≡ pieces_of s
+enough_bytes n s h = one_cut (length s) (pieces_within n s) s (omega arith) (cut_is n s h)

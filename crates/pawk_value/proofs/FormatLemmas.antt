@@ -1,24 +1,20 @@
--- Formats.
-use Rattle.std.proofs.Common.{◌≡◌, ◌⊎◌, inl, inr, ℕ, zero, suc, ◌+◌, ◌-◌, ◌*◌, ◌/◌, ◌%◌, ◌^◌, ◌<◌, ◌≤◌, ◌==◌, Bool, true, false, cond, eqb, ltb, get_or, is_some, Result, Ok, Err, IsErrAnd, IfOk, leb, subst, List, [], ◌∷◌, ◌++◌, length, take, drop, map, set, refl, ap, sym, ◌∙◌, arith, append_assoc, length-drop, one-add}
+-- Digits, and where a directive ends.
+use Rattle.std.proofs.Common.{◌≡◌, ◌⊎◌, inl, inr, ℕ, zero, suc, ◌+◌, ◌-◌, ◌*◌, ◌/◌, ◌%◌, ◌^◌, ◌<◌, ◌≤◌, ◌==◌, Bool, true, false, cond, eqb, ltb, get_or, is_some, List, [], ◌∷◌, ◌++◌, length, drop, map, set, refl, ap, sym, ◌∙◌, arith, append_assoc, length-drop}
 use Rattle.std.proofs.Math.Nat.{pow-succ', div-lt_iff_lt-mul}
-use Rattle.std.proofs.lemmas.List.{drop-set, map-append, drop_all, drop-drop, append-nil}
+use Rattle.std.proofs.lemmas.List.{drop-set, map-append, drop_all, drop-drop}
 use Rattle.std.specs.Int.Digits.{digits_of}
 use Rattle.std.proofs.lemmas.Int.Digits.{digits_of_step, first_digits_of}
 use Rattle.std.proofs.lemmas.Bool.Decides.{nat_tests}
-use Rattle.std.proofs.lemmas.Bool.{cases_lt}
-use Rattle.pawk_scalar.proofs.NumeralLemmas.{both_true}
-use Rattle.pawk_scalar.specs.Numeral.{begins, after_while}
-use Rattle.pawk_value.specs.Format.{Directive, contains, digit_byte, radix_text, conversion_digits, has_leading_zero, unsigned_digits, is_percent, is_plain, is_flag, past_flags, past_width, without_precision, past_directive, past_place, values_left, text_in_place, value_text, is_proper, directive_in_front, and_then, limited, formatted_from, formatted}
-use Rattle.pawk_scalar.specs.Bytes.{is_digit, is_point}
-use Rattle.pawk_scalar.specs.Value.{Val, shown}
+use Rattle.std.proofs.lemmas.Bool.{false≢true}
 use Rattle.std.specs.List.{prefix_len}
-use Rattle.pawk_value.specs.FormatViews.{IsRadix, Makes, appended}
-use Rattle.pawk_value.specs.FormatResults.{Continues}
-use Rattle.pawk_value.specs.declared.formats.Left.{Left}
-use Rattle.pawk_scalar.specs.declared.faults.Fault.TheVariants.{Length}
-use Rattle.pawk_scalar.specs.declared.faults.Fault.{Fault}
-use Rattle.pawk_scalar.specs.declared.faults.Stop.{Stop}
-use Rattle.pawk_scalar.specs.declared.faults.Stop.TheVariants as stop
+use Rattle.pawk_scalar.proofs.NumeralLemmas.{both_true}
+use Rattle.pawk_scalar.specs.Bytes.{is_digit, is_point}
+use Rattle.pawk_scalar.specs.Numeral.{begins, after_while}
+use Rattle.pawk_value.specs.declared.directive.Conversion.{Conversion}
+use Rattle.pawk_value.specs.declared.directive.Conversion.TheVariants as kind
+use Rattle.pawk_value.specs.declared.directive.Directive.{Directive}
+use Rattle.pawk_value.specs.Format.{digit_byte, radix_text, conversion_digits, is_octal, has_leading_zero, unsigned_digits, is_flag, past_flags, past_width, without_precision, past_directive}
+use Rattle.pawk_value.specs.FormatViews.{IsRadix}
 
 -- ---- digits, from the last to the first
 
@@ -58,7 +54,7 @@ no_leading_zero n h =
     let some : eqb n 0 ≡ false = grind (arith, nat_tests) in
     rw some (some_first (digits_of 8 n) (λ _. first_digits_of 8 n (omega arith) h))
 
-zero_conversion : (c : ℕ) → IsRadix c → conversion_digits c 0 ≡ 48 ∷ []
+zero_conversion : (c : Conversion) → IsRadix c → conversion_digits c 0 ≡ 48 ∷ []
 zero_conversion c (inl h) = rw h refl
 zero_conversion c (inr (inl h)) = rw h refl
 zero_conversion c (inr (inr h)) = rw h refl
@@ -69,12 +65,22 @@ zero_leads d h p = rw (h, p) refl
 pub zero_plain : (d : Directive) → IsRadix d.conversion → is_some d.precision ≡ false → unsigned_digits d 0 ≡ 48 ∷ []
 zero_plain d c p = rw (p, zero_conversion d.conversion c) (elim (has_leading_zero d) as (λ v. cond {A = List ℕ} v (48 ∷ []) (48 ∷ []) ≡ 48 ∷ []) [ true ↦ refl | false ↦ refl ])
 
+octal_is : (c : Conversion) → is_octal c ≡ true → c ≡ kind.Octal
+octal_is kind.Octal h = refl
+octal_is kind.Signed h = absurd (false≢true h)
+octal_is kind.Unsigned h = absurd (false≢true h)
+octal_is kind.Hexadecimal h = absurd (false≢true h)
+octal_is kind.UpperHexadecimal h = absurd (false≢true h)
+octal_is kind.Text h = absurd (false≢true h)
+octal_is kind.Byte h = absurd (false≢true h)
+
 pub some_leads : (d : Directive) (n : ℕ) → 0 < n → has_leading_zero d ≡ true → unsigned_digits d n ≡ 48 ∷ conversion_digits d.conversion n
 some_leads d n h l =
-    let both = both_true (eqb d.conversion 111) (contains d.flags 35) l in
+    let both = both_true (is_octal d.conversion) d.flags.alternate l in
+    let octal = octal_is d.conversion both.0 in
     let some : eqb n 0 ≡ false = grind (arith, nat_tests) in
     let first = some_first (digits_of 8 n) (λ _. first_digits_of 8 n (omega arith) h) in
-    rw (both.0, both.1, some, first) refl
+    rw (octal, both.1, some, first) refl
 
 -- ---- the last byte
 
@@ -86,28 +92,6 @@ one_more_byte buffer start b h l =
     let next : start - 1 + 1 ≡ start = omega arith in
     rw (drop-set buffer (start - 1) b (omega arith), next) refl
 
--- ---- a format read on
-
-pub from_skipped : (n : ℕ) (s : List ℕ) (vs : List Val) (out : List ℕ) → formatted_from n s vs out ≡ formatted_from 0 (drop n s) vs out
-unfolding formatted_from
-from_skipped zero s vs out = refl
-from_skipped (suc n) [] vs out = refl
-from_skipped (suc n) (b ∷ s) vs out = from_skipped n s vs out
-
-pub from_byte : (b : ℕ) (s : List ℕ) (vs : List Val) (out : List ℕ) → is_percent b ≡ false → formatted_from 0 (b ∷ s) vs out ≡ formatted_from 0 s vs (out ++ b ∷ [])
-unfolding formatted_from
-from_byte b s vs out e = rw e refl
-
-pub from_plain : (s : List ℕ) (vs : List Val) (out : List ℕ) → formatted_from 0 s vs out ≡ formatted_from 0 (drop (prefix_len is_plain s) s) vs (out ++ take (prefix_len is_plain s) s)
-unfolding formatted_from
-from_plain [] vs out = rw append-nil refl
-from_plain (b ∷ s) vs out =
-    let more = from_plain s vs (out ++ b ∷ []) in
-    elim (is_percent b) as (λ v. (is_percent b ≡ v) → formatted_from 0 (b ∷ s) vs out ≡ formatted_from 0 (drop (prefix_len is_plain (b ∷ s)) (b ∷ s)) vs (out ++ take (prefix_len is_plain (b ∷ s)) (b ∷ s))) [
-      | true ↦ (λ e. rw (e, append-nil) (rw e refl))
-      | false ↦ (λ e. rw (e, one-add) (more ∙ ap (λ l. formatted_from 0 (drop (prefix_len is_plain s) s) vs l) (append_assoc out (b ∷ []) (take (prefix_len is_plain s) s))))
-    ] refl
-
 -- ---- what is left is an end of what was
 
 abbrev pub IsEnd : List ℕ → List ℕ → Type 0
@@ -115,14 +99,6 @@ IsEnd t s = (k : ℕ) × (t ≡ drop k s)
 
 end_of_end : (t u s : List ℕ) → IsEnd t u → IsEnd u s → IsEnd t s
 end_of_end t u s (j, e) (k, f) = (k + j, e ∙ ap (drop j) f ∙ drop-drop j k s)
-
-end_by_length : (t s : List ℕ) → IsEnd t s → drop (length s - length t) s ≡ t
-end_by_length t s (k, e) =
-    let long : length t ≡ length s - k = ap length e ∙ length-drop k s in
-    elim (cases_lt k (length s)) [
-      | inl l ↦ let back : length s - length t ≡ k = omega arith in rw back (sym e)
-      | inr m ↦ let back : length s - length t ≡ length s = omega arith in rw back (drop_all (length s) s (omega arith) ∙ sym (e ∙ drop_all k s (omega arith)))
-    ]
 
 end_of_precision : (s : List ℕ) → IsEnd (without_precision s) s
 end_of_precision s = elim (begins is_point s) as (λ v. IsEnd (cond v (after_while is_digit (drop 1 s)) s) s) [
@@ -136,74 +112,8 @@ end_of_directive s =
     let precision = end_of_end (without_precision (past_width s)) (past_width s) s (end_of_precision (past_width s)) width in
     end_of_end (past_directive s) (without_precision (past_width s)) s (1, refl) precision
 
-pub end_of_place : (s : List ℕ) → IsEnd (past_place s) s
-end_of_place s = elim (begins is_percent s) as (λ v. IsEnd (cond v (drop 1 s) (past_directive s)) s) [ true ↦ (1, refl) | false ↦ end_of_directive s ]
-
-pub from_place : (s : List ℕ) (vs : List Val) (out : List ℕ) → formatted_from 0 (37 ∷ s) vs out ≡ and_then (text_in_place s vs) (λ text. and_then (limited (out ++ text)) (λ all. formatted_from 0 (past_place s) (values_left s vs) all))
-unfolding formatted_from
-from_place s vs out =
-    let there = end_by_length (past_place s) s (end_of_place s) in
-    let next : (all : List ℕ) → formatted_from (length s - length (past_place s)) s (values_left s vs) all ≡ formatted_from 0 (past_place s) (values_left s vs) all =
-    λ all. from_skipped (length s - length (past_place s)) s (values_left s vs) all ∙ ap (λ r. formatted_from 0 r (values_left s vs) all) there in
-    λ i. and_then {B = List ℕ} (text_in_place s vs) (λ text. and_then {B = List ℕ} (limited (out ++ text)) (λ all. next all i))
-
--- a directive of good form has the text of its value
-pub in_place : (s : List ℕ) (vs : List Val) → begins is_percent s ≡ false → is_proper (directive_in_front s) ≡ true → text_in_place s vs ≡ value_text (directive_in_front s) vs
-in_place s vs n p = rw (n, p) refl
-
-same_claim : (A B : Type 0) (wanted : Result (List ℕ) Fault) (made : List ℕ) (e : Stop) → Makes {A = A} wanted made (Err e) → Makes {A = B} wanted made (Err e)
-same_claim A B wanted made (stop.Fault f) m = m
-same_claim A B wanted made stop.Memory m = tt
-
--- an error that is passed on says what it said
-pub passed_on : (A B : Type 0) (wanted : Result (List ℕ) Fault) (made : List ℕ) (e : Stop) (r : Result B Stop) → Makes {A = A} wanted made (Err e) → IsErrAnd r (λ x. x ≡ e) → Makes {A = B} wanted made r
-passed_on A B wanted made e (Ok x) m p = absurd p
-passed_on A B wanted made e (Err x) m p = let P : Stop → Type 0 = λ y. Makes {A = B} wanted made (Err y) in subst P (sym p) (same_claim A B wanted made e m)
-
--- ---- the steps of a format
-
-then_then : (t : Result (List ℕ) Fault) (f g : List ℕ → Result (List ℕ) Fault) → and_then t (λ x. and_then {B = List ℕ} (f x) g) ≡ and_then (and_then t f) g
-then_then (Ok x) f g = refl
-then_then (Err e) f g = refl
-
-from_appended : (s : List ℕ) (vs : List Val) (out : List ℕ) → formatted_from 0 (37 ∷ s) vs out ≡ and_then (appended out (text_in_place s vs)) (λ all. formatted_from 0 (past_place s) (values_left s vs) all)
-from_appended s vs out = from_place s vs out ∙ then_then (text_in_place s vs) (λ t. limited (out ++ t)) (λ all. formatted_from 0 (past_place s) (values_left s vs) all)
-
-place_next : (s : List ℕ) (vs : List Val) (out made : List ℕ) (r : Result Left Stop) → Makes (appended out (text_in_place s vs)) made r → IfOk r (λ left. left.format.now ≡ past_place s) → IfOk r (λ left. map shown left.values.now ≡ values_left s vs) → Continues (formatted_from 0 (37 ∷ s) vs out) made r
-place_next s vs out made (Ok left) m f v = from_appended s vs out ∙ rw (m, f, v) refl
-place_next s vs out made (Err (stop.Fault e)) m f v = from_appended s vs out ∙ rw m refl
-place_next s vs out made (Err stop.Memory) m f v = tt
-
-first_is : (s : List ℕ) → 0 < length s → get_or s 0 0 ≡ 37 → s ≡ 37 ∷ drop 1 s
-first_is [] h e = absurd (omega arith)
-first_is (b ∷ s) h e = ap (λ x. x ∷ s) e
-
-pub place_after : (s t : List ℕ) (vs : List Val) (out made : List ℕ) (r : Result Left Stop) → 0 < length s → get_or s 0 0 ≡ 37 → t ≡ drop 1 s → Makes (appended out (text_in_place t vs)) made r → IfOk r (λ left. left.format.now ≡ past_place t) → IfOk r (λ left. map shown left.values.now ≡ values_left t vs) → Continues (formatted_from 0 s vs out) made r
-place_after s t vs out made r h e i m f v =
-    let P : List ℕ → Type 0 = λ l. Continues (formatted_from 0 l vs out) made r in
-    subst P (sym (first_is s h e ∙ ap (λ l. 37 ∷ l) (sym i))) (place_next t vs out made r m f v)
-
 pub end_is_short : (t s : List ℕ) → IsEnd t s → length t ≤ length s
 end_is_short t s (k, e) = let long : length t ≡ length s - k = ap length e ∙ length-drop k s in omega arith
 
-pub place_shorter : (s t : List ℕ) (r : Result Left Stop) → 0 < length s → t ≡ drop 1 s → IfOk r (λ left. left.format.now ≡ past_place t) → IfOk r (λ rest. length rest.format.now < length s)
-place_shorter s t (Ok left) h i f =
-    let short = end_is_short (past_place t) t (end_of_place t) in
-    let fewer : length t ≡ length s - 1 = ap length i ∙ length-drop 1 s in
-    rw f (omega arith)
-place_shorter s t (Err e) h i f = tt
-
-pub all_read : (s : List ℕ) (vs : List Val) (out : List ℕ) → length s ≡ 0 → formatted_from 0 s vs out ≡ limited out
-unfolding formatted_from
-all_read [] vs out h = refl
-all_read (b ∷ s) vs out h = absurd (omega arith)
-
-pub within_limit : (out : List ℕ) → length out ≤ 16777216 → limited out ≡ Ok out
-within_limit out h = let fits : leb (length out) 16777216 ≡ true = grind (arith, nat_tests) in rw fits refl
-
-pub past_limit : (out : List ℕ) → 16777216 < length out → limited out ≡ Err Length
-past_limit out h = let fits : leb (length out) 16777216 ≡ false = grind (arith, nat_tests) in rw fits refl
-
-pub begun : (s : List ℕ) (vs : List Val) → formatted s vs ≡ formatted_from 0 s vs []
-unfolding formatted
-begun s vs = refl
+pub shorter_directive : (s : List ℕ) → length (past_directive s) ≤ length s
+shorter_directive s = end_is_short (past_directive s) s (end_of_directive s)

@@ -1,8 +1,7 @@
 //! The digits of octal and hexadecimal conversions.
 
 ghost use Rattle.std.specs.Prelude.{◌≡◌, ◌⊎◌, ◌≤◌, ◌<◌, ◌-◌, ◌+◌, ◌^◌, drop, length};
-ghost use Rattle.pawk_value.specs.Format.{unsigned_digits, radix_text};
-ghost use Rattle.pawk_value.specs.FormatViews.{seen};
+ghost use Rattle.pawk_value.specs.Format.{radix_text};
 ghost use Rattle.pawk_value.specs.Format as spec;
 
 /// Room for the octal digits of 64 bits, with two bytes to spare.

@@ -1,6 +1,0 @@
-use Rattle.std.proofs.Common.{◌≡◌, ℕ, ◌<◌, get_or, true}
-use Rattle.pawk_value.specs.Format.{is_flag}
-use Rattle.pawk_value.proofs.directive.count_flags.Given as goal
-
-abbrev pub invariant-loop-i : goal.invariant-loop-i
-invariant-loop-i l = (k : ℕ) → k < l.i → is_flag (get_or l.text k 0) ≡ true
