@@ -1,5 +1,6 @@
 pub mod Refused
-pub mod Listed
+pub mod Sets
+pub mod Items
 pub mod Reading
 pub mod Weights
 pub mod Progress

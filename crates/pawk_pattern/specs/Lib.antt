@@ -9,6 +9,6 @@ pub mod Machine
 pub mod Bounds
 pub mod Tokens
 pub mod Refusals
-pub mod Reader
+pub mod Builder
 pub mod Spelled
 pub mod Shape
