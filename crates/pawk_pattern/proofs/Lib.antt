@@ -5,3 +5,4 @@ pub mod Reading
 pub mod Weights
 pub mod Progress
 pub mod Shapes
+pub mod BracketItems

@@ -5,6 +5,7 @@ pub mod Pattern
 pub mod Tree
 pub mod Grammar
 pub mod Brackets
+pub mod Items
 pub mod Machine
 pub mod Bounds
 pub mod Tokens
