@@ -6,3 +6,4 @@ pub mod Weights
 pub mod Progress
 pub mod Shapes
 pub mod BracketItems
+pub mod BoundNumerals

@@ -8,6 +8,7 @@ pub mod Brackets
 pub mod Items
 pub mod Machine
 pub mod Bounds
+pub mod Numerals
 pub mod Tokens
 pub mod Refusals
 pub mod Builder

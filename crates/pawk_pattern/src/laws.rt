@@ -1,11 +1,14 @@
 // Laws about the definitions. The calls do nothing.
 
+ghost use Rattle.pawk_pattern.specs.Bounds.{bound_at};
 ghost use Rattle.pawk_pattern.specs.Brackets.{bracket_at};
 ghost use Rattle.pawk_pattern.specs.Items.{IsBracket};
+ghost use Rattle.pawk_pattern.specs.Numerals.{IsBound};
 ghost use Rattle.pawk_pattern.specs.Pattern.{Holds, Pattern};
 ghost use Rattle.pawk_pattern.specs.Sets.{InSome, all_bytes, complement, none, only, with_ranges};
 ghost use Rattle.pawk_pattern.specs.Tokens.{SpellsEre};
-ghost use Rattle.std.specs.Prelude.{◌≡◌, ◌↔◌, ◌⊎◌, ◌<◌, ℕ, Bool, List, Some};
+ghost use Rattle.pawk_pattern.specs.declared.token.Token.TheVariants.{Times};
+ghost use Rattle.std.specs.Prelude.{◌≡◌, ◌↔◌, ◌⊎◌, ◌<◌, ℕ, Bool, List, Option, Some};
 
 /// A text spells at most one expression.
 pub fn a_text_spells_one()
@@ -25,4 +28,10 @@ pub fn sets_hold()
 /// What is read behind a `[` is a bracket expression, item by item, and each bracket expression is read so.
 pub fn brackets_are_items()
     ensures { (bytes rest : List ℕ) (m : List Bool) → (bracket_at bytes ≡ Some (m, rest)) ↔ IsBracket bytes m rest }
+{}
+
+/// What is read behind a `{` is a bound whose numbers its digits write in decimal, and each such bound is read so.
+pub fn bounds_are_numerals()
+    ensures { (bytes rest : List ℕ) (least : ℕ) (most : Option ℕ)
+        → (bound_at bytes ≡ Some (Times least most, rest)) ↔ IsBound bytes least most rest }
 {}
