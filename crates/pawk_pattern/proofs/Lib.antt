@@ -1,6 +1,9 @@
 pub mod Refused
-pub mod Listed
+pub mod Sets
+pub mod Items
 pub mod Reading
 pub mod Weights
 pub mod Progress
 pub mod Shapes
+pub mod BracketItems
+pub mod BoundNumerals

@@ -1,22 +1,22 @@
--- The reader reads what an expression derives, and nothing else.
+-- The builder reads what an expression derives, and nothing else.
 use Rattle.std.proofs.Common.{◌≡◌, ℕ, Option, Some, None, List, [], ◌∷◌, ◌++◌, refl, sym, ap, ◌∙◌, subst, append_assoc, append-nil}
 use Rattle.pawk_pattern.specs.declared.token.Token.{Token}
 use Rattle.pawk_pattern.specs.declared.token.Token.TheVariants.{Leaf, Times, Bar, Open, Close, Caret, Dollar}
 use Rattle.pawk_pattern.specs.Pattern.{Pattern, Empty, Start, End, Bytes, Group, Repeat, Sequence, Either, IsFit}
-use Rattle.pawk_pattern.specs.Grammar.{Level, Alt, Branch, Piece, Atom, Derives, written, IsSound, AreSound}
-use Rattle.pawk_pattern.specs.Machine.{Read, Reader, nothing, joined, or_else, closed, put, repeated_piece, after_times, after_bar, after_close, with_piece, step, finished, then_run, run, start}
+use Rattle.pawk_pattern.specs.Grammar.{Level, Alt, Branch, Piece, Atom, Derives, tokens_of, IsSound, AreSound}
+use Rattle.pawk_pattern.specs.Machine.{Alternation, Builder, nothing, branch_with, or_else, whole, put, repeated_piece, after_times, after_bar, after_close, with_piece, step, if_outermost, then_run, run, start}
 
--- a reader with this alt
-abbrev with_read : Reader → Read → Reader
+-- a builder with this alt
+abbrev with_read : Builder → Alternation → Builder
 with_read st f = record { here = f; outer = st.outer }
 
 -- what reading the tokens of an expression leaves
 abbrev Reads : Level → Pattern → Type 0
-Reads Alt e = (outer : List Read) → (f : Read) × (closed f ≡ Some e) × ((rest : List Token) → run (written e ++ rest) (record { here = nothing; outer = outer }) ≡ run rest (record { here = f; outer = outer }))
-Reads Branch e = (alternatives : Option Pattern) (outer : List Read) → (branch : Option Pattern) × (piece : Option Pattern) × (joined branch piece ≡ Some e)
-    × ((rest : List Token) → run (written e ++ rest) (record { here = record { alternatives = alternatives; branch = None; piece = None }; outer = outer }) ≡ run rest (record { here = record { alternatives = alternatives; branch = branch; piece = piece }; outer = outer }))
-Reads Piece e = (st : Reader) (rest : List Token) → run (written e ++ rest) st ≡ run rest (with_piece st e)
-Reads Atom e = ((st : Reader) (rest : List Token) → run (written e ++ rest) st ≡ run rest (with_piece st e))
+Reads Alt e = (outer : List Alternation) → (f : Alternation) × (whole f ≡ Some e) × ((rest : List Token) → run (tokens_of e ++ rest) (record { here = nothing; outer = outer }) ≡ run rest (record { here = f; outer = outer }))
+Reads Branch e = (alternatives : Option Pattern) (outer : List Alternation) → (branch : Option Pattern) × (piece : Option Pattern) × (branch_with branch piece ≡ Some e)
+    × ((rest : List Token) → run (tokens_of e ++ rest) (record { here = record { alternatives = alternatives; branch = None; piece = None }; outer = outer }) ≡ run rest (record { here = record { alternatives = alternatives; branch = branch; piece = piece }; outer = outer }))
+Reads Piece e = (st : Builder) (rest : List Token) → run (tokens_of e ++ rest) st ≡ run rest (with_piece st e)
+Reads Atom e = ((st : Builder) (rest : List Token) → run (tokens_of e ++ rest) st ≡ run rest (with_piece st e))
     × ((least : ℕ) (most : Option ℕ) → repeated_piece (Some e) least most ≡ Some (Repeat e least most))
 
 -- a piece is a branch
@@ -36,14 +36,14 @@ group_reads : (a : Pattern) → Reads Alt a → Reads Atom (Group a)
 group_reads a h = (
   λ st rest.
       let x = h (st.here ∷ st.outer) in
-      let e : run (Open ∷ ((written a ++ Close ∷ []) ++ rest)) st ≡ run (Open ∷ (written a ++ Close ∷ rest)) st = ap (λ ts. run (Open ∷ ts) st) (append_assoc (written a) (Close ∷ []) rest) in
+      let e : run (Open ∷ ((tokens_of a ++ Close ∷ []) ++ rest)) st ≡ run (Open ∷ (tokens_of a ++ Close ∷ rest)) st = ap (λ ts. run (Open ∷ ts) st) (append_assoc (tokens_of a) (Close ∷ []) rest) in
       e ∙ x.2 (Close ∷ rest) ∙ ap (λ o. then_run (run rest) (after_close o (st.here ∷ st.outer))) x.1,
   λ least most. refl,
 )
 
 repeat_reads : (a : Pattern) (least : ℕ) (most : Option ℕ) → Reads Atom a → Reads Piece (Repeat a least most)
 repeat_reads a least most h st rest =
-    ap (λ ts. run ts st) (append_assoc (written a) (Times least most ∷ []) rest)
+    ap (λ ts. run ts st) (append_assoc (tokens_of a) (Times least most ∷ []) rest)
     ∙ h.0 st (Times least most ∷ rest)
     ∙ ap (λ o. then_run (run rest) (after_times (with_piece st a) o)) (h.1 least most)
 
@@ -54,8 +54,8 @@ sequence_reads a b h k alternatives outer =
       Some b,
       refl,
       λ rest.
-          ap (λ ts. run ts (record { here = record { alternatives = alternatives; branch = None; piece = None }; outer = outer })) (append_assoc (written a) (written b) rest)
-          ∙ x.3 (written b ++ rest)
+          ap (λ ts. run ts (record { here = record { alternatives = alternatives; branch = None; piece = None }; outer = outer })) (append_assoc (tokens_of a) (tokens_of b) rest)
+          ∙ x.3 (tokens_of b ++ rest)
           ∙ k (record { here = record { alternatives = alternatives; branch = x.0; piece = x.1 }; outer = outer }) rest
           ∙ ap (λ o. run rest (record { here = record { alternatives = alternatives; branch = o; piece = Some b }; outer = outer })) x.2,
     )
@@ -67,9 +67,9 @@ either_reads a b h k outer =
       record { alternatives = Some a; branch = y.0; piece = y.1 },
       ap (or_else (Some a)) y.2,
       λ rest.
-          ap (λ ts. run ts (record { here = nothing; outer = outer })) (append_assoc (written a) (Bar ∷ written b) rest)
-          ∙ x.2 (Bar ∷ (written b ++ rest))
-          ∙ ap (λ o. then_run (run (written b ++ rest)) (after_bar (record { here = x.0; outer = outer }) o)) x.1
+          ap (λ ts. run ts (record { here = nothing; outer = outer })) (append_assoc (tokens_of a) (Bar ∷ tokens_of b) rest)
+          ∙ x.2 (Bar ∷ (tokens_of b ++ rest))
+          ∙ ap (λ o. then_run (run (tokens_of b ++ rest)) (after_bar (record { here = x.0; outer = outer }) o)) x.1
           ∙ y.3 rest,
     )
 
@@ -105,10 +105,10 @@ reads Piece (Either a b) d = absurd d
 reads Atom (Either a b) d = absurd d
 
 -- what an expression derives is read as it
-pub run-written : (e : Pattern) → Derives Alt e → run (written e) start ≡ Some e
-run-written e d =
+pub run-tokens_of : (e : Pattern) → Derives Alt e → run (tokens_of e) start ≡ Some e
+run-tokens_of e d =
     let x = reads Alt e d [] in
-    ap (λ ts. run ts start) (sym (append-nil (written e))) ∙ x.2 [] ∙ x.1
+    ap (λ ts. run ts start) (sym (append-nil (tokens_of e))) ∙ x.2 [] ∙ x.1
 
 -- what an optional part is, and its tokens
 abbrev IfThere : (Pattern → Type 0) → Option Pattern → Type 0
@@ -117,29 +117,29 @@ IfThere P (Some e) = P e
 
 abbrev text : Option Pattern → List Token
 text None = []
-text (Some e) = written e
+text (Some e) = tokens_of e
 
 abbrev text_before : Option Pattern → List Token
 text_before None = []
-text_before (Some e) = written e ++ Bar ∷ []
+text_before (Some e) = tokens_of e ++ Bar ∷ []
 
-record IsRead (f : Read) : Type 0 where
+record IsWellFormed (f : Alternation) : Type 0 where
   alternatives : IfThere (Derives Alt) f.alternatives
   branch : IfThere (Derives Branch) f.branch
   piece : IfThere (Derives Piece) f.piece
 
-abbrev AreRead : List Read → Type 0
-AreRead [] = Unit {0}
-AreRead (f ∷ fs) = IsRead f × AreRead fs
+abbrev AreWellFormed : List Alternation → Type 0
+AreWellFormed [] = Unit {0}
+AreWellFormed (f ∷ fs) = IsWellFormed f × AreWellFormed fs
 
-abbrev text_of : Read → List Token
+abbrev text_of : Alternation → List Token
 text_of f = text_before f.alternatives ++ (text f.branch ++ text f.piece)
 
-abbrev outer_text : List Read → List Token
+abbrev outer_text : List Alternation → List Token
 outer_text [] = []
 outer_text (f ∷ fs) = outer_text fs ++ (text_of f ++ Open ∷ [])
 
-abbrev all_text : Reader → List Token
+abbrev all_text : Builder → List Token
 all_text st = outer_text st.outer ++ text_of st.here
 
 pub some_inj : {A : Type 0} (x y : A) → Some x ≡ Some y → x ≡ y
@@ -165,53 +165,53 @@ alt_from (Repeat a least most) d = d
 alt_from (Sequence a b) d = d
 alt_from (Either a b) d = absurd d
 
-joined_text : (b p : Option Pattern) → text (joined b p) ≡ text b ++ text p
-joined_text b None = sym (append-nil (text b))
-joined_text None (Some p) = refl
-joined_text (Some b) (Some p) = refl
+branch_with_text : (b p : Option Pattern) → text (branch_with b p) ≡ text b ++ text p
+branch_with_text b None = sym (append-nil (text b))
+branch_with_text None (Some p) = refl
+branch_with_text (Some b) (Some p) = refl
 
-joined_is : (b p : Option Pattern) → IfThere (Derives Branch) b → IfThere (Derives Piece) p → IfThere (Derives Branch) (joined b p)
-joined_is b None db dp = db
-joined_is None (Some p) db dp = branch_from p dp
-joined_is (Some b) (Some p) db dp = (db, dp)
+branch_with_is : (b p : Option Pattern) → IfThere (Derives Branch) b → IfThere (Derives Piece) p → IfThere (Derives Branch) (branch_with b p)
+branch_with_is b None db dp = db
+branch_with_is None (Some p) db dp = branch_from p dp
+branch_with_is (Some b) (Some p) db dp = (db, dp)
 
-closed_text : (a b : Option Pattern) (e : Pattern) → or_else a b ≡ Some e → text_before a ++ text b ≡ written e
-closed_text a None e h = cc
-closed_text None (Some b) e h = ap written (some_inj b e h)
-closed_text (Some a) (Some b) e h = append_assoc (written a) (Bar ∷ []) (written b) ∙ ap written (some_inj (Either a b) e h)
+whole_text : (a b : Option Pattern) (e : Pattern) → or_else a b ≡ Some e → text_before a ++ text b ≡ tokens_of e
+whole_text a None e h = cc
+whole_text None (Some b) e h = ap tokens_of (some_inj b e h)
+whole_text (Some a) (Some b) e h = append_assoc (tokens_of a) (Bar ∷ []) (tokens_of b) ∙ ap tokens_of (some_inj (Either a b) e h)
 
-closed_derives : (a b : Option Pattern) (e : Pattern) → IfThere (Derives Alt) a → IfThere (Derives Branch) b → or_else a b ≡ Some e → Derives Alt e
-closed_derives a None e da db h = cc
-closed_derives None (Some b) e da db h = subst (Derives Alt) (some_inj b e h) (alt_from b db)
-closed_derives (Some a) (Some b) e da db h = subst (Derives Alt) (some_inj (Either a b) e h) (da, db)
+whole_derives : (a b : Option Pattern) (e : Pattern) → IfThere (Derives Alt) a → IfThere (Derives Branch) b → or_else a b ≡ Some e → Derives Alt e
+whole_derives a None e da db h = cc
+whole_derives None (Some b) e da db h = subst (Derives Alt) (some_inj b e h) (alt_from b db)
+whole_derives (Some a) (Some b) e da db h = subst (Derives Alt) (some_inj (Either a b) e h) (da, db)
 
-closed_is : (f : Read) (e : Pattern) → IsRead f → closed f ≡ Some e → Derives Alt e × (text_of f ≡ written e)
-closed_is f e r h = (
-  closed_derives f.alternatives (joined f.branch f.piece) e r.alternatives (joined_is f.branch f.piece r.branch r.piece) h,
-  ap (λ ts. text_before f.alternatives ++ ts) (sym (joined_text f.branch f.piece)) ∙ closed_text f.alternatives (joined f.branch f.piece) e h,
+whole_is : (f : Alternation) (e : Pattern) → IsWellFormed f → whole f ≡ Some e → Derives Alt e × (text_of f ≡ tokens_of e)
+whole_is f e r h = (
+  whole_derives f.alternatives (branch_with f.branch f.piece) e r.alternatives (branch_with_is f.branch f.piece r.branch r.piece) h,
+  ap (λ ts. text_before f.alternatives ++ ts) (sym (branch_with_text f.branch f.piece)) ∙ whole_text f.alternatives (branch_with f.branch f.piece) e h,
 )
 
-put_is : (f : Read) (p : Pattern) → IsRead f → Derives Piece p → IsRead (put f p)
-put_is f p r d = record { alternatives = r.alternatives; branch = joined_is f.branch f.piece r.branch r.piece; piece = d }
+put_is : (f : Alternation) (p : Pattern) → IsWellFormed f → Derives Piece p → IsWellFormed (put f p)
+put_is f p r d = record { alternatives = r.alternatives; branch = branch_with_is f.branch f.piece r.branch r.piece; piece = d }
 
-put_text : (f : Read) (p : Pattern) → text_of (put f p) ≡ text_of f ++ written p
+put_text : (f : Alternation) (p : Pattern) → text_of (put f p) ≡ text_of f ++ tokens_of p
 put_text f p =
-    ap (λ ts. text_before f.alternatives ++ (ts ++ written p)) (joined_text f.branch f.piece)
-    ∙ sym (append_assoc (text_before f.alternatives) (text f.branch ++ text f.piece) (written p))
+    ap (λ ts. text_before f.alternatives ++ (ts ++ tokens_of p)) (branch_with_text f.branch f.piece)
+    ∙ sym (append_assoc (text_before f.alternatives) (text f.branch ++ text f.piece) (tokens_of p))
 
-record Goes (t : Token) (old new : Reader) : Type 0 where
-  here : IsRead new.here
-  outer : AreRead new.outer
+record Goes (t : Token) (old new : Builder) : Type 0 where
+  here : IsWellFormed new.here
+  outer : AreWellFormed new.outer
   text : all_text new ≡ all_text old ++ t ∷ []
 
-piece_goes : (t : Token) (p : Pattern) (st : Reader) → Derives Piece p → written p ≡ t ∷ [] → IsRead st.here → AreRead st.outer → Goes t st (with_piece st p)
+piece_goes : (t : Token) (p : Pattern) (st : Builder) → Derives Piece p → tokens_of p ≡ t ∷ [] → IsWellFormed st.here → AreWellFormed st.outer → Goes t st (with_piece st p)
 piece_goes t p st d w r rs = record {
   here = put_is st.here p r d;
   outer = rs;
   text = ap (λ ts. outer_text st.outer ++ ts) (put_text st.here p ∙ ap (λ ts. text_of st.here ++ ts) w) ∙ sym (append_assoc (outer_text st.outer) (text_of st.here) (t ∷ []));
 }
 
-times_goes : (least : ℕ) (most : Option ℕ) → IsFit least most → (f : Read) (outer : List Read) → (new : Reader) → IsRead f → AreRead outer → after_times (record { here = f; outer = outer }) (repeated_piece f.piece least most) ≡ Some new → Goes (Times least most) (record { here = f; outer = outer }) new
+times_goes : (least : ℕ) (most : Option ℕ) → IsFit least most → (f : Alternation) (outer : List Alternation) → (new : Builder) → IsWellFormed f → AreWellFormed outer → after_times (record { here = f; outer = outer }) (repeated_piece f.piece least most) ≡ Some new → Goes (Times least most) (record { here = f; outer = outer }) new
 times_goes least most fit f outer new r rs h = go f.piece refl r.piece h
   where
     done : (a : Pattern) → Derives Atom a → f.piece ≡ Some a → Goes (Times least most) (record { here = f; outer = outer }) (record { here = record { alternatives = f.alternatives; branch = f.branch; piece = Some (Repeat a least most) }; outer = outer })
@@ -219,9 +219,9 @@ times_goes least most fit f outer new r rs h = go f.piece refl r.piece h
       here = record { alternatives = r.alternatives; branch = r.branch; piece = (d, fit) };
       outer = rs;
       text =
-          ap (λ ts. outer_text outer ++ (text_before f.alternatives ++ ts)) (sym (append_assoc (text f.branch) (written a) (Times least most ∷ [])))
-          ∙ ap (λ ts. outer_text outer ++ ts) (sym (append_assoc (text_before f.alternatives) (text f.branch ++ written a) (Times least most ∷ [])))
-          ∙ sym (append_assoc (outer_text outer) (text_before f.alternatives ++ (text f.branch ++ written a)) (Times least most ∷ []))
+          ap (λ ts. outer_text outer ++ (text_before f.alternatives ++ ts)) (sym (append_assoc (text f.branch) (tokens_of a) (Times least most ∷ [])))
+          ∙ ap (λ ts. outer_text outer ++ ts) (sym (append_assoc (text_before f.alternatives) (text f.branch ++ tokens_of a) (Times least most ∷ [])))
+          ∙ sym (append_assoc (outer_text outer) (text_before f.alternatives ++ (text f.branch ++ tokens_of a)) (Times least most ∷ []))
           ∙ ap (λ o. (outer_text outer ++ (text_before f.alternatives ++ (text f.branch ++ text o))) ++ Times least most ∷ []) (sym is);
     }
 
@@ -236,23 +236,23 @@ times_goes least most fit f outer new r rs h = go f.piece refl r.piece h
     go (Some (Sequence a b)) is d e = cc
     go (Some (Either a b)) is d e = cc
 
-bar_goes : (st new : Reader) → IsRead st.here → AreRead st.outer → (a : Option Pattern) → closed st.here ≡ a → after_bar st a ≡ Some new → Goes Bar st new
+bar_goes : (st new : Builder) → IsWellFormed st.here → AreWellFormed st.outer → (a : Option Pattern) → whole st.here ≡ a → after_bar st a ≡ Some new → Goes Bar st new
 bar_goes st new r rs None is h = cc
 bar_goes st new r rs (Some a) is h =
-    let x = closed_is st.here a r is in
+    let x = whole_is st.here a r is in
     subst (Goes Bar st) (some_inj _ _ h) (record {
       here = record { alternatives = x.0; branch = tt; piece = tt };
       outer = rs;
       text =
-          ap (λ ts. outer_text st.outer ++ ts) (append-nil (written a ++ Bar ∷ []) ∙ ap (λ ts. ts ++ Bar ∷ []) (sym x.1))
+          ap (λ ts. outer_text st.outer ++ ts) (append-nil (tokens_of a ++ Bar ∷ []) ∙ ap (λ ts. ts ++ Bar ∷ []) (sym x.1))
           ∙ sym (append_assoc (outer_text st.outer) (text_of st.here) (Bar ∷ []));
     })
 
-close_goes : (f : Read) (outer : List Read) (new : Reader) → IsRead f → AreRead outer → (a : Option Pattern) → closed f ≡ a → after_close a outer ≡ Some new → Goes Close (record { here = f; outer = outer }) new
+close_goes : (f : Alternation) (outer : List Alternation) (new : Builder) → IsWellFormed f → AreWellFormed outer → (a : Option Pattern) → whole f ≡ a → after_close a outer ≡ Some new → Goes Close (record { here = f; outer = outer }) new
 close_goes f outer new r rs None is h = cc
 close_goes f [] new r rs (Some a) is h = cc
 close_goes f (g ∷ gs) new r rs (Some a) is h =
-    let x = closed_is f a r is in
+    let x = whole_is f a r is in
     subst (Goes Close (record { here = f; outer = g ∷ gs })) (some_inj _ _ h) (record {
       here = put_is g (Group a) rs.0 x.0;
       outer = rs.1;
@@ -264,28 +264,28 @@ close_goes f (g ∷ gs) new r rs (Some a) is h =
           ∙ sym (append_assoc (outer_text gs ++ (text_of g ++ Open ∷ [])) (text_of f) (Close ∷ []));
     })
 
-step_goes : (t : Token) (st new : Reader) → IsSound t → IsRead st.here → AreRead st.outer → step t st ≡ Some new → Goes t st new
+step_goes : (t : Token) (st new : Builder) → IsSound t → IsWellFormed st.here → AreWellFormed st.outer → step t st ≡ Some new → Goes t st new
 step_goes (Leaf set) st new ok r rs h = subst (Goes (Leaf set) st) (some_inj _ _ h) (piece_goes (Leaf set) (Bytes set.members) st tt refl r rs)
 step_goes Caret st new ok r rs h = subst (Goes Caret st) (some_inj _ _ h) (piece_goes Caret Start st tt refl r rs)
 step_goes Dollar st new ok r rs h = subst (Goes Dollar st) (some_inj _ _ h) (piece_goes Dollar End st tt refl r rs)
 step_goes (Times least most) st new ok r rs h = times_goes least most ok st.here st.outer new r rs h
-step_goes Bar st new ok r rs h = bar_goes st new r rs (closed st.here) refl h
+step_goes Bar st new ok r rs h = bar_goes st new r rs (whole st.here) refl h
 step_goes Open st new ok r rs h = subst (Goes Open st) (some_inj _ _ h) (record {
   here = record { alternatives = tt; branch = tt; piece = tt };
   outer = (r, rs);
   text = append-nil (outer_text st.outer ++ (text_of st.here ++ Open ∷ [])) ∙ sym (append_assoc (outer_text st.outer) (text_of st.here) (Open ∷ []));
 })
-step_goes Close st new ok r rs h = close_goes st.here st.outer new r rs (closed st.here) refl h
+step_goes Close st new ok r rs h = close_goes st.here st.outer new r rs (whole st.here) refl h
 
-run_is : (ts : List Token) (st : Reader) (e : Pattern) → AreSound ts → IsRead st.here → AreRead st.outer → run ts st ≡ Some e → Derives Alt e × (all_text st ++ ts ≡ written e)
+run_is : (ts : List Token) (st : Builder) (e : Pattern) → AreSound ts → IsWellFormed st.here → AreWellFormed st.outer → run ts st ≡ Some e → Derives Alt e × (all_text st ++ ts ≡ tokens_of e)
 run_is [] st e ok r rs h = go st.outer refl h
   where
-    go : (outer : List Read) → st.outer ≡ outer → finished outer (closed st.here) ≡ Some e → Derives Alt e × (all_text st ++ [] ≡ written e)
-    go [] is f = let x = closed_is st.here e r f in (x.0, append-nil (all_text st) ∙ ap (λ o. outer_text o ++ text_of st.here) is ∙ x.1)
+    go : (outer : List Alternation) → st.outer ≡ outer → if_outermost outer (whole st.here) ≡ Some e → Derives Alt e × (all_text st ++ [] ≡ tokens_of e)
+    go [] is f = let x = whole_is st.here e r f in (x.0, append-nil (all_text st) ∙ ap (λ o. outer_text o ++ text_of st.here) is ∙ x.1)
     go (g ∷ gs) is f = cc
 run_is (t ∷ ts) st e ok r rs h = go (step t st) refl h (λ new. run_is ts new e ok.1)
   where
-    go : (new : Option Reader) → step t st ≡ new → then_run (run ts) new ≡ Some e → ((new : Reader) → IsRead new.here → AreRead new.outer → run ts new ≡ Some e → Derives Alt e × (all_text new ++ ts ≡ written e)) → Derives Alt e × (all_text st ++ (t ∷ ts) ≡ written e)
+    go : (new : Option Builder) → step t st ≡ new → then_run (run ts) new ≡ Some e → ((new : Builder) → IsWellFormed new.here → AreWellFormed new.outer → run ts new ≡ Some e → Derives Alt e × (all_text new ++ ts ≡ tokens_of e)) → Derives Alt e × (all_text st ++ (t ∷ ts) ≡ tokens_of e)
     go None is f ih = cc
     go (Some new) is f ih =
         let g = step_goes t st new ok.0 r rs is in
@@ -293,5 +293,5 @@ run_is (t ∷ ts) st e ok r rs h = go (step t st) refl h (λ new. run_is ts new 
         (x.0, sym (append_assoc (all_text st) (t ∷ []) ts) ∙ ap (λ u. u ++ ts) (sym g.text) ∙ x.1)
 
 -- what is read as an expression is what it derives
-pub run-is_written : (ts : List Token) (e : Pattern) → AreSound ts → run ts start ≡ Some e → Derives Alt e × (ts ≡ written e)
-run-is_written ts e ok h = run_is ts start e ok (record { alternatives = tt; branch = tt; piece = tt }) tt h
+pub run-is_tokens_of : (ts : List Token) (e : Pattern) → AreSound ts → run ts start ≡ Some e → Derives Alt e × (ts ≡ tokens_of e)
+run-is_tokens_of ts e ok h = run_is ts start e ok (record { alternatives = tt; branch = tt; piece = tt }) tt h

@@ -2,7 +2,7 @@
 use Rattle.std.proofs.Common.{◌≡◌, ℕ, Bool, true, false, List, [], ◌∷◌, length, eqb, eq-eqb, eqb-true, true≢false, refl, sym, ap, ◌∙◌, arith}
 use Rattle.pawk_pattern.specs.declared.refusal.EreRefusal.{EreRefusal}
 use Rattle.pawk_pattern.specs.declared.refusal.EreRefusal.TheVariants.{Form, Bound, Bracket, Escape, Group, TooLarge, Memory}
-use Rattle.pawk_pattern.specs.Refusals.{Tells, TellsOfForm}
+use Rattle.pawk_pattern.specs.Refusals.{Tells, TellsOfForm, IfTooLarge}
 
 pub tells_map : (why : EreRefusal) (P Q : Type 0) → (P → Q) → Tells why P → Tells why Q
 tells_map Memory P Q f t = tt
@@ -31,6 +31,16 @@ tells_form Bracket P Q f t = f t
 tells_form Escape P Q f t = f t
 tells_form Group P Q f t = f t
 tells_form TooLarge P Q f t = absurd t
+
+-- what tells of the form does not tell of the size
+pub form_only : (why : EreRefusal) (P Q R : Type 0) → (P → R) → TellsOfForm why P → IfTooLarge why Q
+form_only Memory P Q R f t = tt
+form_only Form P Q R f t = tt
+form_only Bound P Q R f t = tt
+form_only Bracket P Q R f t = tt
+form_only Escape P Q R f t = tt
+form_only Group P Q R f t = tt
+form_only TooLarge P Q R f t = absurd t
 
 pub not_empty : (bytes : List ℕ) (b : Bool) → b ≡ eqb (length bytes) 0 → b ≡ false → bytes ≡ [] → ⊥
 not_empty bytes b h f e = let x : eqb (length bytes) 0 ≡ true = eq-eqb (length bytes) 0 (ap length e) in true≢false (sym x ∙ sym h ∙ f)

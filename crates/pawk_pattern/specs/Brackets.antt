@@ -1,7 +1,7 @@
 -- Bracket expressions: XBD 9.3.5, RE Bracket Expression, in the POSIX locale.
 use Rattle.std.specs.Prelude.{ℕ, zero, suc, ◌==◌, ◌||◌, ◌&&◌, Bool, true, false, not, Option, Some, None, List, [], ◌∷◌, codes, nat_le, if◌then◌else◌, length, drop}
-use Rattle.pawk_pattern.specs.declared.bracket.Class.{Class}
-use Rattle.pawk_pattern.specs.declared.bracket.Class.TheVariants.{Alpha, Digit, Alnum, Upper, Lower, Space, Blank, Punct, Print, Graph, Control, HexDigit}
+use Rattle.pawk_pattern.specs.declared.class.Class.{Class}
+use Rattle.pawk_pattern.specs.declared.class.Class.TheVariants.{Alpha, Digit, Alnum, Upper, Lower, Space, Blank, Punct, Print, Graph, Control, HexDigit}
 use Rattle.pawk_pattern.specs.declared.bracket.Item.{Item}
 use Rattle.pawk_pattern.specs.declared.bracket.Item.TheVariants as item
 use Rattle.pawk_pattern.specs.Escapes.{escape_at}
@@ -32,43 +32,47 @@ abbrev pub begins : ℕ → List ℕ → Bool
 begins byte [] = false
 begins byte (c ∷ rest) = c == byte
 
+-- every class, and its name with what ends it
+abbrev pub all_classes : List Class
+all_classes = Alpha ∷ Digit ∷ Alnum ∷ Upper ∷ Lower ∷ Space ∷ Blank ∷ Punct ∷ Print ∷ Graph ∷ Control ∷ HexDigit ∷ []
+
+abbrev pub class_name : Class → List ℕ
+class_name Alpha = codes "alpha:]"
+class_name Digit = codes "digit:]"
+class_name Alnum = codes "alnum:]"
+class_name Upper = codes "upper:]"
+class_name Lower = codes "lower:]"
+class_name Space = codes "space:]"
+class_name Blank = codes "blank:]"
+class_name Punct = codes "punct:]"
+class_name Print = codes "print:]"
+class_name Graph = codes "graph:]"
+class_name Control = codes "cntrl:]"
+class_name HexDigit = codes "xdigit:]"
+
 -- what follows the name, if the text begins with it
-abbrev pub after_name : List ℕ → List ℕ → Option (List ℕ)
-after_name [] bytes = Some bytes
-after_name (n ∷ ns) [] = None
-after_name (n ∷ ns) (c ∷ rest) = if c == n then after_name ns rest else None
+abbrev pub rest_behind : List ℕ → List ℕ → Option (List ℕ)
+rest_behind [] bytes = Some bytes
+rest_behind (n ∷ ns) [] = None
+rest_behind (n ∷ ns) (c ∷ rest) = if c == n then rest_behind ns rest else None
 
 -- the class, if its name was there, or else the other
-abbrev pub class_or : Class → Option (List ℕ) → Option (Item × List ℕ) → Option (Item × List ℕ)
+abbrev pub class_or : Class → Option (List ℕ) → Option (Class × List ℕ) → Option (Class × List ℕ)
 class_or c None other = other
-class_or c (Some rest) other = Some (item.Class c, rest)
+class_or c (Some rest) other = Some (c, rest)
 
--- the classes that are sorts of letters and digits, with what ends a class
-unfoldable pub word_class_at : List ℕ → Option (Item × List ℕ)
-word_class_at bytes =
-    class_or Alpha (after_name (codes "alpha:]") bytes)
-    (class_or Digit (after_name (codes "digit:]") bytes)
-    (class_or Alnum (after_name (codes "alnum:]") bytes)
-    (class_or Upper (after_name (codes "upper:]") bytes)
-    (class_or Lower (after_name (codes "lower:]") bytes)
-    (class_or HexDigit (after_name (codes "xdigit:]") bytes) None)))))
+-- the first of these classes whose name the text begins with, and what follows
+abbrev pub class_among : List Class → List ℕ → Option (Class × List ℕ)
+class_among [] bytes = None
+class_among (c ∷ cs) bytes = class_or c (rest_behind (class_name c) bytes) (class_among cs bytes)
 
-unfoldable pub other_class_at : List ℕ → Option (Item × List ℕ)
-other_class_at bytes =
-    class_or Space (after_name (codes "space:]") bytes)
-    (class_or Blank (after_name (codes "blank:]") bytes)
-    (class_or Punct (after_name (codes "punct:]") bytes)
-    (class_or Print (after_name (codes "print:]") bytes)
-    (class_or Graph (after_name (codes "graph:]") bytes)
-    (class_or Control (after_name (codes "cntrl:]") bytes) None)))))
-
-abbrev pub first_of : Option (Item × List ℕ) → Option (Item × List ℕ) → Option (Item × List ℕ)
-first_of None other = other
-first_of (Some x) other = Some x
+abbrev pub class_item : Option (Class × List ℕ) → Option (Item × List ℕ)
+class_item None = None
+class_item (Some x) = Some (item.Class x.0, x.1)
 
 -- the class behind `[:`
-abbrev pub class_at : List ℕ → Option (Item × List ℕ)
-class_at bytes = first_of (word_class_at bytes) (other_class_at bytes)
+unfoldable pub class_at : List ℕ → Option (Item × List ℕ)
+class_at bytes = class_item (class_among all_classes bytes)
 
 -- a point: a byte as it stands, or one that an escape makes. `[` before `:`, `.` or `=` is none
 unfoldable pub point_at : List ℕ → Option (ℕ × List ℕ)
@@ -116,12 +120,12 @@ items (suc n) members first bytes =
     if begins 93 bytes && not first then Some (members, drop 1 bytes)
     else and_then (λ more rest. items n more false rest) members (item_at first bytes)
 
-abbrev pub negated : Option (List Bool × List ℕ) → Option (List Bool × List ℕ)
-negated None = None
-negated (Some x) = Some (complement x.0, x.1)
+abbrev pub outside : Option (List Bool × List ℕ) → Option (List Bool × List ℕ)
+outside None = None
+outside (Some x) = Some (complement x.0, x.1)
 
 -- what stands behind `[`: the set, and what follows. A `^` at once takes the bytes that are not in it
 unfoldable pub bracket_at : List ℕ → Option (List Bool × List ℕ)
 bracket_at bytes =
-    if begins 94 bytes then negated (items (length bytes) none true (drop 1 bytes))
+    if begins 94 bytes then outside (items (length bytes) none true (drop 1 bytes))
     else items (length bytes) none true bytes

@@ -30,15 +30,15 @@ Derives Alt (Either a b) = Derives Alt a × Derives Branch b
 Derives l (Either a b) = ⊥
 
 -- the tokens of an expression
-abbrev pub written : Pattern → List Token
-written Empty = []
-written Start = Caret ∷ []
-written End = Dollar ∷ []
-written (Bytes members) = Leaf (record { members = members }) ∷ []
-written (Group a) = Open ∷ (written a ++ Close ∷ [])
-written (Repeat a least most) = written a ++ Times least most ∷ []
-written (Sequence a b) = written a ++ written b
-written (Either a b) = written a ++ Bar ∷ written b
+abbrev pub tokens_of : Pattern → List Token
+tokens_of Empty = []
+tokens_of Start = Caret ∷ []
+tokens_of End = Dollar ∷ []
+tokens_of (Bytes members) = Leaf (record { members = members }) ∷ []
+tokens_of (Group a) = Open ∷ (tokens_of a ++ Close ∷ [])
+tokens_of (Repeat a least most) = tokens_of a ++ Times least most ∷ []
+tokens_of (Sequence a b) = tokens_of a ++ tokens_of b
+tokens_of (Either a b) = tokens_of a ++ Bar ∷ tokens_of b
 
 -- the places of a repetition of so many
 abbrev pub repeated_size : ℕ → ℕ → Option ℕ → ℕ

@@ -5,10 +5,12 @@ pub mod Pattern
 pub mod Tree
 pub mod Grammar
 pub mod Brackets
+pub mod Items
 pub mod Machine
 pub mod Bounds
+pub mod Numerals
 pub mod Tokens
 pub mod Refusals
-pub mod Reader
+pub mod Builder
 pub mod Spelled
 pub mod Shape

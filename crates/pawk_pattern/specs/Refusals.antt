@@ -36,3 +36,13 @@ TellsOfForm TooLarge P = ⊥
 abbrev pub Gives : {X Y : Type 0} → (X → Y) → Result X EreRefusal → Option Y → Type 0
 Gives view (Ok x) o = o ≡ Some (view x)
 Gives view (Err e) o = TellsOfForm e (o ≡ None)
+
+-- a refusal for the size comes only where P holds
+abbrev pub IfTooLarge : EreRefusal → Type 0 → Type 0
+IfTooLarge TooLarge P = P
+IfTooLarge Memory P = Unit {0}
+IfTooLarge Form P = Unit {0}
+IfTooLarge Bound P = Unit {0}
+IfTooLarge Bracket P = Unit {0}
+IfTooLarge Escape P = Unit {0}
+IfTooLarge Group P = Unit {0}

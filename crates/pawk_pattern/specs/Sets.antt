@@ -1,5 +1,5 @@
 -- Sets of bytes: a list of 256 answers, one for each byte.
-use Rattle.std.specs.Prelude.{ℕ, ◌||◌, ◌&&◌, Bool, true, false, not, List, [], ◌∷◌, nat_le, map, get_or, slice_set, replicate}
+use Rattle.std.specs.Prelude.{ℕ, ◌≤◌, ◌⊎◌, ◌||◌, ◌&&◌, Bool, true, false, not, List, [], ◌∷◌, nat_le, map, get_or, slice_set, replicate}
 use Rattle.std.specs.List.{range_with_len}
 
 -- the set of no byte
@@ -33,3 +33,8 @@ not_in members byte = not (get_or members byte false)
 -- the bytes that are not in the set
 unfoldable pub complement : List Bool → List Bool
 complement members = map (not_in members) (range_with_len 0 256)
+
+-- the byte is in one of the ranges, of which both ends are included
+abbrev pub InSome : List (ℕ × ℕ) → ℕ → Type 0
+InSome [] byte = ⊥
+InSome (r ∷ rs) byte = ((r.0 ≤ byte) × (byte ≤ r.1)) ⊎ InSome rs byte

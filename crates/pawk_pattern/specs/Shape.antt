@@ -6,7 +6,7 @@ use Rattle.pawk_pattern.specs.declared.shape.Last.{Last}
 use Rattle.pawk_pattern.specs.declared.shape.Last.TheVariants.{Nothing, Fixed, Repeatable}
 use Rattle.pawk_pattern.specs.declared.shape.Shape.{Shape}
 use Rattle.pawk_pattern.specs.Pattern.{Pattern, Bytes, Group}
-use Rattle.pawk_pattern.specs.Machine.{Reader}
+use Rattle.pawk_pattern.specs.Machine.{Builder}
 
 abbrev pub last_of : Option Pattern → Last
 last_of None = Nothing
@@ -14,7 +14,7 @@ last_of (Some (Bytes members)) = Repeatable
 last_of (Some (Group a)) = Repeatable
 last_of (Some e) = Fixed
 
-abbrev pub shape_of : Reader → Shape
+abbrev pub shape_of : Builder → Shape
 shape_of st = record { open_groups = length st.outer; last = last_of st.here.piece }
 
 abbrev pub if_something : Last → Shape → Option Shape

@@ -1,5 +1,5 @@
 -- The expression that was read.
-use Rattle.pawk_pattern.specs.declared.parse.Ere.{Ere}
+use Rattle.pawk_pattern.specs.declared.ere.Ere.{Ere}
 use Rattle.pawk_pattern.specs.Pattern.{Pattern}
 use Rattle.pawk_pattern.specs.Tree.{pattern_of}
 

@@ -1,5 +1,5 @@
 -- The tokens of a text: awk, "Regular Expressions", and XBD 9.4, Extended Regular Expressions.
-use Rattle.std.specs.Prelude.{◌≡◌, ℕ, ◌==◌, ◌≤◌, ◌⊎◌, Bool, Option, Some, None, List, [], ◌∷◌, if◌then◌else◌}
+use Rattle.std.specs.Prelude.{◌≡◌, ℕ, ◌==◌, ◌≤◌, ◌<◌, ◌⊎◌, Bool, Option, Some, None, List, [], ◌∷◌, if◌then◌else◌}
 use Rattle.pawk_pattern.specs.declared.token.Token.{Token}
 use Rattle.pawk_pattern.specs.declared.token.Token.TheVariants.{Leaf, Times, Bar, Open, Close, Caret, Dollar}
 use Rattle.pawk_pattern.specs.Pattern.{Pattern, Empty}
@@ -7,7 +7,8 @@ use Rattle.pawk_pattern.specs.Bounds.{bound_at}
 use Rattle.pawk_pattern.specs.Escapes.{escape_at}
 use Rattle.pawk_pattern.specs.Sets.{all_bytes, only}
 use Rattle.pawk_pattern.specs.Brackets.{bracket_at}
-use Rattle.pawk_pattern.specs.Grammar.{Alt, Derives, written, size}
+use Rattle.pawk_pattern.specs.Limits.{greatest_size}
+use Rattle.pawk_pattern.specs.Grammar.{Alt, Derives, tokens_of, size}
 
 abbrev pub byte_of : Option (ℕ × List ℕ) → Option (Token × List ℕ)
 byte_of None = None
@@ -37,6 +38,14 @@ Lexes bytes (t ∷ ts) = (rest : List ℕ) × (token_at bytes ≡ Some (t, rest)
 
 -- the text spells the expression: it is nothing at all, or its tokens are those of a derived one; and the size is within the limit
 pub record SpellsEre (bytes : List ℕ) (e : Pattern) : Type 0 where
-  pub tokens : Lexes bytes (written e)
+  pub tokens : Lexes bytes (tokens_of e)
   pub form : (e ≡ Empty) ⊎ Derives Alt e
-  pub small : size e ≤ 4096
+  pub small : size e ≤ greatest_size
+
+-- the text has the form of an expression, whatever its size
+abbrev pub HasForm : List ℕ → Type 0
+HasForm bytes = (e : Pattern) × Lexes bytes (tokens_of e) × Derives Alt e
+
+-- the text has the form of an expression that is larger than the greatest size
+abbrev pub IsTooLarge : List ℕ → Type 0
+IsTooLarge bytes = (e : Pattern) × Lexes bytes (tokens_of e) × Derives Alt e × (greatest_size < size e)

@@ -1,6 +1,6 @@
 // Sets of bytes.
 
-ghost use Rattle.pawk_pattern.specs.Sets.{all_bytes, complement, none, only, with_range};
+ghost use Rattle.pawk_pattern.specs.Sets.{all_bytes, complement, none, only, with_range, with_ranges};
 ghost use Rattle.std.specs.Prelude.{◌≡◌};
 
 /// A set of bytes: an answer for each byte.
@@ -66,16 +66,26 @@ impl ByteSet {
         ByteSet { members }
     }
 
-    /// The set with the bytes from `low` to `high` added, both included.
-    pub fn with_range(&self, low: u8, high: u8) -> ByteSet
-        ensures { result.members ≡ with_range low high self.now.members }
+    /// Adds the bytes from `low` to `high`, both included.
+    pub fn insert_range(&mut self, low: u8, high: u8)
+        ensures { self.new.members ≡ with_range low high self.old.members }
     {
-        let mut members = [false; 256];
-        for byte in 0..256 {
-            let had = self.members[byte];
-            members[byte] = had || (low as usize <= byte && byte <= high as usize);
+        for byte in usize::from(low)..usize::from(high) + 1 {
+            self.members[byte] = true;
         }
-        ByteSet { members }
+    }
+
+    /// Adds the bytes of each of these ranges.
+    pub fn insert_ranges(&mut self, ranges: &[(u8, u8)])
+        ensures { self.new.members ≡ with_ranges ranges.now self.old.members }
+    {
+        match ranges {
+            [] => {}
+            [(low, high), others @ ..] => {
+                self.insert_range(*low, *high);
+                self.insert_ranges(others);
+            }
+        }
     }
 
     /// The bytes that are not in the set.

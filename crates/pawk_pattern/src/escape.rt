@@ -44,7 +44,7 @@ fn more_octal(value: u8, text: &[u8]) -> (u8, &[u8])
 
 /// What stands behind a backslash: the byte that is meant, and what follows.
 #[tactic(auto, unfolding(crate::specs::Escapes::escape_at))]
-pub fn escaped(text: &[u8]) -> Result<(u8, &[u8]), EreRefusal>
+pub fn escape(text: &[u8]) -> Result<(u8, &[u8]), EreRefusal>
     ensures value { Gives (λ x. (x.0, x.1.now)) result (escape_at text.now) }
     ensures shorter { IfOk result (λ x. length x.1.now < length text.now) }
 {

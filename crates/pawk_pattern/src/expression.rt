@@ -5,6 +5,7 @@ ghost use Rattle.pawk_pattern.specs.Tree.{pattern_of};
 ghost use Rattle.std.specs.Prelude.{◌≡◌, ◌<◌, ◌≤◌, MatchOption};
 
 use crate::byte_set::ByteSet;
+use crate::limits::GREATEST_SIZE;
 
 /// An expression as it is written.
 #[derive(Drop)]
@@ -30,9 +31,10 @@ pub fn repeated_size_of(size: u32, least: u8, most: Option<u8>) -> u32
     }
 }
 
-/// The size, with the bounds written out, where it is at most 4,096.
+/// The size, with the bounds tokens_of out, where it is at most 4,096.
 pub fn size_of(e: &Expression) -> Option<u32>
-    ensures { MatchOption result (4096 < size (pattern_of e.now)) (λ n. (n ≡ size (pattern_of e.now)) × (n ≤ 4096)) }
+    ensures { let whole = size (pattern_of e.now) in
+        MatchOption result (4096 < whole) (λ n. (n ≡ whole) × (n ≤ 4096)) }
 {
     let size = match e {
         Expression::Empty => 0,
@@ -42,7 +44,7 @@ pub fn size_of(e: &Expression) -> Option<u32>
         Expression::Sequence(a, b) => size_of(a)? + size_of(b)?,
         Expression::Either(a, b) => size_of(a)? + size_of(b)? + 1,
     };
-    if size > 4096 {
+    if size > GREATEST_SIZE {
         return None;
     }
     Some(size)

@@ -1,10 +1,37 @@
-// Laws about the definitions.
+// Laws about the definitions. The calls do nothing.
 
-ghost use Rattle.pawk_pattern.specs.Pattern.{Pattern};
+ghost use Rattle.pawk_pattern.specs.Bounds.{bound_at};
+ghost use Rattle.pawk_pattern.specs.Brackets.{bracket_at};
+ghost use Rattle.pawk_pattern.specs.Items.{IsBracket};
+ghost use Rattle.pawk_pattern.specs.Numerals.{IsBound};
+ghost use Rattle.pawk_pattern.specs.Pattern.{Holds, Pattern};
+ghost use Rattle.pawk_pattern.specs.Sets.{InSome, all_bytes, complement, none, only, with_ranges};
 ghost use Rattle.pawk_pattern.specs.Tokens.{SpellsEre};
-ghost use Rattle.std.specs.Prelude.{◌≡◌, ℕ, List};
+ghost use Rattle.pawk_pattern.specs.declared.token.Token.TheVariants.{Times};
+ghost use Rattle.std.specs.Prelude.{◌≡◌, ◌↔◌, ◌⊎◌, ◌<◌, ℕ, Bool, List, Option, Some};
 
-/// A text spells at most one expression. (A law: the call does nothing.)
+/// A text spells at most one expression.
 pub fn a_text_spells_one()
     ensures { (bytes : List ℕ) (e f : Pattern) → SpellsEre bytes e → SpellsEre bytes f → e ≡ f }
+{}
+
+/// What the sets hold: all bytes, none, one, those of ranges beside those of a set, those that are not in a set.
+pub fn sets_hold()
+    ensures all { (b : ℕ) → b < 256 → Holds all_bytes b }
+    ensures none { (b : ℕ) → b < 256 → Holds none b → ⊥ }
+    ensures one { (a b : ℕ) → a < 256 → b < 256 → Holds (only a) b ↔ (b ≡ a) }
+    ensures ranges { (rs : List (ℕ × ℕ)) (m : List Bool) (b : ℕ) → b < 256
+        → Holds (with_ranges rs m) b ↔ (Holds m b ⊎ InSome rs b) }
+    ensures outside { (m : List Bool) (b : ℕ) → b < 256 → Holds (complement m) b ↔ (Holds m b → ⊥) }
+{}
+
+/// What is read behind a `[` is a bracket expression, item by item, and each bracket expression is read so.
+pub fn brackets_are_items()
+    ensures { (bytes rest : List ℕ) (m : List Bool) → (bracket_at bytes ≡ Some (m, rest)) ↔ IsBracket bytes m rest }
+{}
+
+/// What is read behind a `{` is a bound whose numbers its digits write in decimal, and each such bound is read so.
+pub fn bounds_are_numerals()
+    ensures { (bytes rest : List ℕ) (least : ℕ) (most : Option ℕ)
+        → (bound_at bytes ≡ Some (Times least most, rest)) ↔ IsBound bytes least most rest }
 {}

@@ -8,7 +8,7 @@ ghost use Rattle.std.specs.Prelude.{◌≡◌, ◌<◌, length, IfOk};
 use crate::bound::bound;
 use crate::bracket::bracket;
 use crate::byte_set::ByteSet;
-use crate::escape::escaped;
+use crate::escape::escape;
 use crate::refusal::EreRefusal;
 use crate::token::Token;
 
@@ -32,7 +32,7 @@ pub fn token(text: &[u8]) -> Result<(Token, &[u8]), EreRefusal>
             b'?' => Ok((Token::Times(0, Some(1)), rest)),
             b'.' => Ok((Token::Leaf(ByteSet::all()), rest)),
             b'\\' => {
-                let (byte, rest) = escaped(rest)?;
+                let (byte, rest) = escape(rest)?;
                 Ok((Token::Leaf(ByteSet::only(byte)), rest))
             }
             b'{' => bound(rest),

@@ -21,9 +21,9 @@ pub enum EreRefusal {
     Escape,
     /// 5: a `(` or a `)` without its partner.
     Group,
-    /// 6: the size, with the bounds written out, is above 4,096.
+    /// 6: the size, with the bounds tokens_of out, is above 4,096.
     TooLarge,
-    /// 7: a growth was refused for want of memory.
+    /// 7: a gain was refused for want of memory.
     Memory,
 }
 

@@ -5,5 +5,5 @@ use Rattle.pawk_pattern.proofs.byte_set.ByteSet.complement.Given as goal
 abbrev pub invariant-loop-byte : goal.invariant-loop-byte
 invariant-loop-byte l = record {
   size : length l.members ≡ 256;
-  written : (k : ℕ) → k < l.byte → get_or l.members k false ≡ not_in l.self.members k;
+  same : (k : ℕ) → k < l.byte → get_or l.members k false ≡ not_in l.self.members k;
 }

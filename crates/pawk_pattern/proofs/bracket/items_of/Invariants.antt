@@ -1,7 +1,7 @@
 use Rattle.std.proofs.Common.{◌≤◌, length}
 use Rattle.pawk_pattern.specs.Sets.{none}
-use Rattle.pawk_pattern.proofs.Listed.{Same}
-use Rattle.pawk_pattern.proofs.bracket.listed.Given as goal
+use Rattle.pawk_pattern.proofs.Items.{Same}
+use Rattle.pawk_pattern.proofs.bracket.items_of.Given as goal
 
 abbrev pub invariant-loop-rest : goal.invariant-loop-rest
 invariant-loop-rest l = record {

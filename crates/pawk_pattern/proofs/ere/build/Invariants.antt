@@ -1,13 +1,13 @@
 use Rattle.std.proofs.Common.{◌≡◌, ◌≤◌, length}
 use Rattle.pawk_pattern.specs.Machine.{weight}
-use Rattle.pawk_pattern.specs.Reader.{reader_of}
+use Rattle.pawk_pattern.specs.Builder.{builder_of}
 use Rattle.pawk_pattern.proofs.Progress.{Progress}
-use Rattle.pawk_pattern.proofs.parse.build.Given as goal
+use Rattle.pawk_pattern.proofs.ere.build.Given as goal
 
 abbrev pub invariant-loop-rest : goal.invariant-loop-rest
 invariant-loop-rest l = record {
-  progress : Progress l.text l.rest (reader_of l.reader);
-  sized : l.size ≡ weight (reader_of l.reader);
+  progress : Progress l.text l.rest (builder_of l.builder);
+  sized : l.size ≡ weight (builder_of l.builder);
   small : l.size ≤ 4096;
 }
 

@@ -37,27 +37,27 @@ items_more (suc m) members first bytes more x le lt h at =
 
 -- the items from here are those from the start
 abbrev pub Same : List ℕ → List ℕ → List Bool → Bool → List Bool → Type 0
-Same text rest members first begun = (n : ℕ) → length text ≤ n → (m : ℕ) × (length rest ≤ m) × (items m members first rest ≡ items n begun true text)
+Same text rest members first initial = (n : ℕ) → length text ≤ n → (m : ℕ) × (length rest ≤ m) × (items m members first rest ≡ items n initial true text)
 
-pub same_start : (text : List ℕ) (begun : List Bool) → Same text text begun true begun
-same_start text begun = λ n le. (n, le, refl)
+pub same_start : (text : List ℕ) (initial : List Bool) → Same text text initial true initial
+same_start text initial = λ n le. (n, le, refl)
 
-pub same_more : (text rest more : List ℕ) (members begun : List Bool) (first : Bool) (x : Item) (set : List Bool) → Same text rest members first begun → length more < length rest → (begins 93 rest && not first) ≡ false → item_at first rest ≡ Some (x, more)
-    → set ≡ with_ranges (item_ranges x) members → Same text more set false begun
-same_more text rest more members begun first x set same lt h at is = λ n le.
+pub same_more : (text rest more : List ℕ) (members initial : List Bool) (first : Bool) (x : Item) (set : List Bool) → Same text rest members first initial → length more < length rest → (begins 93 rest && not first) ≡ false → item_at first rest ≡ Some (x, more)
+    → set ≡ with_ranges (item_ranges x) members → Same text more set false initial
+same_more text rest more members initial first x set same lt h at is = λ n le.
     let s = same n le in
     let y = items_more s.0 members first rest more x s.1 lt h at in
     (y.0, y.1, ap (λ (a : List Bool). items y.0 a false more) is ∙ y.2 ∙ s.2)
 
-pub same_over : (text rest after : List ℕ) (members begun : List Bool) (first : Bool) → Same text rest members first begun → length after < length rest → ((begins 93 rest && not first) ≡ true) × (after ≡ drop 1 rest)
-    → (n : ℕ) → length text ≤ n → items n begun true text ≡ Some (members, after)
-same_over text rest after members begun first same lt h n le = let s = same n le in sym s.2 ∙ items_over s.0 members first rest after lt s.1 h
+pub same_over : (text rest after : List ℕ) (members initial : List Bool) (first : Bool) → Same text rest members first initial → length after < length rest → ((begins 93 rest && not first) ≡ true) × (after ≡ drop 1 rest)
+    → (n : ℕ) → length text ≤ n → items n initial true text ≡ Some (members, after)
+same_over text rest after members initial first same lt h n le = let s = same n le in sym s.2 ∙ items_over s.0 members first rest after lt s.1 h
 
-pub same_refused : (why : EreRefusal) (text rest : List ℕ) (members begun : List Bool) (first : Bool) → Same text rest members first begun → (begins 93 rest && not first) ≡ false → TellsOfForm why (item_at first rest ≡ None)
-    → (n : ℕ) → length text ≤ n → TellsOfForm why (items n begun true text ≡ None)
-same_refused why text rest members begun first same h t n le =
+pub same_refused : (why : EreRefusal) (text rest : List ℕ) (members initial : List Bool) (first : Bool) → Same text rest members first initial → (begins 93 rest && not first) ≡ false → TellsOfForm why (item_at first rest ≡ None)
+    → (n : ℕ) → length text ≤ n → TellsOfForm why (items n initial true text ≡ None)
+same_refused why text rest members initial first same h t n le =
     let s = same n le in form_map why _ _ (λ x. sym s.2 ∙ items_none s.0 members first rest h x) t
 
-pub same_ended : (text rest : List ℕ) (members begun : List Bool) (first : Bool) → Same text rest members first begun → rest ≡ [] → (n : ℕ) → length text ≤ n → items n begun true text ≡ None
-same_ended text rest members begun first same h n le =
+pub same_ended : (text rest : List ℕ) (members initial : List Bool) (first : Bool) → Same text rest members first initial → rest ≡ [] → (n : ℕ) → length text ≤ n → items n initial true text ≡ None
+same_ended text rest members initial first same h n le =
     let s = same n le in sym s.2 ∙ ap (items s.0 members first) h ∙ items_empty s.0 members first

@@ -1,9 +1,9 @@
 use Rattle.std.proofs.Common.{true, arith, subst, sym}
 use Rattle.std.proofs.lemmas.Result.{err_from_is_err_and}
 use Rattle.pawk_pattern.specs.Sets.{none}
-use Rattle.pawk_pattern.proofs.Listed.{Same, same_start, same_more, same_over, same_refused, same_ended}
+use Rattle.pawk_pattern.proofs.Items.{Same, same_start, same_more, same_over, same_refused, same_ended}
 use Rattle.pawk_pattern.proofs.Refused.{is_empty_of}
-use Rattle.pawk_pattern.proofs.bracket.listed.Goals as goal
+use Rattle.pawk_pattern.proofs.bracket.items_of.Goals as goal
 
 pub loop-rest-init : goal.loop-rest-init
 loop-rest-init c = record {
@@ -14,7 +14,7 @@ loop-rest-init c = record {
 pub loop-rest-preserved : goal.loop-rest-preserved
 loop-rest-preserved c = record {
   shorter = omega (arith, c.in_ok-next.ensures.shorter);
-  same = same_more _ _ _ _ _ _ _ _ c.loop-rest.invariant.same c.in_ok-next.ensures.shorter c.in-None.ensures.value c.in_ok-next.ensures.value c.with_item-set.ensures;
+  same = same_more _ _ _ _ _ _ _ _ c.loop-rest.invariant.same c.in_ok-next.ensures.shorter c.in-None.ensures.value c.in_ok-next.ensures.value c.insert_item.ensures;
 }
 
 pub returns-in-Some-clause-value : goal.returns-in-Some-clause-value
