@@ -1,0 +1,4 @@
+pub mod Records
+pub mod Begins
+pub mod Separator
+pub mod Paragraph
