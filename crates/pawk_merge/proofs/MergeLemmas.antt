@@ -3,7 +3,7 @@ use Rattle.std.proofs.Common.{◌≡◌, inl, inr, ℤ, pos, ◌+ℤ◌, Bool, t
 use Rattle.std.proofs.lemmas.Int.{ints}
 use Rattle.std.proofs.lemmas.List.Elements.{All-nil, All-cons, All-head, All-tail}
 use Rattle.std.proofs.lemmas.Grind.{fold-append}
-use Rattle.pawk_value.specs.declared.faults.Fault.{Fault}
+use Rattle.pawk_value.specs.declared.Fault.{Fault}
 use Rattle.pawk_value.specs.Range.{FitsWord, in_range}
 use Rattle.pawk_value.specs.Value.{Val, Num}
 use Rattle.pawk_value.specs.Conversion.{num_of}

@@ -1,7 +1,7 @@
 -- The merge of the chunks' tables: as if each add were made in order.
 use Rattle.std.specs.Prelude.{◌⊎◌, ◌≡◌, ℕ, ℤ, pos, ◌+ℤ◌, List, [], ◌∷◌, fold, All, Option, Ok}
 use Rattle.std.specs.List.{flat_map}
-use Rattle.pawk_value.specs.declared.faults.Fault.{Fault}
+use Rattle.pawk_value.specs.declared.Fault.{Fault}
 use Rattle.pawk_value.specs.Value.{Val, Num}
 use Rattle.pawk_value.specs.Conversion.{num_of}
 use Rattle.pawk_merge.specs.Cases.{result_cases}

@@ -1,6 +1,6 @@
 -- What a run promises.
 use Rattle.std.specs.Prelude.{List, Option, None, Some}
-use Rattle.pawk_value.specs.declared.faults.Fault.{Fault}
+use Rattle.pawk_value.specs.declared.Fault.{Fault}
 use Rattle.pawk_input.specs.Input.{File}
 use Rattle.pawk_shape.specs.Program.{Shape}
 use Rattle.pawk_sequence.specs.Outcome.{phase_over}

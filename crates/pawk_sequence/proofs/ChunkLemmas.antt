@@ -1,7 +1,7 @@
 -- The records that a chunk has added so far.
 use Rattle.std.proofs.Common.{◌≡◌, ℕ, ℤ, List, [], ◌∷◌, ◌++◌, Result, Ok, Option, None, refl, ap, sym, ◌∙◌}
 use Rattle.std.proofs.lemmas.List.{append_assoc}
-use Rattle.pawk_value.specs.declared.faults.Fault.{Fault}
+use Rattle.pawk_value.specs.declared.Fault.{Fault}
 use Rattle.pawk_input.specs.Input.{Item}
 use Rattle.pawk_sequence.specs.Meaning.{amount}
 use Rattle.pawk_merge.specs.Results.{HasTable, total_of}

@@ -5,8 +5,8 @@ use Rattle.std.specs.Option.{option_map}
 use Rattle.std.proofs.lemmas.Int.{ints}
 use Rattle.std.proofs.lemmas.List.{append-nil}
 use Rattle.std.proofs.lemmas.List.Elements.{All-nil, All-cons, All-head, All-tail}
-use Rattle.pawk_value.specs.declared.faults.Fault.{Fault}
-use Rattle.pawk_value.specs.declared.faults.Fault.TheVariants.{Overflow}
+use Rattle.pawk_value.specs.declared.Fault.{Fault}
+use Rattle.pawk_value.specs.declared.Fault.TheVariants.{Overflow}
 use Rattle.pawk_value.specs.Range.{FitsWord, in_range}
 use Rattle.pawk_value.specs.Value.{Val, Uninit, Num, Maybe}
 use Rattle.pawk_value.specs.Conversion.{num_of}

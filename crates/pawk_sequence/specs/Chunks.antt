@@ -2,8 +2,8 @@
 use Rattle.std.specs.Prelude.{◌⊎◌, ◌≡◌, ℕ, ℤ, ◌+ℤ◌, List, [], ◌∷◌, ◌++◌, length, All, Ok, Err, Option, Some, None}
 use Rattle.std.specs.List.{last_or}
 use Rattle.std.specs.Option.{option_map}
-use Rattle.pawk_value.specs.declared.faults.Fault.{Fault}
-use Rattle.pawk_value.specs.declared.faults.Fault.TheVariants.{Overflow}
+use Rattle.pawk_value.specs.declared.Fault.{Fault}
+use Rattle.pawk_value.specs.declared.Fault.TheVariants.{Overflow}
 use Rattle.pawk_value.specs.Value.{Maybe}
 use Rattle.pawk_input.specs.Input.{File, Item, file_at}
 use Rattle.pawk_input.specs.Fields.{blank_fields}

@@ -1,7 +1,7 @@
 -- The sequential meaning of the shape of program that is read: the records are read one after the other, each adds a field to the variable, and END prints it.
 -- POSIX.1-2017, awk, "Overall Program Structure", "Expressions in awk", "Variables and Special Variables".
 use Rattle.std.specs.Prelude.{ℕ, ℤ, ◌+ℤ◌, ◌-◌, ◌==◌, if◌then◌else◌, List, [], ◌∷◌, length, Option, None, Some, Result, Ok, Err, slice_get}
-use Rattle.pawk_value.specs.declared.faults.Fault.{Fault}
+use Rattle.pawk_value.specs.declared.Fault.{Fault}
 use Rattle.pawk_value.specs.Range.{in_range_or_fault}
 use Rattle.pawk_value.specs.Value.{Val, Uninit, Num, Maybe}
 use Rattle.pawk_value.specs.Conversion.{num_of}

@@ -1,6 +1,6 @@
 -- What a run shows.
 use Rattle.std.specs.Prelude.{ℕ, pos, negsuc, List, [], ◌∷◌, ◌++◌, codes, map, Bool, true, false, nat_lt, ◌==◌, if◌then◌else◌, Option, None, Some}
-use Rattle.pawk_value.specs.declared.faults.Fault.{Fault}
+use Rattle.pawk_value.specs.declared.Fault.{Fault}
 use Rattle.pawk_value.specs.Value.{Val, Num, Text, shown}
 use Rattle.pawk_value.specs.Conversion.{text_of}
 use Rattle.pawk_input.specs.Input.{File, items}

@@ -4,8 +4,8 @@ use mir.Val.{SFits}
 use Rattle.std.proofs.lemmas.Int.{to_z-of_z}
 use Rattle.std.specs.Result.{is_ok}
 use Rattle.pawk_value.specs.Range.{in_range, in_range_or_fault}
-use Rattle.pawk_value.specs.declared.faults.Fault.{Fault}
-use Rattle.pawk_value.specs.declared.faults.Fault.TheVariants.{Overflow}
+use Rattle.pawk_value.specs.declared.Fault.{Fault}
+use Rattle.pawk_value.specs.declared.Fault.TheVariants.{Overflow}
 use Rattle.pawk_merge.proofs.merging.fits.Goals as goal
 
 ok_is : (z : ℤ) → is_ok (in_range_or_fault z) ≡ in_range z
