@@ -1,11 +1,13 @@
 //! Devices that bytes come from and go to.
 
 ghost use Rattle.std.specs.Prelude.{◌≡◌, ◌≤◌, ◌<◌, ℕ, List, Option, length, IfOk};
+ghost use Rattle.std.specs.Io.{ReadsAtMost};
 ghost use Rattle.std.specs.Io.KnownBytes.{ReadConsumes, WriteAppends};
 ghost use Rattle.pawk_par.specs.Device.{CountsRead, CountsWrite};
 
 use crate::count::Count;
-use std::io::{Read, Write};
+use std::io;
+use std::io::{ErrorKind, Read, Write};
 
 /// A read or a write failed.
 #[derive(Clone, Copy)]
@@ -41,7 +43,7 @@ pub trait Sink {
         ensures counted { CountsWrite (failures self.old) (failures self.new) bytes.now result };
 }
 
-/// A source over any reader. Each error is a failure.
+/// A source over any reader. Each error is a failure, but that a call that a signal interrupted is made again.
 #[derive(Drop)]
 pub struct Reader<R> {
     /// The reader.
@@ -61,13 +63,31 @@ impl<R> Reader<R> {
     }
 }
 
+/// Reads, and again where a signal interrupted the call.
+fn read_on<R: Read>(reader: &mut R, buffer: &mut [u8]) -> io::Result<usize>
+    ensures bound { ReadsAtMost result buffer.new }
+    ensures bytes { ReadConsumes (R.remaining reader.old) (R.remaining reader.new) result buffer.new }
+{
+    for _ in 0..u64::MAX {
+        match reader.read(buffer) {
+            Ok(count) => return Ok(count),
+            Err(error) => {
+                if error.kind() != ErrorKind::Interrupted {
+                    return Err(error);
+                }
+            }
+        }
+    }
+    Err(io::Error::from(ErrorKind::Interrupted))
+}
+
 impl<R: Read> Source for Reader<R> {
     ghost left = { λ r. R.remaining r.inner };
 
     ghost failures = { λ r. r.failures.times };
 
     fn read(&mut self, buffer: &mut [u8]) -> Result<usize, Failed> {
-        match self.inner.read(buffer) {
+        match read_on(&mut self.inner, buffer) {
             Ok(count) => Ok(count),
             Err(_) => {
                 self.failures = Count::one_more(&self.failures);

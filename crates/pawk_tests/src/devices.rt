@@ -2,13 +2,14 @@
 
 use crate::fixtures::SUM;
 use pawk_par::{
-    Cutting, Ending, Open, Reader, Report, Request, Settings, SettingsRefusal, StreamRefusal,
-    SyntaxRefusal, Writer, run_streams,
+    Cutting, Ending, Open, Reader, Report, Request, SettingsRefusal, StreamRefusal, SyntaxRefusal,
+    Writer, run_streams,
 };
-use std::alloc::Global;
 use std::io;
 use std::io::{ErrorKind, Read, Write};
+use std::sync::Wait;
 use std::test::Fail;
+use std::thread::Threads;
 
 /// Gives one byte a read, after an interruption by a signal; fails where so many reads were made.
 #[derive(Drop)]
@@ -76,8 +77,8 @@ struct Answer {
 }
 
 /// Runs a text with a budget over the lines 1, 2 and 3.
-fn run_lines(
-    rt: &HostRuntime,
+fn run_lines<R: AllocGlobal + Threads + Wait>(
+    rt: &R,
     text: &[u8],
     budget: u64,
     reads: usize,
@@ -104,10 +105,9 @@ fn run_lines(
         fails,
     });
     let answer = run_streams(rt, alloc, &request, &mut source, &mut sink, &Open);
-    let Writer { inner, .. } = sink;
     Answer {
         answer,
-        taken: inner.taken,
+        taken: sink.inner.taken,
     }
 }
 

@@ -3,7 +3,10 @@
 use crate::fixtures::{is_outcome, run_sum};
 use pawk_par::{Cutting, Ending, Global, Open, Refusal, Route, parse};
 use pawk_value::Value;
+use std::alloc::Global as Heap;
+use std::sync::Wait;
 use std::test::Fail;
+use std::thread::Threads;
 
 /// A variable as it is wanted.
 #[derive(Clone, Copy)]
@@ -58,7 +61,10 @@ fn lists_every_variable(rt: HostRuntime) -> Result<(), Fail> {
 }
 
 /// Runs the sum with these cuts: a file, and an offset in it.
-fn is_cut(rt: &HostRuntime, cuts: &[(usize, usize)]) -> Result<Option<bool>, Fail> {
+fn is_cut<R: AllocGlobal + Threads + Wait>(
+    rt: &R,
+    cuts: &[(usize, usize)],
+) -> Result<Option<bool>, Fail> {
     let cutting = Cutting::At(Vec::from_slice(rt.alloc(), cuts)?);
     let answer = run_sum(rt, b"1\n2\n3\n", &cutting, 2, &Open)?;
     Ok(match &answer {
@@ -85,8 +91,8 @@ fn cuts_by_hand(rt: HostRuntime) -> Result<(), Fail> {
 }
 
 /// The index that a text's program adds, where it is one.
-fn index_in(rt: &HostRuntime, text: &str) -> Option<usize> {
-    match parse(rt.alloc(), text.as_bytes()) {
+fn index_in(alloc: Heap, text: &str) -> Option<usize> {
+    match parse(alloc, text.as_bytes()) {
         Ok(program) => Some(program.field()),
         Err(_) => None,
     }
@@ -101,7 +107,7 @@ fn reads_the_index(rt: HostRuntime) -> Result<(), Fail> {
         ("{ n += $32768 } END { print n }", None),
     ];
     for (text, index) in rows {
-        assert!(rt; index_in(&rt, text) == index, "{text}");
+        assert!(rt; index_in(rt.alloc(), text) == index, "{text}");
     }
     Ok(())
 }

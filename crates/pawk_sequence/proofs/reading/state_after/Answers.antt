@@ -1,4 +1,4 @@
-use Rattle.std.proofs.Common.{arith}
+use Rattle.std.proofs.Common.{arith, rules}
 use Rattle.pawk_input.proofs.FieldsLemmas.{length-blank_fields}
 use Rattle.pawk_sequence.proofs.reading.state_after.Goals as goal
 
@@ -11,3 +11,6 @@ invariant_of-result c =
       small_fnr = omega (arith, item.counted, item.in_file);
       small_fields = rw c.count_fields.ensures (omega (arith, few, item.short));
     }
+
+pub returns : goal.returns
+returns c = search rules depth 3
