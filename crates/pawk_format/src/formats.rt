@@ -26,7 +26,8 @@ pub(crate) fn check_length(text: &Vec<u8>) -> Result<(), Stop>
 /// Appends the text of a format to no bytes.
 fn push_format(out: &mut Vec<u8>, format: &[u8], arguments: Arguments<'_>) -> Result<(), Stop>
     requires { out.old.items ≡ [] }
-    ensures { Writes (cap_pieces_of format.now) (shown_values arguments.entry) out.new.items result }
+    ensures { Writes (cap_pieces_of format.now) (shown_values arguments.entry)
+        out.new.items result }
 {
     let mut rest = format;
     let mut left = arguments;
