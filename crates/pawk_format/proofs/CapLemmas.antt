@@ -1,5 +1,5 @@
 -- Counts above the limit of lengths are one: the text is too long with each of them.
-use Rattle.std.proofs.Common.{◌≡◌, ◌⊎◌, inl, inr, ℕ, ◌+◌, ◌-◌, ◌<◌, ◌≤◌, min, Bool, true, false, cond, ◌&&◌, ◌||◌, eqb, leb, is_some, List, [], ◌∷◌, ◌++◌, length, take, drop, map, replicate, Option, Some, None, Result, Ok, Err, IsErrAnd, ℤ, pos, negsuc, refl, ap, sym, ◌∙◌, subst, arith, length-append}
+use Rattle.std.proofs.Common.{◌≡◌, ◌⊎◌, inl, inr, ℕ, ◌+◌, ◌-◌, ◌<◌, ◌≤◌, Bool, true, false, is_some, List, [], ◌∷◌, ◌++◌, length, drop, map, replicate, Option, Some, None, Result, Ok, Err, IsErrAnd, ℤ, pos, negsuc, refl, ap, sym, ◌∙◌, subst, arith, length-append}
 use Rattle.std.proofs.lemmas.Bool.{cases_lt}
 use Rattle.std.proofs.lemmas.List.{length-replicate, length-take, take_all}
 use Rattle.std.specs.declared.vec.Vec.{Vec}
@@ -12,7 +12,7 @@ use Rattle.pawk_scalar.specs.Conversion.{num_of, text_of}
 use Rattle.pawk_format.specs.declared.directive.Conversion.{Conversion}
 use Rattle.pawk_format.specs.declared.directive.Conversion.TheVariants as kind
 use Rattle.pawk_format.specs.declared.directive.Directive.{Directive}
-use Rattle.pawk_format.specs.Format.{spaces, zeros, with_spaces, in_width, zero_count, fills_zeros, number_body, number_text, own_digits, sign_text, signed_text, conversion_digits, has_leading_zero, with_zero, unsigned_digits, unsigned_prefix, unsigned_text, beginning, string_text, character, signed_result, unsigned_result, character_result, text_by, Piece, Plain, Percent, Place, Malformed, pieces_of, and_then, within_limit, value_text, text_of_pieces, bytes_or_later, writes}
+use Rattle.pawk_format.specs.Format.{spaces, zeros, with_spaces, in_width, zero_count, fills_zeros, number_text, own_digits, sign_text, signed_text, unsigned_prefix, unsigned_text, beginning, string_text, character, signed_result, unsigned_result, character_result, text_by, Piece, Plain, Percent, Place, Malformed, pieces_of, and_then, within_limit, value_text, text_of_pieces, bytes_or_later, writes}
 use Rattle.pawk_format.specs.FormatViews.{cap, cap_precision, cap_directive, cap_piece, cap_pieces_of, text_behind, Writes}
 use Rattle.pawk_format.specs.FormatResults.{Formats}
 use Rattle.pawk_format.proofs.PieceLemmas.{past_limit}

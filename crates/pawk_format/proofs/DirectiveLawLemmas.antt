@@ -1,11 +1,10 @@
 -- What a directive writes reads back as the number, and fills the width.
-use Rattle.std.proofs.Common.{◌≡◌, ◌⊎◌, inl, inr, ℕ, ℤ, pos, negsuc, zero, suc, ◌+◌, ◌-◌, ◌*◌, ◌<◌, ◌≤◌, ◌^◌, Bool, true, false, cond, eqb, ◌&&◌, is_some, List, [], ◌∷◌, ◌++◌, length, take, map, Option, Some, None, IfSome, Result, Ok, Err, refl, ap, sym, subst, ◌∙◌, arith, length-append}
+use Rattle.std.proofs.Common.{◌≡◌, inl, inr, ℕ, ℤ, pos, negsuc, zero, suc, ◌+◌, ◌-◌, ◌*◌, ◌<◌, ◌≤◌, ◌^◌, Bool, true, false, cond, eqb, ◌&&◌, is_some, List, [], ◌∷◌, ◌++◌, length, take, map, Option, Some, None, IfSome, Result, Ok, Err, refl, ap, sym, subst, ◌∙◌, arith, length-append}
 use Rattle.std.proofs.lemmas.Bool.Decides.{nat_tests, eqb_tells}
-use Rattle.std.proofs.lemmas.Bool.{false≢true, eqb-true}
 use Rattle.std.proofs.lemmas.List.{length-replicate}
 use Rattle.std.proofs.Math.Seq.{take-length}
 use Rattle.std.specs.Char.{digit_value}
-use Rattle.std.specs.Str.Parse.{digits_value, digits_value_after}
+use Rattle.std.specs.Str.Parse.{digits_value}
 use Rattle.std.specs.Int.Digits.{digits_of, number_from_digits, AllBelowBase}
 use Rattle.std.proofs.lemmas.Int.Digits.{digits_value_is, number_digits_of, all_below_base_digits_of}
 use Rattle.std.proofs.lemmas.Fmt.{decimal_is_IsNumeral}
@@ -15,11 +14,10 @@ use Rattle.pawk_scalar.specs.declared.faults.Fault.{Fault}
 use Rattle.pawk_scalar.specs.Numeral.{begins}
 use Rattle.pawk_scalar.specs.Value.{Val}
 use Rattle.pawk_scalar.specs.Conversion.{num_of, text_of}
-use Rattle.pawk_scalar.proofs.NumeralLemmas.{both_true}
 use Rattle.pawk_format.specs.declared.directive.Conversion.{Conversion}
 use Rattle.pawk_format.specs.declared.directive.Conversion.TheVariants as kind
 use Rattle.pawk_format.specs.declared.directive.Directive.{Directive}
-use Rattle.pawk_format.specs.Format.{spaces, zeros, with_spaces, in_width, zero_count, fills_zeros, number_body, number_text, own_digits, sign_text, signed_text, digit_byte, radix_text, conversion_digits, is_octal, has_leading_zero, with_zero, unsigned_digits, unsigned_prefix, unsigned_text, beginning, string_text, character, and_then, signed_result, unsigned_result, character_result, text_by, directive_text}
+use Rattle.pawk_format.specs.Format.{zeros, in_width, zero_count, fills_zeros, number_text, own_digits, sign_text, signed_text, digit_byte, radix_text, conversion_digits, has_leading_zero, with_zero, unsigned_digits, unsigned_prefix, unsigned_text, beginning, string_text, character, and_then, signed_result, unsigned_result, character_result, text_by}
 use Rattle.pawk_format.specs.DirectiveLaw.{InWidth, base_of, WritesNumber, WritesBy, DirectiveLaw}
 use Rattle.pawk_format.proofs.CapLemmas.{spaces_length}
 

@@ -1,5 +1,5 @@
 -- Digits, and where a directive ends.
-use Rattle.std.proofs.Common.{◌≡◌, ◌⊎◌, inl, inr, ℕ, zero, suc, ◌+◌, ◌-◌, ◌*◌, ◌/◌, ◌%◌, ◌^◌, ◌<◌, ◌≤◌, ◌==◌, Bool, true, false, cond, eqb, ltb, get_or, is_some, List, [], ◌∷◌, ◌++◌, length, drop, map, set, refl, ap, sym, ◌∙◌, arith, append_assoc, length-drop}
+use Rattle.std.proofs.Common.{◌≡◌, ◌⊎◌, inl, inr, ℕ, zero, suc, ◌+◌, ◌-◌, ◌*◌, ◌/◌, ◌%◌, ◌^◌, ◌<◌, ◌≤◌, ◌==◌, Bool, true, false, cond, eqb, ltb, get_or, is_some, List, [], ◌∷◌, ◌++◌, length, drop, map, set, refl, ap, ◌∙◌, arith, append_assoc, length-drop}
 use Rattle.std.proofs.Math.Nat.{pow-succ', div-lt_iff_lt-mul}
 use Rattle.std.proofs.lemmas.List.{drop-set, map-append, drop_all, drop-drop}
 use Rattle.std.specs.Int.Digits.{digits_of}

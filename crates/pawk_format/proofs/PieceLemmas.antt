@@ -1,7 +1,6 @@
 -- The pieces of a format, as the code reads them, and the text that they make.
-use Rattle.std.proofs.Common.{◌≡◌, ◌⊎◌, inl, inr, ℕ, zero, suc, ◌+◌, ◌-◌, ◌<◌, ◌≤◌, min, Bool, true, false, cond, not, eqb, leb, get_or, ◌&&◌, ◌||◌, is_some, List, [], ◌∷◌, ◌++◌, length, take, drop, map, Option, Some, None, Result, Ok, Err, IsErrAnd, ℤ, pos, negsuc, refl, ap, sym, ◌∙◌, subst, arith, append_assoc, length-append, length-drop, one-add}
+use Rattle.std.proofs.Common.{◌≡◌, ℕ, suc, ◌<◌, Bool, true, false, cond, not, eqb, leb, get_or, ◌||◌, List, [], ◌∷◌, ◌++◌, length, take, drop, map, Some, None, Result, Ok, Err, IsErrAnd, refl, ap, sym, ◌∙◌, subst, arith, append_assoc, length-append, length-drop, one-add}
 use Rattle.std.proofs.lemmas.Bool.Decides.{nat_tests}
-use Rattle.std.proofs.lemmas.Bool.{false≢true, cases_lt}
 use Rattle.std.proofs.lemmas.List.{append-nil}
 use Rattle.std.specs.List.{prefix_len}
 use Rattle.memchr.specs.Find.{IsFirstByte, is_byte}
@@ -12,10 +11,9 @@ use Rattle.pawk_scalar.specs.declared.faults.Stop.{Stop}
 use Rattle.pawk_scalar.specs.declared.faults.Stop.TheVariants as stop
 use Rattle.pawk_scalar.specs.Numeral.{begins}
 use Rattle.pawk_scalar.specs.Value.{Val}
-use Rattle.pawk_format.specs.declared.directive.Directive.{Directive}
 use Rattle.pawk_format.specs.declared.pieces.Piece.TheVariants as code
 use Rattle.pawk_format.specs.declared.pieces.Piece as pieces
-use Rattle.pawk_format.specs.Format.{spelling_in_front, past_directive, directive_of, is_proper, is_percent, is_plain, Piece, Plain, Percent, Place, Malformed, pieces_within, pieces_of, and_then, within_limit, value_text, text_of_pieces, has_bytes, bytes_or_later, writes}
+use Rattle.pawk_format.specs.Format.{spelling_in_front, past_directive, directive_of, is_proper, is_percent, is_plain, Piece, Plain, Percent, Place, Malformed, pieces_within, and_then, within_limit, value_text, text_of_pieces, has_bytes, bytes_or_later, writes}
 use Rattle.pawk_format.specs.FormatViews.{cap_directive, cap_piece, cap_pieces_of, shown_pieces, values_behind, text_behind, piece_text, Longer, Makes, Writes}
 use Rattle.pawk_format.proofs.FormatLemmas.{shorter_directive}
 use Rattle.pawk_format.proofs.FormatLawLemmas.{from_plain_byte, percent_piece, place_piece, malformed_piece, enough_bytes}

@@ -1,7 +1,6 @@
 -- Formatted text in the words of the standard: a format is cut into pieces in one way.
 use Rattle.std.specs.Prelude.{◌≡◌, ℕ, true, false, List, [], ◌∷◌, ◌++◌, Option, Some, None}
 use Rattle.pawk_scalar.specs.Numeral.{AreDigits, begins}
-use Rattle.pawk_format.specs.declared.directive.Directive.{Directive}
 use Rattle.pawk_format.specs.Format.{Spelling, is_flag, is_proper, directive_of, bytes_of_spelling, is_percent, Piece, Plain, Percent, Place, Malformed, pieces_of}
 
 abbrev pub AreFlags : List ℕ → Type 0

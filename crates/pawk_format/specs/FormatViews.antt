@@ -1,7 +1,5 @@
 -- What the code's pieces and values show, and what a call makes of the text so far.
-use Rattle.std.specs.Prelude.{◌≡◌, ◌⊎◌, ℕ, ◌<◌, min, Bool, true, List, [], ◌∷◌, ◌++◌, map, drop, length, codes, Option, Some, None, option_to_list, Result, Ok, Err}
-use Rattle.std.specs.declared.vec.Vec.{Vec}
-use Rattle.std.specs.declared.alloc.Global.{Global}
+use Rattle.std.specs.Prelude.{◌≡◌, ◌⊎◌, ℕ, ◌<◌, min, true, List, [], ◌∷◌, ◌++◌, map, drop, length, Option, Some, None, option_to_list, Result, Ok, Err}
 use Rattle.pawk_scalar.specs.declared.faults.Fault.{Fault}
 use Rattle.pawk_scalar.specs.declared.faults.Fault.TheVariants.{Format}
 use Rattle.pawk_scalar.specs.declared.faults.Stop.{Stop}

@@ -1,6 +1,3 @@
-use Rattle.std.proofs.Common.{◌++◌, map}
-use Rattle.pawk_format.specs.Format.{Plain}
-use Rattle.pawk_format.specs.FormatViews.{cap_pieces_of}
 use Rattle.pawk_format.proofs.PieceLemmas as lemmas
 use Rattle.pawk_format.proofs.pieces.next_piece.Goals as goal
 

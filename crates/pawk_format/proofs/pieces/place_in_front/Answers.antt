@@ -1,6 +1,5 @@
-use Rattle.std.proofs.Common.{◌≡◌, true, false, sym, ap, ◌∙◌, ◌∷◌, arith}
-use Rattle.pawk_scalar.specs.Numeral.{begins}
-use Rattle.pawk_format.specs.Format.{is_percent, is_proper, spelling_in_front, Percent, Place, Malformed, past_directive}
+use Rattle.std.proofs.Common.{sym, ap, ◌∙◌, ◌∷◌}
+use Rattle.pawk_format.specs.Format.{Percent, Malformed}
 use Rattle.pawk_format.specs.FormatViews.{cap_pieces_of}
 use Rattle.pawk_format.proofs.FormatLemmas.{shorter_directive}
 use Rattle.pawk_format.proofs.PieceLemmas as lemmas

@@ -1,4 +1,4 @@
-use Rattle.std.proofs.Common.{◌≡◌, ◌||◌, ◌≤◌, length, sym, ap, ◌∙◌, arith}
+use Rattle.std.proofs.Common.{◌||◌, ◌≤◌, length, sym, ap, ◌∙◌, arith}
 use Rattle.pawk_format.specs.Format.{has_bytes, writes}
 use Rattle.pawk_format.specs.FormatViews.{shown_values}
 use Rattle.pawk_format.proofs.PieceLemmas as lemmas
