@@ -1,5 +1,5 @@
 -- The limits on numbers and texts.
-use Rattle.std.specs.Prelude.{◌≡◌, ℕ, ◌^◌}
+use Rattle.std.specs.Prelude.{ℕ, ◌^◌}
 
 -- the greatest length of a text that is made, in bytes
 abbrev pub length_limit : ℕ

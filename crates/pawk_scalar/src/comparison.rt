@@ -20,7 +20,8 @@ pub fn compare_texts(left: &[u8], right: &[u8]) -> Ordering
 
 /// How the texts of two lent values compare.
 fn compare_as_texts(left: ValueRef<'_>, right: ValueRef<'_>) -> Ordering
-    ensures { result ≡ text_order (text_of (lent_value left.entry)) (text_of (lent_value right.entry)) }
+    ensures { result
+        ≡ text_order (text_of (lent_value left.entry)) (text_of (lent_value right.entry)) }
 {
     let mut left_buffer = Buffer::new();
     let mut right_buffer = Buffer::new();

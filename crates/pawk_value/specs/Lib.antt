@@ -11,7 +11,9 @@ pub use Rattle.pawk_scalar.specs.Arithmetic
 pub use Rattle.pawk_scalar.specs.ArithmeticLaw
 pub use Rattle.pawk_scalar.specs.declared.faults.Fault
 pub use Rattle.pawk_scalar.specs.declared.faults.Stop
-pub mod Format
-pub mod FormatViews
-pub mod FormatResults
-pub mod FormatLaw
+pub use Rattle.pawk_format.specs.Format
+pub use Rattle.pawk_format.specs.FormatViews
+pub use Rattle.pawk_format.specs.FormatResults
+pub use Rattle.pawk_format.specs.FormatLaw
+pub use Rattle.pawk_format.specs.DirectiveLaw
+pub use Rattle.pawk_format.specs.TemplateViews

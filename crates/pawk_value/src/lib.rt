@@ -2,18 +2,14 @@
 //! take memory.
 #![tactic(auto)]
 
-mod arguments;
 mod copies;
-mod directive;
-mod formats;
-mod layout;
-mod output;
-mod pieces;
-mod radix;
 mod texts;
 
 pub use copies::{assign, copy_lent, copy_value};
-pub use formats::{format, format_into, format_law};
+pub use pawk_format::{
+    Conversion, Directive, Flags, Template, directive_law, format, format_into, format_law,
+    read_template, template_into,
+};
 pub use pawk_scalar::{
     Digits, Fault, LENGTH_LIMIT, NUMBER_LIMIT, Op, Stop, Value, ValueRef, arith, arithmetic_law,
     candidate_number, candidate_truth, compare, compare_lent, compare_texts, is_blank_byte,

@@ -22,7 +22,8 @@ pub fn push_text(value: &Value, out: &mut Vec<u8>) -> Result<(), AllocError>
 /// Appends the text of a lent value, as `push_text`.
 pub fn push_text_lent(value: ValueRef<'_>, out: &mut Vec<u8>) -> Result<(), AllocError>
     ensures items { out.new.items
-        ≡ (if is_ok result then out.old.items ++ text_of (lent_value value.entry) else out.old.items) }
+        ≡ (if is_ok result
+        then out.old.items ++ text_of (lent_value value.entry) else out.old.items) }
     ensures full { OnErr result
         (vec_capacity out.old < vec_len out.old + length (text_of (lent_value value.entry))) }
 {

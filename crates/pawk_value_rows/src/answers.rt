@@ -42,7 +42,7 @@ fn push_word(out: &mut Vec<u8>, word: &[u8]) -> Result<(), AllocError> {
 }
 
 /// Appends a fault.
-pub fn push_fault(out: &mut Vec<u8>, fault: Fault) -> Result<(), AllocError> {
+fn push_fault(out: &mut Vec<u8>, fault: Fault) -> Result<(), AllocError> {
     push_word(out, b"!")?;
     out.extend_from_slice(fault.name().as_bytes())
 }

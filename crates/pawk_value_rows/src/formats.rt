@@ -1,9 +1,11 @@
 //! The answers to rows on formats.
 
-use crate::answers::push_fault;
 use crate::cells::value_of;
 use pawk_rows::{cell, decode, push_encoded};
-use pawk_value::{Stop, Value, ValueRef, copy_value, format, push_text, push_text_lent, to_text};
+use pawk_value::{
+    Stop, Value, ValueRef, copy_value, format, format_into, lend, push_text, push_text_lent,
+    read_template, template_into, to_text,
+};
 use std::alloc::{AllocError, Global};
 
 /// The values of a row, which stand behind its format.
@@ -22,10 +24,71 @@ fn text_of_row(alloc: Global, row: &[u8]) -> Result<Vec<u8>, Stop> {
     format(alloc, directives.as_slice(), values.as_slice())
 }
 
+/// The lent values.
+fn lend_all(alloc: Global, values: &[Value]) -> Result<Vec<ValueRef<'_>>, AllocError> {
+    let mut lent = Vec::new(alloc);
+    for value in values {
+        lent.push(lend(value))?;
+    }
+    Ok(lent)
+}
+
+/// The formatted text of lent values, in a buffer that is not empty before.
+fn lent_text(alloc: Global, directives: &[u8], values: &[ValueRef<'_>]) -> Result<Vec<u8>, Stop> {
+    let mut text = Vec::from_slice(alloc, b"before")?;
+    format_into(&mut text, directives, values)?;
+    Ok(text)
+}
+
+/// The same by a template.
+fn template_text(
+    alloc: Global,
+    directives: &[u8],
+    values: &[ValueRef<'_>],
+) -> Result<Vec<u8>, Stop> {
+    let template = read_template(alloc, directives)?;
+    let mut text = Vec::from_slice(alloc, b"before")?;
+    template_into(&mut text, &template, values)?;
+    Ok(text)
+}
+
+/// Appends a text after `=`, or why there is none.
+fn push_outcome(out: &mut Vec<u8>, outcome: Result<Vec<u8>, Stop>) -> Result<(), AllocError> {
+    match outcome {
+        Err(stop) => push_stop(out, stop),
+        Ok(text) => push_bytes(out, text.as_slice()),
+    }
+}
+
+/// Appends the formatted texts of lent values, by the format and by a template.
+fn push_lent_texts(
+    alloc: Global,
+    out: &mut Vec<u8>,
+    directives: &[u8],
+    values: &[Value],
+) -> Result<(), AllocError> {
+    let lent = lend_all(alloc, values)?;
+    push_outcome(out, lent_text(alloc, directives, lent.as_slice()))?;
+    out.push(b'\t')?;
+    push_outcome(out, template_text(alloc, directives, lent.as_slice()))
+}
+
+/// The formatted texts of a row with lent values, by the format and by a template.
+pub fn lent_answer(alloc: Global, row: &[u8]) -> Result<Vec<u8>, AllocError> {
+    let mut out = Vec::new(alloc);
+    let directives = decode(alloc, cell(row, 1))?;
+    let values = values_of(alloc, row)?;
+    push_lent_texts(alloc, &mut out, directives.as_slice(), values.as_slice())?;
+    Ok(out)
+}
+
 /// Appends why there is no text.
 fn push_stop(out: &mut Vec<u8>, stop: Stop) -> Result<(), AllocError> {
     match stop {
-        Stop::Fault(fault) => push_fault(out, fault),
+        Stop::Fault(fault) => {
+            out.extend_from_slice(b"!")?;
+            out.extend_from_slice(fault.name().as_bytes())
+        },
         Stop::Memory => out.extend_from_slice(b"memory"),
     }
 }

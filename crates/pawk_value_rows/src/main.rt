@@ -12,6 +12,8 @@
 //! - `faults`: each fault's number and name;
 //! - `text VALUE`: the value's text after `=`, and behind it the text of its copy;
 //! - `format FORMAT VALUE..`: the formatted text after `=`;
+//! - `lent FORMAT VALUE..`: the same with lent values, by the format and, behind a tab, by a template
+//!   of it;
 //! - `long FORMAT VALUE..`: its length and its last three bytes.
 #![tactic(auto)]
 
@@ -21,7 +23,7 @@ mod formats;
 
 use answers::push_answer;
 use cells::value_of;
-use formats::{formatted_answer, length_answer, text_answer};
+use formats::{formatted_answer, length_answer, lent_answer, text_answer};
 use pawk_rows::cell;
 use std::alloc::{AllocError, Global};
 use std::io;
@@ -40,6 +42,7 @@ fn answer(alloc: Global, row: &[u8]) -> Result<Vec<u8>, AllocError> {
     match cell(row, 0) {
         b"text" => text_answer(alloc, row),
         b"format" => formatted_answer(alloc, row),
+        b"lent" => lent_answer(alloc, row),
         b"long" => length_answer(alloc, row),
         _ => answer_on_values(alloc, row),
     }

@@ -1,0 +1,107 @@
+//! A format that was read once.
+
+ghost use Rattle.std.specs.Prelude.{◌≡◌, ℕ, List, [], map, IfOk};
+ghost use Rattle.std.specs.List.{flat_map};
+ghost use Rattle.pawk_scalar.specs.Value.{lent_value};
+ghost use Rattle.pawk_format.specs.Format.{pieces_of};
+ghost use Rattle.pawk_format.specs.FormatViews.{shown_pieces, shown_values, Writes};
+ghost use Rattle.pawk_format.specs.TemplateViews.{part_pieces, IsTemplateOf};
+
+use crate::arguments::{Arguments, arguments_behind};
+use crate::directive::Directive;
+use crate::formats::check_length;
+use crate::output::push_piece;
+use crate::pieces::{Piece, next_piece};
+use pawk_scalar::{Stop, ValueRef};
+use std::alloc::{AllocError, Global};
+
+/// A part of a format, with its own bytes.
+#[derive(Drop)]
+pub enum Part {
+    /// Bytes that stay as they are.
+    Plain(Vec<u8>),
+    /// `%%`.
+    Percent,
+    /// A directive.
+    Place(Directive),
+    /// A `%` that begins nothing, with all that follows it.
+    Malformed,
+}
+
+/// The part that a piece is.
+fn part_of(alloc: Global, piece: Piece<'_>) -> Result<Part, AllocError>
+    ensures { IfOk result (λ part. part_pieces part ≡ shown_pieces piece.entry) }
+{
+    match piece {
+        Piece::Plain(bytes) => Ok(Part::Plain(Vec::from_slice(alloc, bytes)?)),
+        Piece::Percent => Ok(Part::Percent),
+        Piece::Place(directive) => Ok(Part::Place(directive)),
+        Piece::Malformed => Ok(Part::Malformed),
+    }
+}
+
+/// The piece that a part is.
+fn piece_of(part: &Part) -> Piece<'_>
+    ensures { shown_pieces result ≡ part_pieces part.now }
+{
+    match part {
+        Part::Plain(bytes) => Piece::Plain(bytes.as_slice()),
+        Part::Percent => Piece::Percent,
+        Part::Place(directive) => Piece::Place(*directive),
+        Part::Malformed => Piece::Malformed,
+    }
+}
+
+/// A format whose directives were read once, for many texts.
+#[derive(Drop)]
+pub struct Template {
+    parts: Vec<Part>,
+}
+
+/// The template of a format. It is refused for want of memory alone.
+pub fn read_template(alloc: Global, format: &[u8]) -> Result<Template, AllocError>
+    ensures { IfOk result (λ template. IsTemplateOf template format.now) }
+{
+    let mut parts = Vec::new(alloc);
+    let mut rest = format;
+    while !rest.is_empty() {
+        let front = next_piece(rest);
+        let part = part_of(alloc, front.piece)?;
+        parts.push(part)?;
+        rest = front.rest;
+    }
+    Ok(Template { parts })
+}
+
+/// Appends the text of a template to no bytes.
+fn push_template(
+    out: &mut Vec<u8>,
+    template: &Template,
+    arguments: Arguments<'_>,
+) -> Result<(), Stop>
+    requires { out.old.items ≡ [] }
+    ensures { Writes (flat_map part_pieces template.now.parts.items)
+        (shown_values arguments.entry) out.new.items result }
+{
+    let mut left = arguments;
+    for part in &template.parts {
+        let piece = piece_of(part);
+        push_piece(out, piece, left)?;
+        left = arguments_behind(piece, left);
+    }
+    check_length(out)
+}
+
+/// Makes a buffer the text of a template with lent values, as `format_into` does with the format that
+/// the template was read from.
+pub fn template_into(
+    out: &mut Vec<u8>,
+    template: &Template,
+    values: &[ValueRef<'_>],
+) -> Result<(), Stop>
+    ensures { (format : List ℕ) → IsTemplateOf template.now format
+        → Writes (pieces_of format) (map lent_value values.now) out.new.items result }
+{
+    out.clear();
+    push_template(out, template, Arguments::Lent(values))
+}

@@ -1,9 +1,0 @@
-use Rattle.std.proofs.Common.{◌++◌, map}
-use Rattle.pawk_value.specs.Format.{Plain}
-use Rattle.pawk_value.specs.FormatViews.{cap_pieces_of}
-use Rattle.pawk_value.proofs.PieceLemmas as lemmas
-use Rattle.pawk_value.proofs.pieces.next_piece.Goals as goal
-
-pub returns-clause-pieces : goal.returns-clause-pieces
-returns-clause-pieces c =
-    rw (c.split_at.ensures.front, c.split_at.ensures.back, c.count_plain.ensures.value) (lemmas.front_plain c.args.format.now)
