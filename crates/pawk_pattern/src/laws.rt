@@ -2,8 +2,9 @@
 
 ghost use Rattle.pawk_pattern.specs.Bounds.{bound_at};
 ghost use Rattle.pawk_pattern.specs.Brackets.{bracket_at};
+ghost use Rattle.pawk_pattern.specs.Escapes.{escape_at};
 ghost use Rattle.pawk_pattern.specs.Items.{IsBracket};
-ghost use Rattle.pawk_pattern.specs.Numerals.{IsBound};
+ghost use Rattle.pawk_pattern.specs.Numerals.{IsBound, IsEscape};
 ghost use Rattle.pawk_pattern.specs.Pattern.{Holds, Pattern};
 ghost use Rattle.pawk_pattern.specs.Sets.{InSome, all_bytes, complement, none, only, with_ranges};
 ghost use Rattle.pawk_pattern.specs.Tokens.{SpellsEre};
@@ -34,4 +35,9 @@ pub fn brackets_are_items()
 pub fn bounds_are_numerals()
     ensures { (bytes rest : List ℕ) (least : ℕ) (most : Option ℕ)
         → (bound_at bytes ≡ Some (Times least most, rest)) ↔ IsBound bytes least most rest }
+{}
+
+/// What is read behind a backslash is a letter of the table, octal digits that write the byte, or punctuation.
+pub fn escapes_are_bytes()
+    ensures { (bytes rest : List ℕ) (byte : ℕ) → escape_at bytes ≡ Some (byte, rest) → IsEscape bytes byte rest }
 {}
