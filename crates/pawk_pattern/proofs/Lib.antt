@@ -7,3 +7,4 @@ pub mod Progress
 pub mod Shapes
 pub mod BracketItems
 pub mod BoundNumerals
+pub mod EscapeNumerals

@@ -8,11 +8,17 @@ is_octal c = nat_le 48 c && nat_lt c 56
 abbrev pub is_punctuation : ℕ → Bool
 is_punctuation c = (nat_le 33 c && nat_lt c 48) || (nat_le 58 c && nat_lt c 65) || (nat_le 91 c && nat_lt c 97) || (nat_le 123 c && nat_lt c 127)
 
--- the byte that a letter behind a backslash stands for: a b f n r t v
+-- the letters behind a backslash, each with the byte that it stands for: a b f n r t v
+abbrev pub letters : List (ℕ × ℕ)
+letters = (97, 7) ∷ (98, 8) ∷ (102, 12) ∷ (110, 10) ∷ (114, 13) ∷ (116, 9) ∷ (118, 11) ∷ []
+
+abbrev pub byte_of_letter : List (ℕ × ℕ) → ℕ → Option ℕ
+byte_of_letter [] c = None
+byte_of_letter (r ∷ rs) c = if c == r.0 then Some r.1 else byte_of_letter rs c
+
+-- the byte that a letter behind a backslash stands for
 abbrev pub letter : ℕ → Option ℕ
-letter c =
-    if c == 97 then Some 7 else if c == 98 then Some 8 else if c == 102 then Some 12 else if c == 110 then Some 10
-    else if c == 114 then Some 13 else if c == 116 then Some 9 else if c == 118 then Some 11 else None
+letter c = byte_of_letter letters c
 
 -- one more octal digit, if there is one and the value stays a byte
 unfoldable pub octal_more : ℕ → List ℕ → ℕ × List ℕ

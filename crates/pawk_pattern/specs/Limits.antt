@@ -5,6 +5,6 @@ use Rattle.std.specs.Prelude.{ℕ}
 abbrev pub greatest_bound : ℕ
 greatest_bound = 255
 
--- the greatest size of an expression, with its bounds tokens_of out
+-- the greatest size of an expression, with its bounds written out
 abbrev pub greatest_size : ℕ
 greatest_size = 4096

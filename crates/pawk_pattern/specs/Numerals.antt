@@ -1,6 +1,7 @@
--- Which bounds there are.
-use Rattle.std.specs.Prelude.{◌≡◌, ℕ, ◌≤◌, ◌⊎◌, Option, Some, None, List, ◌∷◌, ◌++◌}
+-- Which bounds and escapes there are.
+use Rattle.std.specs.Prelude.{◌≡◌, ℕ, ◌<◌, ◌≤◌, ◌⊎◌, true, Option, Some, None, List, [], ◌∷◌, ◌++◌, length}
 use Rattle.std.specs.Str.Parse.{IsNumeral, digits_value}
+use Rattle.pawk_pattern.specs.Escapes.{is_punctuation, letters}
 use Rattle.pawk_pattern.specs.Limits.{greatest_bound}
 
 -- digits write a number that a bound may have
@@ -23,3 +24,15 @@ IsBetween bytes least most rest = (ds es : List ℕ) × (bytes ≡ ds ++ 44 ∷ 
 -- what stands behind `{` is a bound of so many turns, and the rest follows
 abbrev pub IsBound : List ℕ → ℕ → Option ℕ → List ℕ → Type 0
 IsBound bytes least most rest = IsExact bytes least most rest ⊎ IsFrom bytes least most rest ⊎ IsBetween bytes least most rest
+
+-- the letter and the byte stand side by side in the table
+abbrev pub IsRow : List (ℕ × ℕ) → ℕ → ℕ → Type 0
+IsRow [] c byte = ⊥
+IsRow (r ∷ rs) c byte = ((c ≡ r.0) × (byte ≡ r.1)) ⊎ IsRow rs c byte
+
+-- what stands behind a backslash is a letter of the table, one to three octal digits that write the byte, or punctuation, which is itself; and the rest follows
+abbrev pub IsEscape : List ℕ → ℕ → List ℕ → Type 0
+IsEscape bytes byte rest =
+    ((c : ℕ) × (bytes ≡ c ∷ rest) × IsRow letters c byte)
+    ⊎ ((ds : List ℕ) × (bytes ≡ ds ++ rest) × IsNumeral 8 ds × (length ds ≤ 3) × (digits_value 8 ds ≡ byte) × (byte < 256))
+    ⊎ ((bytes ≡ byte ∷ rest) × (is_punctuation byte ≡ true))

@@ -1,6 +1,11 @@
 -- Sets of bytes: a list of 256 answers, one for each byte.
-use Rattle.std.specs.Prelude.{ℕ, ◌≤◌, ◌⊎◌, ◌||◌, ◌&&◌, Bool, true, false, not, List, [], ◌∷◌, nat_le, map, get_or, slice_set, replicate}
+use Rattle.std.specs.Prelude.{◌≡◌, ℕ, ◌≤◌, ◌⊎◌, ◌||◌, ◌&&◌, Bool, true, false, not, List, [], ◌∷◌, nat_le, map, get_or, slice_set, replicate}
 use Rattle.std.specs.List.{range_with_len}
+use Rattle.pawk_pattern.specs.Pattern.{Holds}
+
+-- the byte is in the set, and no other is
+abbrev pub IsOnlyMember : List Bool → ℕ → Type 0
+IsOnlyMember members byte = Holds members byte × ((b : ℕ) → Holds members b → b ≡ byte)
 
 -- the set of no byte
 unfoldable pub none : List Bool

@@ -42,6 +42,10 @@ pub record SpellsEre (bytes : List ℕ) (e : Pattern) : Type 0 where
   pub form : (e ≡ Empty) ⊎ Derives Alt e
   pub small : size e ≤ greatest_size
 
+-- the text spells no expression
+abbrev pub SpellsNone : List ℕ → Type 0
+SpellsNone bytes = (e : Pattern) → SpellsEre bytes e → ⊥
+
 -- the text has the form of an expression, whatever its size
 abbrev pub HasForm : List ℕ → Type 0
 HasForm bytes = (e : Pattern) × Lexes bytes (tokens_of e) × Derives Alt e

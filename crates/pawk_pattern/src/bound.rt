@@ -2,8 +2,9 @@
 
 ghost use Rattle.pawk_pattern.specs.Bounds.{after_comma, between, bound_at, from_least, most_of, number_at, number_more};
 ghost use Rattle.pawk_pattern.specs.Grammar.{IsSound};
+ghost use Rattle.pawk_pattern.specs.Limits.{greatest_bound};
 ghost use Rattle.pawk_pattern.specs.Refusals.{Gives};
-ghost use Rattle.std.specs.Prelude.{◌≡◌, ◌<◌, ◌≤◌, length, IfOk};
+ghost use Rattle.std.specs.Prelude.{◌≡◌, ◌+◌, ◌<◌, ◌≤◌, length, IfOk};
 
 use crate::limits::GREATEST_BOUND;
 use crate::refusal::EreRefusal;
@@ -14,9 +15,9 @@ const ABOVE: u16 = GREATEST_BOUND as u16 + 1;
 
 /// The rest of a number, and what follows it.
 fn more_digits(value: u16, text: &[u8]) -> (u16, &[u8])
-    requires { value ≤ 256 }
+    requires { value ≤ greatest_bound + 1 }
     ensures value { number_more value text.now ≡ (result.0, result.1.now) }
-    ensures small { result.0 ≤ 256 }
+    ensures small { result.0 ≤ greatest_bound + 1 }
     ensures shorter { length result.1.now ≤ length text.now }
 {
     let mut sum = value;
@@ -35,7 +36,7 @@ fn more_digits(value: u16, text: &[u8]) -> (u16, &[u8])
 #[tactic(auto, unfolding(crate::specs::Bounds::number_at))]
 fn number(text: &[u8]) -> Result<(u16, &[u8]), EreRefusal>
     ensures value { Gives (λ x. (x.0, x.1.now)) result (number_at text.now) }
-    ensures small { IfOk result (λ x. x.0 ≤ 256) }
+    ensures small { IfOk result (λ x. x.0 ≤ greatest_bound + 1) }
     ensures shorter { IfOk result (λ x. length x.1.now < length text.now) }
 {
     match text {

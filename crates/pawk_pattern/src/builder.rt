@@ -1,6 +1,7 @@
 // Building the tree of an expression, token by token.
 
 ghost use Rattle.pawk_pattern.specs.Builder.{alternation_of, builder_of, option_of};
+ghost use Rattle.pawk_pattern.specs.Limits.{greatest_size};
 ghost use Rattle.pawk_pattern.specs.Machine.{after_bar, after_close, after_times, branch_with, finish, gain, nothing, put, repeated_piece, start, step, weight, whole, with_piece};
 ghost use Rattle.pawk_pattern.specs.Refusals.{Gives};
 ghost use Rattle.pawk_pattern.specs.Tree.{pattern_of};
@@ -53,7 +54,8 @@ impl Alternation {
 
     /// The same with one more piece.
     fn put(self, alloc: Global, piece: Expression) -> Result<Alternation, AllocError>
-        ensures { IfOk result (λ new. alternation_of new ≡ put (alternation_of self) (pattern_of piece)) }
+        ensures { let old = alternation_of self in
+            IfOk result (λ a. alternation_of a ≡ put old (pattern_of piece)) }
     {
         let Alternation {
             alternatives,
@@ -128,7 +130,8 @@ impl Builder {
     }
 
     fn put(self, alloc: Global, piece: Expression) -> Result<Builder, AllocError>
-        ensures { IfOk result (λ new. builder_of new ≡ with_piece (builder_of self) (pattern_of piece)) }
+        ensures { let old = builder_of self in
+            IfOk result (λ b. builder_of b ≡ with_piece old (pattern_of piece)) }
     {
         let Builder { here, outer } = self;
         Ok(Builder {
@@ -159,7 +162,8 @@ impl Builder {
     }
 
     fn after_bar(self, alloc: Global) -> Result<Builder, EreRefusal>
-        ensures { Gives builder_of result (after_bar (builder_of self) (whole (builder_of self).here)) }
+        ensures { let old = builder_of self in
+            Gives builder_of result (after_bar old (whole old.here)) }
     {
         let Builder { here, outer } = self;
         match here.whole(alloc)? {
@@ -242,9 +246,9 @@ impl Builder {
 
     /// By how much a token makes what was read larger, where that is at most the greatest size.
     fn gain(&self, token: &Token) -> Option<u32>
-        requires { weight (builder_of self.now) ≤ 4096 }
+        requires { weight (builder_of self.now) ≤ greatest_size }
         ensures { let gained = gain token.now (builder_of self.now) in
-            MatchOption result (4096 < weight (builder_of self.now) + gained) (λ n. n ≡ gained) }
+            MatchOption result (greatest_size < weight (builder_of self.now) + gained) (λ n. n ≡ gained) }
     {
         match token {
             Token::Leaf(_) | Token::Caret | Token::Dollar | Token::Bar | Token::Open => Some(1),
@@ -262,9 +266,9 @@ impl Builder {
     /// The size of what was read once the token is, where that is at most the greatest size.
     pub fn size_after(&self, size: u32, token: &Token) -> Option<u32>
         requires sized { size ≡ weight (builder_of self.now) }
-        requires small { size ≤ 4096 }
+        requires small { size ≤ greatest_size }
         ensures { let larger = weight (builder_of self.now) + gain token.now (builder_of self.now) in
-            MatchOption result (4096 < larger) (λ n. (n ≡ larger) × (n ≤ 4096)) }
+            MatchOption result (greatest_size < larger) (λ n. (n ≡ larger) × (n ≤ greatest_size)) }
     {
         let size = size.checked_add(self.gain(token)?)?;
         if size > GREATEST_SIZE {

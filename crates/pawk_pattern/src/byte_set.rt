@@ -1,6 +1,6 @@
 // Sets of bytes.
 
-ghost use Rattle.pawk_pattern.specs.Sets.{all_bytes, complement, none, only, with_range, with_ranges};
+ghost use Rattle.pawk_pattern.specs.Sets.{IsOnlyMember, all_bytes, complement, none, only, with_range, with_ranges};
 ghost use Rattle.std.specs.Prelude.{◌≡◌};
 
 /// A set of bytes: an answer for each byte.
@@ -22,7 +22,7 @@ impl ByteSet {
 
     /// The one byte of a set, if there is one and no other.
     pub fn only_member(&self) -> Option<u8>
-        ensures { IfSome result (λ byte. Holds self.now.members byte × ((b : ℕ) → Holds self.now.members b → b ≡ byte)) }
+        ensures { IfSome result (λ byte. IsOnlyMember self.now.members byte) }
     {
         let mut found = None;
         for byte in 0..256 {

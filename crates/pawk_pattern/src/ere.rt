@@ -1,8 +1,7 @@
 // Extended regular expressions that were read.
 
-ghost use Rattle.pawk_pattern.specs.Pattern.{Pattern};
 ghost use Rattle.pawk_pattern.specs.Refusals.{IfTooLarge, Tells};
-ghost use Rattle.pawk_pattern.specs.Tokens.{HasForm, IsTooLarge, SpellsEre};
+ghost use Rattle.pawk_pattern.specs.Tokens.{HasForm, IsTooLarge, SpellsEre, SpellsNone};
 ghost use Rattle.pawk_pattern.specs.Tree.{pattern_of};
 ghost use Rattle.std.specs.Prelude.{◌≡◌, length, IfErr, IfOk};
 
@@ -18,7 +17,7 @@ fn build(alloc: Global, text: &[u8]) -> Result<Expression, EreRefusal>
     requires nonempty { length text.now ≡ 0 → ⊥ }
     requires form { HasForm text.now }
     ensures found { IfOk result (λ e. SpellsEre text.now (pattern_of e)) }
-    ensures refused { IfErr result (λ why. Tells why ((e : Pattern) → SpellsEre text.now e → ⊥)) }
+    ensures refused { IfErr result (λ why. Tells why (SpellsNone text.now)) }
     ensures too_large { IfErr result (λ why. IfTooLarge why (IsTooLarge text.now)) }
 {
     let mut builder = Builder::new(alloc);
@@ -52,7 +51,7 @@ impl Ere {
     /// that has the form of an expression, whose size is above the greatest. 7: want of memory.
     pub fn parse(alloc: Global, text: &[u8]) -> Result<Ere, EreRefusal>
         ensures found { IfOk result (λ e. SpellsEre text.now (expression e)) }
-        ensures refused { IfErr result (λ why. Tells why ((e : Pattern) → SpellsEre text.now e → ⊥)) }
+        ensures refused { IfErr result (λ why. Tells why (SpellsNone text.now)) }
         ensures too_large { IfErr result (λ why. IfTooLarge why (IsTooLarge text.now)) }
     {
         if text.is_empty() {

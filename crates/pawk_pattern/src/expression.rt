@@ -1,6 +1,7 @@
 // Expressions as they are written.
 
 ghost use Rattle.pawk_pattern.specs.Grammar.{repeated_size, size};
+ghost use Rattle.pawk_pattern.specs.Limits.{greatest_size};
 ghost use Rattle.pawk_pattern.specs.Tree.{pattern_of};
 ghost use Rattle.std.specs.Prelude.{◌≡◌, ◌<◌, ◌≤◌, MatchOption};
 
@@ -22,7 +23,7 @@ pub enum Expression {
 
 /// The size of a repetition of an expression of that size.
 pub fn repeated_size_of(size: u32, least: u8, most: Option<u8>) -> u32
-    requires { size ≤ 4096 }
+    requires { size ≤ greatest_size }
     ensures { result ≡ repeated_size size least most }
 {
     match most {
@@ -31,10 +32,10 @@ pub fn repeated_size_of(size: u32, least: u8, most: Option<u8>) -> u32
     }
 }
 
-/// The size, with the bounds tokens_of out, where it is at most 4,096.
+/// The size, with the bounds written out, where it is at most the greatest.
 pub fn size_of(e: &Expression) -> Option<u32>
     ensures { let whole = size (pattern_of e.now) in
-        MatchOption result (4096 < whole) (λ n. (n ≡ whole) × (n ≤ 4096)) }
+        MatchOption result (greatest_size < whole) (λ n. (n ≡ whole) × (n ≤ greatest_size)) }
 {
     let size = match e {
         Expression::Empty => 0,

@@ -2,20 +2,30 @@
 
 ghost use Rattle.pawk_pattern.specs.Bounds.{bound_at};
 ghost use Rattle.pawk_pattern.specs.Brackets.{bracket_at};
+ghost use Rattle.pawk_pattern.specs.Escapes.{escape_at};
 ghost use Rattle.pawk_pattern.specs.Items.{IsBracket};
-ghost use Rattle.pawk_pattern.specs.Numerals.{IsBound};
+ghost use Rattle.pawk_pattern.specs.Limits.{greatest_bound, greatest_size};
+ghost use Rattle.pawk_pattern.specs.Numerals.{IsBound, IsEscape};
 ghost use Rattle.pawk_pattern.specs.Pattern.{Holds, Pattern};
 ghost use Rattle.pawk_pattern.specs.Sets.{InSome, all_bytes, complement, none, only, with_ranges};
 ghost use Rattle.pawk_pattern.specs.Tokens.{SpellsEre};
 ghost use Rattle.pawk_pattern.specs.declared.token.Token.TheVariants.{Times};
 ghost use Rattle.std.specs.Prelude.{◌≡◌, ◌↔◌, ◌⊎◌, ◌<◌, ℕ, Bool, List, Option, Some};
 
+use crate::limits::{GREATEST_BOUND, GREATEST_SIZE};
+
+/// The limits of the program are those of the definitions.
+pub fn limits_are_defined()
+    ensures bound { GREATEST_BOUND ≡ greatest_bound }
+    ensures size { GREATEST_SIZE ≡ greatest_size }
+{}
+
 /// A text spells at most one expression.
 pub fn a_text_spells_one()
     ensures { (bytes : List ℕ) (e f : Pattern) → SpellsEre bytes e → SpellsEre bytes f → e ≡ f }
 {}
 
-/// What the sets hold: all bytes, none, one, those of ranges beside those of a set, those that are not in a set.
+/// What sets hold: all bytes, none, one, those of ranges beside those of a set, those that a set lacks.
 pub fn sets_hold()
     ensures all { (b : ℕ) → b < 256 → Holds all_bytes b }
     ensures none { (b : ℕ) → b < 256 → Holds none b → ⊥ }
@@ -25,13 +35,18 @@ pub fn sets_hold()
     ensures outside { (m : List Bool) (b : ℕ) → b < 256 → Holds (complement m) b ↔ (Holds m b → ⊥) }
 {}
 
-/// What is read behind a `[` is a bracket expression, item by item, and each bracket expression is read so.
+/// What is read behind a `[` is a bracket expression, item by item, and each is read so.
 pub fn brackets_are_items()
-    ensures { (bytes rest : List ℕ) (m : List Bool) → (bracket_at bytes ≡ Some (m, rest)) ↔ IsBracket bytes m rest }
+    ensures { (s rest : List ℕ) (m : List Bool) → (bracket_at s ≡ Some (m, rest)) ↔ IsBracket s m rest }
 {}
 
-/// What is read behind a `{` is a bound whose numbers its digits write in decimal, and each such bound is read so.
+/// What is read behind a `{` is a bound whose numbers its digits write in decimal, and each is read so.
 pub fn bounds_are_numerals()
     ensures { (bytes rest : List ℕ) (least : ℕ) (most : Option ℕ)
         → (bound_at bytes ≡ Some (Times least most, rest)) ↔ IsBound bytes least most rest }
+{}
+
+/// What is read behind a backslash is a letter of the table, octal digits of the byte, or punctuation.
+pub fn escapes_are_bytes()
+    ensures { (s rest : List ℕ) (b : ℕ) → escape_at s ≡ Some (b, rest) → IsEscape s b rest }
 {}

@@ -3,5 +3,5 @@
 /// The greatest bound of a repetition.
 pub const GREATEST_BOUND: u8 = 255;
 
-/// The greatest size of an expression, with its bounds tokens_of out.
+/// The greatest size of an expression, with its bounds written out.
 pub const GREATEST_SIZE: u32 = 4096;

@@ -11,9 +11,10 @@ use std::fmt;
 /// Why an expression is refused.
 #[derive(Clone, Copy, Debug, PartialEq, Eq, Drop)]
 pub enum EreRefusal {
-    /// 1: a form that is not defined: a repetition where none may stand, an empty group or alternative, a `{` that begins no bound.
+    /// 1: a form that is not defined: a repetition where none may stand, an empty group or alternative, a `{` that
+    /// begins no bound.
     Form,
-    /// 2: a bound past 255, or a least above the most.
+    /// 2: a bound `{m}`, `{m,}` or `{m,n}` past the greatest bound, or with m above n.
     Bound,
     /// 3: a bracket expression that is not one.
     Bracket,
@@ -21,7 +22,7 @@ pub enum EreRefusal {
     Escape,
     /// 5: a `(` or a `)` without its partner.
     Group,
-    /// 6: the size, with the bounds tokens_of out, is above 4,096.
+    /// 6: the size, with the bounds written out, is above the greatest size.
     TooLarge,
     /// 7: a gain was refused for want of memory.
     Memory,

@@ -1,11 +1,10 @@
 // A first look at a text: which form is not defined, and where. It keeps two words whatever the text.
 
-ghost use Rattle.pawk_pattern.specs.Pattern.{Pattern};
 ghost use Rattle.pawk_pattern.specs.Refusals.{Gives, TellsOfForm};
 ghost use Rattle.pawk_pattern.specs.Grammar.{IsSound};
 ghost use Rattle.pawk_pattern.specs.Shape.{shape_after};
 ghost use Rattle.pawk_pattern.specs.declared.token.Token.TheVariants.{Close};
-ghost use Rattle.pawk_pattern.specs.Tokens.{HasForm, SpellsEre, token_at};
+ghost use Rattle.pawk_pattern.specs.Tokens.{HasForm, SpellsNone, token_at};
 ghost use Rattle.std.specs.Prelude.{◌≡◌, ◌+◌, ◌<◌, ◌≤◌, ◌^◌, length, IfErr, IfOk};
 
 use crate::lex::token;
@@ -101,7 +100,7 @@ fn next(shape: Shape, text: &[u8]) -> Result<(Token, &[u8]), EreRefusal>
 pub fn check(text: &[u8]) -> Result<(), EreRefusal>
     requires { length text.now ≡ 0 → ⊥ }
     ensures form { IfOk result (λ x. HasForm text.now) }
-    ensures refused { IfErr result (λ why. TellsOfForm why ((e : Pattern) → SpellsEre text.now e → ⊥)) }
+    ensures refused { IfErr result (λ why. TellsOfForm why (SpellsNone text.now)) }
 {
     let mut shape = Shape {
         open_groups: 0,
