@@ -1,10 +1,10 @@
 -- Numbered records.
 use Rattle.std.proofs.Common.{◌≡◌, ℕ, ◌+◌, ◌≤◌, List, [], ◌∷◌, ◌++◌, length, refl, ap, arith, ◌∙◌, add-zero, length-append, zero, suc, take, drop, length-drop, length-take}
-use Rattle.pawk_input.specs.Records.{records_by, separator_of}
+use Rattle.pawk_records.specs.Records.{records_by}
 use Rattle.pawk_input.specs.Input.{File, file_at, total_size, file_items, items_from}
 use Rattle.std.proofs.lemmas.List.{append-nil}
 use Rattle.pawk_input.specs.Walk.{items_ahead}
-use Rattle.pawk_input.proofs.RecordsLemmas.{length-records}
+use Rattle.pawk_records.proofs.BeginsLemmas.{length-records_by}
 
 pub length-file_items : (file : ℕ) (name : List ℕ) (nr fnr : ℕ) (rs : List (List ℕ)) → length (file_items file name nr fnr rs) ≡ length rs
 length-file_items file name nr fnr [] = refl
@@ -14,16 +14,21 @@ length-file_items file name nr fnr (r ∷ rs) = omega (arith, length-file_items 
 pub length-items_from : (rs : List ℕ) (file nr : ℕ) (fs : List File) → length (items_from rs file nr fs) ≤ total_size fs
 length-items_from rs file nr [] = omega arith
 length-items_from rs file nr (f ∷ fs) =
-    omega (arith, length-append (file_items file f.name nr 0 (records_by rs f.bytes)) (items_from rs (file + 1) (nr + length (records_by rs f.bytes)) fs), length-file_items file f.name nr 0 (records_by rs f.bytes), length-records (separator_of rs) f.bytes, length-items_from rs (file + 1) (nr + length (records_by rs f.bytes)) fs)
+    omega (arith, length-append (file_items file f.name nr 0 (records_by rs f.bytes)) (items_from rs (file + 1) (nr + length (records_by rs f.bytes)) fs), length-file_items file f.name nr 0 (records_by rs f.bytes), length-records_by rs f.bytes, length-items_from rs (file + 1) (nr + length (records_by rs f.bytes)) fs)
 
 -- as many items are ahead in a file alone as it has records left
 pub length-items_ahead_alone : (rs : List ℕ) (file : ℕ) (name : List ℕ) (nr fnr : ℕ) (rest : List ℕ) → length (items_ahead rs file name nr fnr rest []) ≡ length (records_by rs rest)
 length-items_ahead_alone rs file name nr fnr rest =
     ap length (append-nil (file_items file name nr fnr (records_by rs rest))) ∙ length-file_items file name nr fnr (records_by rs rest)
 
--- past the end of a file stand the records of the next
-pub next_file : (rs : List ℕ) (file : ℕ) (name : List ℕ) (nr fnr : ℕ) (f : File) (fs : List File) → items_ahead rs file name nr fnr [] (f ∷ fs) ≡ items_ahead rs (file + 1) f.name nr 0 f.bytes fs
-next_file rs file name nr fnr f fs = rw add-zero refl
+-- past the records of a file stand those of the next
+pub next_file : (rs : List ℕ) (file : ℕ) (name : List ℕ) (nr fnr : ℕ) (rest : List ℕ) (f : File) (fs : List File) → records_by rs rest ≡ []
+    → items_ahead rs file name nr fnr rest (f ∷ fs) ≡ items_ahead rs (file + 1) f.name nr 0 f.bytes fs
+next_file rs file name nr fnr rest f fs none = rw none (ap (λ n. items_from rs (file + 1) n (f ∷ fs)) (let z : nr + 0 ≡ nr = omega arith in z))
+
+-- and none past those of the last
+pub no_file : (rs : List ℕ) (file : ℕ) (name : List ℕ) (nr fnr : ℕ) (rest : List ℕ) → records_by rs rest ≡ [] → items_ahead rs file name nr fnr rest [] ≡ []
+no_file rs file name nr fnr rest none = rw none refl
 
 -- the first record ahead, and those after it
 pub next_record : (rs : List ℕ) (file : ℕ) (name : List ℕ) (nr fnr : ℕ) (rest r more : List ℕ) (later : List File) → records_by rs rest ≡ r ∷ records_by rs more

@@ -1,12 +1,8 @@
-pub mod RecordsLemmas
-pub mod RecordsLawLemmas
 pub mod FieldsLemmas
 pub mod FieldWalkLemmas
 pub mod FieldsLawLemmas
 pub mod ItemsLemmas
-pub mod CutLemmas
-pub mod SizeLemmas
 pub mod PlanLemmas
 pub mod CutPlanLemmas
 pub mod DraftLemmas
-pub mod BeginsLawLemmas
+pub mod SizeLemmas

@@ -1,16 +1,18 @@
 -- The chunks of a plan hold the records in order, with their numbers.
-use Rattle.std.proofs.Common.{◌≡◌, inl, inr, ℕ, zero, suc, ◌+◌, ◌-◌, ◌<◌, ◌≤◌, Bool, true, false, cond, eqb, leb, List, [], ◌∷◌, ◌++◌, length, take, drop, get_or, refl, ap, arith, sym, ◌∙◌, subst, All, append_assoc, length-append}
-use Rattle.std.proofs.lemmas.Bool.{eqb-true}
-use Rattle.std.proofs.lemmas.List.{append-nil, take_rest, drop-drop, get_or-drop, length-drop, length-take-le, drop_more}
+use Rattle.std.proofs.Common.{◌≡◌, ◌⊎◌, inl, inr, ℕ, zero, suc, ◌+◌, ◌-◌, ◌<◌, ◌≤◌, Bool, true, false, cond, eqb, leb, List, [], ◌∷◌, ◌++◌, length, take, drop, get_or, refl, ap, arith, sym, ◌∙◌, subst, All, append_assoc, length-append}
+use Rattle.std.proofs.lemmas.Bool.{false≢true}
+use Rattle.std.proofs.lemmas.Bool.Decides.{leb_tells}
+use Rattle.std.proofs.lemmas.List.{append-nil, take_rest, drop-drop, get_or-drop, length-drop, length-take-le, drop_more, nil_from_length}
 use Rattle.std.proofs.lemmas.List.Elements.{All-nil, All-cons, All-head, All-tail, All-append}
 use Rattle.std.proofs.lemmas.List.Concat.{flat_map-append}
 use Rattle.std.specs.List.{flat_map, slice_range, Contains}
-use Rattle.pawk_input.specs.Records.{records, records_by, begins_by, begins_from, separator_of}
+use Rattle.memchr.specs.Find.{Nowhere}
+use Rattle.pawk_records.specs.Records.{records_by}
+use Rattle.pawk_records.specs.Begins.{BeginsAt, begins_at, begins_by, places_where}
+use Rattle.pawk_records.proofs.BeginsLemmas.{begins_law_lem, begins_in_rest, length-begins_by, length-records_part, none_before, records_at, some_records_at}
 use Rattle.pawk_input.specs.Input.{File, Item, file_at, empty_file, file_items, items_from, total_size}
 use Rattle.pawk_input.specs.Plan.{IsPlanOf, IsChunkOf, Rises, chunk_bytes, chunk_items, chunks_at, chunks_of, places_by_size, places_by_size_from}
 use Rattle.pawk_input.specs.declared.cutting.Chunk.{Chunk}
-use Rattle.pawk_input.proofs.RecordsLemmas.{some_records}
-use Rattle.pawk_input.proofs.CutLemmas.{IsCut, records_parts, length-records-part, contains_cut}
 use Rattle.pawk_input.proofs.ItemsLemmas.{length-file_items, length-items_from}
 
 file_items-append : (file : ℕ) (name : List ℕ) (nr fnr : ℕ) (xs ys : List (List ℕ)) → file_items file name nr fnr (xs ++ ys) ≡ file_items file name nr fnr xs ++ file_items file name (nr + length xs) (fnr + length xs) ys
@@ -38,25 +40,21 @@ module _ (rs : List ℕ) (files : List File) (k nr : ℕ) (name bytes : List ℕ
   items_of_chunk : (p q : ℕ) → chunk_items rs files (chunk_of p q) ≡ file_items k name (nr + before p) (before p) (records_by rs (take (q - p) (drop p bytes)))
   items_of_chunk p q = ap (λ (f : File). file_items k f.name (nr + before p) (before p) (records_by rs (slice_range f.bytes p q))) is_file
 
-  abbrev e : ℕ
-  e = separator_of rs
-
-  items_of_chunks : (p : ℕ) (qs : List ℕ) → IsCut e bytes p → p < length bytes → Rises e bytes p qs
+  items_of_chunks : (p : ℕ) (qs : List ℕ) → BeginsAt rs bytes p → p < length bytes → Rises rs bytes p qs
       → flat_map (chunk_items rs files) (chunks_at rs k bytes nr (p ∷ qs)) ≡ file_items k name (nr + before p) (before p) (records_by rs (drop p bytes))
-  items_of_chunks p [] cut lt rising =
+  items_of_chunks p [] begins lt rising =
       append-nil _ ∙ items_of_chunk p (length bytes) ∙ ap (λ l. file_items k name (nr + before p) (before p) (records_by rs l)) (take_rest bytes p)
-  items_of_chunks p (q ∷ qs) cut lt rising =
+  items_of_chunks p (q ∷ qs) begins lt rising =
       let part = take (q - p) (drop p bytes) in
       let rest = drop p bytes in
       let there : p + (q - p) ≡ q = omega (arith, rising.0) in
-      let read : get_or rest (q - p - 1) 0 ≡ e = get_or-drop p bytes (q - p - 1) 0 ∙ ap (λ i. get_or bytes i 0) (let i : p + (q - p - 1) ≡ q - 1 = omega (arith, rising.0) in i) ∙ rising.2 in
       let parted : records_by rs rest ≡ records_by rs part ++ records_by rs (drop q bytes) =
-      records_parts e rest (q - p) (inr (omega (arith, rising.0), omega (arith, length-drop p bytes, rising.1), read))
+      records_at rs rest (q - p) (begins_in_rest rs bytes p q rising.2 (omega (arith, rising.0))) (omega (arith, length-drop p bytes, rising.1))
       ∙ ap (λ l. records_by rs part ++ records_by rs l) (drop-drop (q - p) p bytes ∙ ap (λ i. drop i bytes) there) in
       let count : before q ≡ before p + length (records_by rs part) =
-      ap before (sym there) ∙ length-records-part e bytes p (q - p) cut (omega (arith, rising.0, rising.1)) in
+      ap before (sym there) ∙ length-records_part rs bytes p (q - p) begins (omega (arith, rising.0)) (omega (arith, rising.0, rising.1)) in
       let nrs : nr + before q ≡ nr + before p + length (records_by rs part) = omega arith in
-      let later = items_of_chunks q qs (inr (omega (arith, rising.0), omega (arith, rising.1), rising.2)) rising.1 rising.3 in
+      let later = items_of_chunks q qs rising.2 rising.1 rising.3 in
       ap (λ l. l ++ flat_map (chunk_items rs files) (chunks_at rs k bytes nr (q ∷ qs))) (items_of_chunk p q)
       ∙ ap (λ l. file_items k name (nr + before p) (before p) (records_by rs part) ++ l) (later
       ∙ ap (λ n. file_items k name n (before q) (records_by rs (drop q bytes))) nrs
@@ -65,55 +63,55 @@ module _ (rs : List ℕ) (files : List File) (k nr : ℕ) (name bytes : List ℕ
       ∙ ap (file_items k name (nr + before p) (before p)) (sym parted)
 
   module _ (exists : k < length files) where
-    is_chunk : (p q : ℕ) → IsCut e bytes p → p < q → q ≤ length bytes → IsChunkOf rs files (chunk_of p q)
-    is_chunk p q cut lt le =
+    is_chunk : (p q : ℕ) → BeginsAt rs bytes p → p < q → q ≤ length bytes → IsChunkOf rs files (chunk_of p q)
+    is_chunk p q begins lt le =
         let part = take (q - p) (drop p bytes) in
-        let long : length part ≡ q - p = length-take-le (q - p) (drop p bytes) (omega (arith, length-drop p bytes)) in
-        let some = some_records e part (omega (arith, long)) in
+        let some = some_records_at rs bytes p q begins lt le in
         let count = ap length (items_of_chunk p q) ∙ length-file_items k name (nr + before p) (before p) (records_by rs part) in
         record {
           exists = exists;
           rises = lt;
           within = subst (λ (f : File). q ≤ length f.bytes) (sym is_file) le;
-          begins = subst (λ (f : File). Contains (begins_by rs f.bytes) p) (sym is_file) (contains_cut e bytes p cut (omega arith));
+          begins = subst (λ (f : File). Contains (begins_by rs f.bytes) p) (sym is_file) (((begins_law_lem rs bytes).just p).1 (omega arith, begins));
           some = omega (arith, count, some);
         }
 
-    each_chunk : (p : ℕ) (qs : List ℕ) → IsCut e bytes p → p < length bytes → Rises e bytes p qs → All (λ c. IsChunkOf rs files c) (chunks_at rs k bytes nr (p ∷ qs))
-    each_chunk p [] cut lt rising =
-        All-cons (λ c. IsChunkOf rs files c) (chunk_of p (length bytes)) [] (is_chunk p (length bytes) cut lt (omega arith)) (All-nil (λ c. IsChunkOf rs files c))
-    each_chunk p (q ∷ qs) cut lt rising =
+    each_chunk : (p : ℕ) (qs : List ℕ) → BeginsAt rs bytes p → p < length bytes → Rises rs bytes p qs → All (λ c. IsChunkOf rs files c) (chunks_at rs k bytes nr (p ∷ qs))
+    each_chunk p [] begins lt rising =
+        All-cons (λ c. IsChunkOf rs files c) (chunk_of p (length bytes)) [] (is_chunk p (length bytes) begins lt (omega arith)) (All-nil (λ c. IsChunkOf rs files c))
+    each_chunk p (q ∷ qs) begins lt rising =
         All-cons (λ c. IsChunkOf rs files c) (chunk_of p q) (chunks_at rs k bytes nr (q ∷ qs))
-        (is_chunk p q cut rising.0 (omega (arith, rising.1)))
-        (each_chunk q qs (inr (omega (arith, rising.0), omega (arith, rising.1), rising.2)) rising.1 rising.3)
+        (is_chunk p q begins rising.0 (omega (arith, rising.1)))
+        (each_chunk q qs rising.2 rising.1 rising.3)
 
 -- the places at which a file's chunks begin: with its first record, and at records after it
-abbrev pub Picked : ℕ → List ℕ → List ℕ → Type 0
-Picked e [] ps = ps ≡ []
-Picked e (b ∷ s) [] = ⊥
-Picked e (b ∷ s) (p ∷ ps) = (p ≡ 0) × Rises e (b ∷ s) 0 ps
+abbrev pub Picked : List ℕ → List ℕ → List ℕ → Type 0
+Picked rs bytes [] = begins_by rs bytes ≡ []
+Picked rs bytes (p ∷ ps) = (p < length bytes) × BeginsAt rs bytes p × Nowhere (BeginsAt rs bytes) 0 p × Rises rs bytes p ps
 
 module _ (rs : List ℕ) (files : List File) (k nr : ℕ) (name : List ℕ) where
-  items_of_file : (bytes ps : List ℕ) → file_at files k ≡ record { name = name; bytes = bytes } → Picked (separator_of rs) bytes ps
+  items_of_file : (bytes ps : List ℕ) → file_at files k ≡ record { name = name; bytes = bytes } → Picked rs bytes ps
       → flat_map (chunk_items rs files) (chunks_at rs k bytes nr ps) ≡ file_items k name nr 0 (records_by rs bytes)
-  items_of_file [] ps is_file h = rw h refl
-  items_of_file (b ∷ s) [] is_file h = absurd h
-  items_of_file (b ∷ s) (p ∷ ps) is_file h =
-      rw h.0 (items_of_chunks rs files k nr name (b ∷ s) is_file 0 ps (inl refl) (omega arith) h.1
-      ∙ ap (λ n. file_items k name n 0 (records_by rs (b ∷ s))) (let z : nr + 0 ≡ nr = omega arith in z))
+  items_of_file bytes [] is_file h =
+      ap (file_items k name nr 0) (sym (nil_from_length (records_by rs bytes) (sym (length-begins_by rs bytes) ∙ ap length h)))
+  items_of_file bytes (p ∷ ps) is_file h =
+      let none : records_by rs (take p bytes) ≡ [] = none_before rs bytes p (omega (arith, h.0)) (λ k lt. h.2 k (omega arith) lt) in
+      let whole : records_by rs bytes ≡ records_by rs (drop p bytes) = records_at rs bytes p h.1 (omega (arith, h.0)) ∙ ap (λ l. l ++ records_by rs (drop p bytes)) none in
+      let zero_before : length (records_by rs (take p bytes)) ≡ 0 = ap length none in
+      items_of_chunks rs files k nr name bytes is_file p ps h.1 h.0 h.3
+      ∙ ap (λ n. file_items k name (nr + n) n (records_by rs (drop p bytes))) zero_before
+      ∙ ap (λ n. file_items k name n 0 (records_by rs (drop p bytes))) (let z : nr + 0 ≡ nr = omega arith in z)
+      ∙ ap (file_items k name nr 0) (sym whole)
 
-  each_of_file : (bytes ps : List ℕ) → file_at files k ≡ record { name = name; bytes = bytes } → k < length files → Picked (separator_of rs) bytes ps
+  each_of_file : (bytes ps : List ℕ) → file_at files k ≡ record { name = name; bytes = bytes } → k < length files → Picked rs bytes ps
       → All (λ c. IsChunkOf rs files c) (chunks_at rs k bytes nr ps)
-  each_of_file [] ps is_file exists h = rw h (All-nil (λ c. IsChunkOf rs files c))
-  each_of_file (b ∷ s) [] is_file exists h = absurd h
-  each_of_file (b ∷ s) (p ∷ ps) is_file exists h =
-      let P : ℕ → Type 0 = λ q. All (λ c. IsChunkOf rs files c) (chunks_at rs k (b ∷ s) nr (q ∷ ps)) in
-      subst P (sym h.0) (each_chunk rs files k nr name (b ∷ s) is_file exists 0 ps (inl refl) (omega arith) h.1)
+  each_of_file bytes [] is_file exists h = All-nil (λ c. IsChunkOf rs files c)
+  each_of_file bytes (p ∷ ps) is_file exists h = each_chunk rs files k nr name bytes is_file exists p ps h.1 h.0 h.3
 
 -- ---- the chunks of all files
 
 module _ (rs : List ℕ) (files : List File) (chosen : ℕ → List ℕ → List ℕ)
-    (picked : (j : ℕ) → Picked (separator_of rs) (file_at files j).bytes (chosen j (begins_by rs (file_at files j).bytes))) where
+    (picked : (j : ℕ) → Picked rs (file_at files j).bytes (chosen j (begins_by rs (file_at files j).bytes))) where
   first_left : (k : ℕ) (f : File) (fs : List File) → drop k files ≡ f ∷ fs → file_at files k ≡ f
   first_left k f fs h =
       let z : k ≡ k + 0 = omega arith in
@@ -125,8 +123,8 @@ module _ (rs : List ℕ) (files : List File) (chosen : ℕ → List ℕ → List
   is_there : (k : ℕ) (f : File) (fs : List File) → drop k files ≡ f ∷ fs → k < length files
   is_there k f fs h = omega (arith, length-drop k files, ap length h)
 
-  picked_of : (k : ℕ) (f : File) → file_at files k ≡ f → Picked (separator_of rs) f.bytes (chosen k (begins_by rs f.bytes))
-  picked_of k f h = subst (λ (g : File). Picked (separator_of rs) g.bytes (chosen k (begins_by rs g.bytes))) h (picked k)
+  picked_of : (k : ℕ) (f : File) → file_at files k ≡ f → Picked rs f.bytes (chosen k (begins_by rs f.bytes))
+  picked_of k f h = subst (λ (g : File). Picked rs g.bytes (chosen k (begins_by rs g.bytes))) h (picked k)
 
   items_of_plan : (k nr : ℕ) (fs : List File) → drop k files ≡ fs → flat_map (chunk_items rs files) (chunks_of rs chosen k nr fs) ≡ items_from rs k nr fs
   items_of_plan k nr [] h = refl
@@ -151,39 +149,68 @@ module _ (rs : List ℕ) (files : List File) (chosen : ℕ → List ℕ → List
 
 -- ---- by size
 
-module _ (e : ℕ) (s : List ℕ) where
-  Rises-lower : (p q : ℕ) (xs : List ℕ) → p ≤ q → Rises e s q xs → Rises e s p xs
+module _ (rs s : List ℕ) where
+  Rises-lower : (p q : ℕ) (xs : List ℕ) → p ≤ q → Rises rs s q xs → Rises rs s p xs
   Rises-lower p q [] le h = tt
   Rises-lower p q (x ∷ xs) le h = (omega (arith, h.0), h.1, h.2, h.3)
 
-  Rises-places_by_size : (size from p : ℕ) (xs : List ℕ) → Rises e s p xs → Rises e s p (places_by_size_from size from xs)
+  Rises-places_by_size : (size from p : ℕ) (xs : List ℕ) → Rises rs s p xs → Rises rs s p (places_by_size_from size from xs)
   Rises-places_by_size size from p [] h = tt
   Rises-places_by_size size from p (x ∷ xs) h =
       let kept = Rises-places_by_size size x x xs h.3 in
       let later = Rises-lower p x (places_by_size_from size from xs) (omega (arith, h.0)) (Rises-places_by_size size from x xs h.3) in
-      elim (leb (from + size) x) as (λ v. Rises e s p (cond v (x ∷ places_by_size_from size x xs) (places_by_size_from size from xs))) [
+      elim (leb (from + size) x) as (λ v. Rises rs s p (cond v (x ∷ places_by_size_from size x xs) (places_by_size_from size from xs))) [
         | true ↦ (h.0, h.1, h.2, kept)
         | false ↦ later
       ]
 
-  pub Rises-begins : (t : List ℕ) (at p : ℕ) (fresh : Bool) → drop at s ≡ t → p < at → (fresh ≡ true → get_or s (at - 1) 0 ≡ e) → Rises e s p (begins_from e at fresh t)
-  Rises-begins [] at p fresh left lt h = tt
-  Rises-begins (b ∷ t) at p fresh left lt h =
-      let there : at < length s = omega (arith, length-drop at s, ap length left) in
-      let z : at ≡ at + 0 = omega arith in
-      let read : get_or s at 0 ≡ b = ap (λ i. get_or s i 0) z ∙ sym (get_or-drop at s 0 0) ∙ ap (λ l. get_or l 0 0) left in
-      let more : drop (at + 1) s ≡ t = sym (drop-drop 1 at s) ∙ ap (drop 1) left in
-      let same : at + 1 - 1 ≡ at = omega arith in
-      let ends : eqb b e ≡ true → get_or s (at + 1 - 1) 0 ≡ e = λ is. ap (λ i. get_or s i 0) same ∙ read ∙ eqb-true b e is in
-      elim fresh as (λ v. (v ≡ true → get_or s (at - 1) 0 ≡ e) → Rises e s p (cond v (at ∷ begins_from e (at + 1) (eqb b e) t) (begins_from e (at + 1) (eqb b e) t))) [
-        | true ↦ (λ f. (lt, there, f refl, Rises-begins t (at + 1) at (eqb b e) more (omega arith) ends))
-        | false ↦ (λ f. Rises-begins t (at + 1) p (eqb b e) more (omega arith) ends)
-      ] h
+  -- the places where records begin, from one on
+  pub Rises-begins : (at n p : ℕ) → at + n ≤ length s → p < at → Rises rs s p (places_where (begins_at rs s) at n)
+  Rises-begins at zero p le lt = tt
+  Rises-begins at (suc n) p le lt =
+      let l = places_where (begins_at rs s) (at + 1) n in
+      elim (begins_at rs s at) as (λ v. (begins_at rs s at ≡ v) → Rises rs s p (cond v (at ∷ l) l)) [
+        | true ↦ (λ e. (lt, omega arith, e, Rises-begins (at + 1) n at (omega arith) (omega arith)))
+        | false ↦ (λ e. Rises-lower p at l (omega arith) (Rises-begins (at + 1) n at (omega arith) (omega arith)))
+      ] refl
 
-pub picked_by_size : (e size : ℕ) (s : List ℕ) → Picked e s (places_by_size size (begins_from e 0 true s))
-picked_by_size e size [] = refl
-picked_by_size e size (b ∷ s) =
-    (refl, Rises-places_by_size e (b ∷ s) size 0 0 (begins_from e (0 + 1) (eqb b e) s) (Rises-begins e (b ∷ s) s (0 + 1) 0 (eqb b e) refl (omega arith) (λ is. eqb-true b e is)))
+-- the first place that passes a test, and those after it, or none
+abbrev pub FirstPlace : (ℕ → Bool) → ℕ → ℕ → Type 0
+FirstPlace test i n =
+    (places_where test i n ≡ [])
+    ⊎ ((p : ℕ) × (i ≤ p) × (p < i + n) × Nowhere (λ q. test q ≡ true) i p × (test p ≡ true) × (places_where test i n ≡ p ∷ places_where test (p + 1) (i + n - (p + 1))))
+
+pub first_place : (test : ℕ → Bool) (i n : ℕ) → FirstPlace test i n
+first_place test i zero = inl refl
+first_place test i (suc n) =
+    let l = places_where test (i + 1) n in
+    let size : i + suc n - (i + 1) ≡ n = omega arith in
+    elim (test i) as (λ v. (test i ≡ v) → FirstPlace test i (suc n)) [
+      | true ↦ (λ e. inr (i, omega arith, omega arith, (λ k low high. absurd (omega arith)), e, rw e (ap (λ m. i ∷ places_where test (i + 1) m) (sym size))))
+      | false ↦ (λ e. elim (first_place test (i + 1) n) [
+        | inl none ↦ inl (rw e none)
+        | inr h ↦ inr (
+          h.0,
+          omega (arith, h.1),
+          omega (arith, h.2),
+          past i h.0 e h.3,
+          h.4,
+          rw e (h.5 ∙ ap (λ m. h.0 ∷ places_where test (h.0 + 1) m) (let m : i + 1 + n - (h.0 + 1) ≡ i + suc n - (h.0 + 1) = omega arith in m)),
+        )
+      ])
+    ] refl
+  where
+    past : (i p : ℕ) → test i ≡ false → Nowhere (λ q. test q ≡ true) (i + 1) p → Nowhere (λ q. test q ≡ true) i p
+    past i p e none k low high is = elim (leb_tells (i + 1) k) [
+      | inl later ↦ none k later.1 high is
+      | inr here ↦ (let same : i ≡ k = omega (arith, here.1) in false≢true (sym e ∙ ap test same ∙ is))
+    ]
+
+pub picked_by_size : (rs : List ℕ) (size : ℕ) (s : List ℕ) → Picked rs s (places_by_size size (begins_by rs s))
+picked_by_size rs size s = elim (first_place (begins_at rs s) 0 (length s)) [
+  | inl none ↦ rw none none
+  | inr h ↦ rw h.5 (omega (arith, h.2), h.4, h.3, Rises-places_by_size rs s size h.0 h.0 (places_where (begins_at rs s) (h.0 + 1) (0 + length s - (h.0 + 1))) (Rises-begins rs s (h.0 + 1) (0 + length s - (h.0 + 1)) h.0 (omega (arith, h.2)) (omega arith)))
+]
 
 -- ---- a loop over the files
 

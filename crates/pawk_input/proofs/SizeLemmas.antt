@@ -1,10 +1,12 @@
 -- One step of the plan by size.
-use Rattle.std.proofs.Common.{◌≡◌, inl, inr, ℕ, zero, suc, ◌+◌, ◌-◌, ◌<◌, ◌≤◌, Bool, true, false, cond, eqb, leb, List, [], ◌∷◌, length, take, drop, get_or, eq-eqb, refl, ap, arith, ◌∙◌}
-use Rattle.std.proofs.lemmas.Bool.{eqb-true}
+use Rattle.std.proofs.Common.{◌≡◌, inl, inr, ℕ, zero, suc, ◌+◌, ◌-◌, ◌<◌, ◌≤◌, Bool, true, false, cond, leb, List, [], ◌∷◌, ◌++◌, length, take, drop, get_or, min, refl, ap, arith, sym, ◌∙◌}
 use Rattle.std.proofs.lemmas.Bool.Decides.{leb_tells}
-use Rattle.std.proofs.lemmas.List.{drop_more, drop-drop, length-drop}
-use Rattle.pawk_input.specs.Records.{begins_from, records_by, separator_of}
-use Rattle.pawk_input.specs.Plan.{IsPiece, chunks_at, places_by_size, places_by_size_from}
+use Rattle.std.proofs.lemmas.List.{take_all, length-take-le, length-drop}
+use Rattle.pawk_records.specs.Records.{records_by}
+use Rattle.pawk_records.specs.Begins.{BeginsAt, begins_at, begins_by, places_where}
+use Rattle.pawk_records.proofs.BeginsLemmas.{none_before, length-records_by, length-records_part}
+use Rattle.pawk_records.proofs.PlaceLemmas.{places_where-append, places_where-none}
+use Rattle.pawk_input.specs.Plan.{IsBeginOrEnd, chunks_at, places_by_size, places_by_size_from}
 
 within : (a b : ℕ) → a ≤ b → leb a b ≡ true
 within a b h = elim (leb_tells a b) [ inl y ↦ y.0 | inr n ↦ absurd (omega (arith, n.1)) ]
@@ -12,69 +14,136 @@ within a b h = elim (leb_tells a b) [ inl y ↦ y.0 | inr n ↦ absurd (omega (a
 beyond : (a b : ℕ) → b < a → leb a b ≡ false
 beyond a b h = elim (leb_tells a b) [ inl y ↦ absurd (omega (arith, y.1)) | inr n ↦ n.0 ]
 
-module _ (e size : ℕ) (s : List ℕ) (n at : ℕ) (piece : IsPiece e size s n) where
-  -- where the piece ends the next chunk begins, or nothing is left
-  at_end : (t : List ℕ) (fresh : Bool) → (0 < length t → (fresh ≡ true) × (size ≤ n)) → places_by_size_from size at (begins_from e (at + n) fresh t) ≡ places_by_size size (begins_from e (at + n) true t)
-  at_end [] fresh h = refl
-  at_end (x ∷ t) fresh h = let parts = h (omega arith) in rw (parts.0, within (at + size) (at + n) (omega (arith, parts.1))) refl
+not_true : (v : Bool) → (v ≡ true → ⊥) → v ≡ false
+not_true true h = absurd (h refl)
+not_true false h = refl
 
-  -- a place too near is passed over
-  passed : (q : ℕ) (l : List ℕ) (fresh : Bool) → (fresh ≡ true → q < at + size) → places_by_size_from size at (cond fresh (q ∷ l) l) ≡ places_by_size_from size at l
-  passed q l true h = rw (beyond (at + size) q (h refl)) refl
-  passed q l false h = refl
+module _ (rs s : List ℕ) where
+  abbrev test : ℕ → Bool
+  test = begins_at rs s
 
-  -- no chunk begins between
-  between : (k j : ℕ) → 0 < j → j + k ≡ n → places_by_size_from size at (begins_from e (at + j) (eqb (get_or s (j - 1) 0) e) (drop j s)) ≡ places_by_size size (begins_from e (at + n) true (drop n s))
-  between zero j some count =
-      let same : j ≡ n = omega arith in
-      rw same (at_end (drop n s) (eqb (get_or s (n - 1) 0) e) (λ left. elim piece.ends [
-        | inl all ↦ absurd (omega (arith, all, length-drop n s))
-        | inr next ↦ (eq-eqb _ e next.1, next.0)
-      ]))
-  between (suc k) j some count =
-      let lt : j < length s = omega (arith, piece.within) in
-      let early : eqb (get_or s (j - 1) 0) e ≡ true → at + j < at + size = λ is. elim (leb_tells size j) [
-        | inl far ↦ absurd (piece.first j far.1 (omega arith) (eqb-true _ e is))
-        | inr near ↦ omega (arith, near.1)
-      ] in
-      let place : at + j + 1 ≡ at + (j + 1) = omega arith in
-      let before : j ≡ j + 1 - 1 = omega arith in
-      ap (λ t. places_by_size_from size at (begins_from e (at + j) (eqb (get_or s (j - 1) 0) e) t)) (drop_more s j 0 lt)
-      ∙ passed (at + j) (begins_from e (at + j + 1) (eqb (get_or s j 0) e) (drop (j + 1) s)) (eqb (get_or s (j - 1) 0) e) early
-      ∙ ap (λ q. places_by_size_from size at (begins_from e q (eqb (get_or s j 0) e) (drop (j + 1) s))) place
-      ∙ ap (λ i. places_by_size_from size at (begins_from e (at + (j + 1)) (eqb (get_or s i 0) e) (drop (j + 1) s))) before
-      ∙ between k (j + 1) (omega arith) (omega arith)
+  -- the places from p on at which records begin
+  abbrev pub begins_left : ℕ → List ℕ
+  begins_left p = places_where test p (length s - p)
 
-  -- the first chunk of what is left, and those after it
-  pub spaced_piece : places_by_size size (begins_from e at true s) ≡ at ∷ places_by_size size (begins_from e (at + n) true (drop n s))
-  spaced_piece =
-      ap (λ t. places_by_size size (begins_from e at true t)) (drop_more s 0 0 (omega (arith, piece.some, piece.within)))
-      ∙ ap (λ l. at ∷ l) (between (n - 1) 1 (omega arith) (omega (arith, piece.some)))
+  -- where one begins it comes first
+  first_of : (p : ℕ) → p < length s → test p ≡ true → begins_left p ≡ p ∷ begins_left (p + 1)
+  first_of p lt is =
+      let more : length s - p ≡ suc (length s - (p + 1)) = omega arith in
+      ap (places_where test p) more ∙ rw is refl
 
--- ---- in a plan
+  none_left : (p : ℕ) → length s ≤ p → begins_left p ≡ []
+  none_left p le = ap (places_where test p) (let z : length s - p ≡ 0 = omega arith in z)
 
-module _ (rs : List ℕ) (k : ℕ) (bytes : List ℕ) (nr size start n : ℕ) where
-  -- the first chunk of what is left reaches as far as the piece
-  reach : (t : List ℕ) → drop (start + n) bytes ≡ t → start + n ≤ length bytes → get_or (places_by_size size (begins_from (separator_of rs) (start + n) true t)) 0 (length bytes) ≡ start + n
-  reach [] left le = omega (arith, length-drop (start + n) bytes, ap length left)
-  reach (x ∷ t) left le = refl
+  -- up to the first one there is none
+  pub begins_skipped : (p q : ℕ) → p ≤ q → IsBeginOrEnd rs s p q → begins_left p ≡ begins_left q
+  begins_skipped p q le h =
+      let parts : length s - p ≡ (q - p) + (length s - q) = omega (arith, h.within) in
+      let at : p + (q - p) ≡ q = omega arith in
+      ap (places_where test p) parts ∙ places_where-append test p (q - p) (length s - q)
+      ∙ ap (λ l. l ++ places_where test (p + (q - p)) (length s - q)) (places_where-none test p (q - p) (λ k low high. not_true (test k) (h.none k low (omega arith))))
+      ∙ ap (λ i. places_where test i (length s - q)) at
 
-  pub chunks_at-piece : start ≤ length bytes → IsPiece (separator_of rs) size (drop start bytes) n
-      → chunks_at rs k bytes nr (places_by_size size (begins_from (separator_of rs) start true (drop start bytes)))
-      ≡ record {
-        file = k;
-        range = record { start = start; end = start + n };
-        nr = nr + length (records_by rs (take start bytes));
-        fnr = length (records_by rs (take start bytes));
-      } ∷ chunks_at rs k bytes nr (places_by_size size (begins_from (separator_of rs) (start + n) true (drop (start + n) bytes)))
-  chunks_at-piece le piece =
-      let e = separator_of rs in
-      let rest = places_by_size size (begins_from e (start + n) true (drop (start + n) bytes)) in
-      let inside : start + n ≤ length bytes = omega (arith, piece.within, length-drop start bytes) in
-      ap (chunks_at rs k bytes nr) (spaced_piece e size (drop start bytes) n start piece ∙ ap (λ l. start ∷ places_by_size size (begins_from e (start + n) true l)) (drop-drop n start bytes))
-      ∙ ap (λ q. record {
-        file = k;
-        range = record { start = start; end = q };
-        nr = nr + length (records_by rs (take start bytes));
-        fnr = length (records_by rs (take start bytes));
-      } ∷ chunks_at rs k bytes nr rest) (reach (drop (start + n) bytes) refl inside)
+  -- the file's first, or its end
+  pub begins_first : (q : ℕ) → IsBeginOrEnd rs s 0 q → begins_by rs s ≡ begins_left q
+  begins_first q h = ap (places_where test 0) (let z : length s ≡ length s - 0 = omega arith in z) ∙ begins_skipped 0 q (omega arith) h
+
+  pub nothing_before : (q : ℕ) → IsBeginOrEnd rs s 0 q → records_by rs (take q s) ≡ []
+  nothing_before q h = none_before rs s q h.within (λ k lt. h.none k (omega arith) lt)
+
+  module _ (size : ℕ) where
+    -- the places of the chunks that are left
+    abbrev pub places_left : ℕ → List ℕ
+    places_left p = places_by_size size (begins_left p)
+
+    -- those that lie too near are passed over
+    near : (from i n : ℕ) (l : List ℕ) → ((k : ℕ) → i ≤ k → k < i + n → test k ≡ true → k < from + size) → places_by_size_from size from (places_where test i n ++ l) ≡ places_by_size_from size from l
+    near from i zero l low = refl
+    near from i (suc n) l low =
+        let later = near from (i + 1) n l (λ k le lt is. low k (omega arith) (omega arith) is) in
+        elim (test i) as (λ v. (test i ≡ v) → places_by_size_from size from (cond v (i ∷ places_where test (i + 1) n) (places_where test (i + 1) n) ++ l) ≡ places_by_size_from size from l) [
+          | true ↦ (λ e. rw (beyond (from + size) i (low i (omega arith) (omega arith) e)) later)
+          | false ↦ (λ e. later)
+        ] refl
+
+    -- the next chunk begins at the first record that begins at least `size` past this one
+    far : (p q : ℕ) → IsBeginOrEnd rs s (p + size) q → places_by_size_from size p (begins_left q) ≡ places_left q
+    far p q h = elim (leb_tells (length s) q) [
+      | inl end ↦ ap (places_by_size_from size p) (none_left q end.1) ∙ sym (ap (places_by_size size) (none_left q end.1))
+      | inr more ↦ (let there = h.begins more.1 in
+          ap (places_by_size_from size p) (first_of q more.1 there.1) ∙ rw (within (p + size) q there.0) (sym (ap (places_by_size size) (first_of q more.1 there.1))))
+    ]
+
+    too_near : (v : ℕ) (p q : ℕ) → IsBeginOrEnd rs s (p + size) q → v < q → test v ≡ true → v < p + size
+    too_near v p q h lt is = elim (leb_tells (p + size) v) [
+      | inl past ↦ absurd (h.none v past.1 lt is)
+      | inr low ↦ low.1
+    ]
+
+    pub next_place : (p q : ℕ) → p < length s → BeginsAt rs s p → p < q → IsBeginOrEnd rs s (p + size) q → places_left p ≡ p ∷ places_left q
+    next_place p q lt is up h =
+        let parts : length s - (p + 1) ≡ (q - (p + 1)) + (length s - q) = omega (arith, h.within) in
+        let at : p + 1 + (q - (p + 1)) ≡ q = omega arith in
+        ap (places_by_size size) (first_of p lt is)
+        ∙ ap (λ l. p ∷ places_by_size_from size p l) (ap (places_where test (p + 1)) parts ∙ places_where-append test (p + 1) (q - (p + 1)) (length s - q)
+        ∙ ap (λ i. places_where test (p + 1) (q - (p + 1)) ++ places_where test i (length s - q)) at)
+        ∙ ap (λ l. p ∷ l) (near p (p + 1) (q - (p + 1)) (begins_left q) (λ k low high pass. too_near k p q h (omega arith) pass) ∙ far p q h)
+
+    reach : (q : ℕ) → q ≤ length s → (q < length s → BeginsAt rs s q) → get_or (places_left q) 0 (length s) ≡ q
+    reach q le is = elim (leb_tells (length s) q) [
+      | inl end ↦ ap (λ l. get_or (places_by_size size l) 0 (length s)) (none_left q end.1) ∙ (let e : length s ≡ q = omega (arith, end.1) in e)
+      | inr more ↦ ap (λ l. get_or (places_by_size size l) 0 (length s)) (first_of q more.1 (is more.1))
+    ]
+
+    pub no_places : (p : ℕ) → length s ≤ p → places_left p ≡ []
+    no_places p le = ap (places_by_size size) (none_left p le)
+
+    pub next_chunk : (k nr p q : ℕ) → p < length s → BeginsAt rs s p → p < q → IsBeginOrEnd rs s (p + size) q
+        → chunks_at rs k s nr (places_left p) ≡ record {
+          file = k;
+          range = record { start = p; end = q };
+          nr = nr + length (records_by rs (take p s));
+          fnr = length (records_by rs (take p s));
+        } ∷ chunks_at rs k s nr (places_left q)
+    next_chunk k nr p q lt is up h =
+        ap (chunks_at rs k s nr) (next_place p q lt is up h)
+        ∙ ap (λ e. record {
+          file = k;
+          range = record { start = p; end = e };
+          nr = nr + length (records_by rs (take p s));
+          fnr = length (records_by rs (take p s));
+        } ∷ chunks_at rs k s nr (places_left q)) (reach q h.within (λ more. (h.begins more).1))
+
+-- a place past every file is as good as the greatest number
+pub from_greatest : (rs s : List ℕ) (from q : ℕ) → length s < 18446744073709551615 → IsBeginOrEnd rs s (min from 18446744073709551615) q → IsBeginOrEnd rs s from q
+from_greatest rs s from q few h = record {
+  within = h.within;
+  none = λ k le lt. h.none k (omega arith) lt;
+  begins = λ lt. (let b = h.begins lt in (omega (arith, b.0), b.1));
+}
+
+module _ (rs s : List ℕ) (p q : ℕ) (up : p < q) (le : q ≤ length s) where
+  pub part_end : p + length (take (q - p) (drop p s)) ≡ q
+  part_end = omega (arith, length-take-le (q - p) (drop p s) (omega (arith, length-drop p s)))
+
+  -- the records before a later place
+  pub part_count : (fnr n : ℕ) → BeginsAt rs s p → fnr ≡ length (records_by rs (take p s)) → n ≡ fnr + length (records_by rs (take (q - p) (drop p s))) → n ≡ length (records_by rs (take q s))
+  part_count fnr n is before grown =
+      let there : p + (q - p) ≡ q = omega arith in
+      let parts : length (records_by rs (take q s)) ≡ length (records_by rs (take p s)) + length (records_by rs (take (q - p) (drop p s))) =
+      rw there at (length-records_part rs s p (q - p) is (omega arith) (omega arith)) in
+      omega arith
+
+-- no more records than bytes are before a place
+pub few_before : (rs s : List ℕ) (q n : ℕ) → q ≤ length s → n ≡ length (records_by rs (take q s)) → n ≤ q
+few_before rs s q n le is = omega (arith, length-records_by rs (take q s), length-take-le q s le)
+
+pub all_before : (rs s : List ℕ) (q n : ℕ) → length s ≤ q → n ≡ length (records_by rs (take q s)) → n ≡ length (records_by rs s)
+all_before rs s q n le is = is ∙ ap (λ l. length (records_by rs l)) (take_all q s le)
+
+-- the next place lies further on
+pub next_up : (rs s : List ℕ) (p size q : ℕ) → 0 < size → p < length s → IsBeginOrEnd rs s (p + size) q → p < q
+next_up rs s p size q some lt h = elim (leb_tells (length s) q) [
+  | inl end ↦ omega (arith, end.1)
+  | inr more ↦ omega (arith, (h.begins more.1).0)
+]

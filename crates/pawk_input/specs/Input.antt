@@ -3,7 +3,7 @@
 use Rattle.std.specs.Prelude.{ℕ, ◌+◌, List, [], ◌∷◌, ◌++◌, length, map, Vec}
 use Rattle.std.specs.List.{slice_index_or}
 use Rattle.std.specs.declared.alloc.Global.{Global}
-use Rattle.pawk_input.specs.Records.{records_by}
+use Rattle.pawk_records.specs.Records.{records_by}
 use Rattle.pawk_input.specs.declared.item.Item.{Item as LentItem}
 
 -- a file: its name and what it holds

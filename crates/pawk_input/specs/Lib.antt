@@ -1,5 +1,7 @@
 pub mod Limits
-pub mod Records
+pub use Rattle.pawk_records.specs.Records
+pub use Rattle.pawk_records.specs.Begins
+pub use Rattle.pawk_records.specs.Separator
 pub mod Input
 pub mod Walk
 pub mod Fields

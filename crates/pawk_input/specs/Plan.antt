@@ -5,7 +5,8 @@ use Rattle.std.specs.Prelude.{◌==◌, ◌||◌, ◌&&◌, if◌then◌else◌,
 use Rattle.std.specs.Prelude.{drop, All, Contains, Option, None, Some, MatchOption}
 use Rattle.std.specs.Prelude.{slice_range, slice_index}
 use Rattle.std.specs.List.{slice_index_or, flat_map, list_any}
-use Rattle.pawk_input.specs.Records.{records_by, begins_by}
+use Rattle.pawk_records.specs.Records.{records_by}
+use Rattle.pawk_records.specs.Begins.{BeginsAt, begins_by}
 use Rattle.pawk_input.specs.Input.{File, Item, file_at, file_items, items}
 use Rattle.pawk_input.specs.declared.cutting.Chunk.{Chunk}
 use Rattle.pawk_input.specs.declared.cutting.CutRefusal.{CutRefusal}
@@ -136,17 +137,19 @@ RefusesCuts rs files cuts most refusal =
 
 -- ---- steps of the plans
 
--- of the rest s of a file a chunk takes the first n bytes: it ends where a record begins at least
--- `size` bytes on, or at the end, and no record begins between
-pub record IsPiece (separator size : ℕ) (s : List ℕ) (n : ℕ) : Type 0 where
-  pub some : 0 < n
-  pub within : n ≤ length s
-  pub ends : (n ≡ length s) ⊎ ((size ≤ n) × (slice_index s (n - 1) ≡ separator))
-  pub first : (p : ℕ) → size ≤ p → p < n → slice_index s (p - 1) ≢ separator
+-- p is the first place from `from` on at which a record begins, or the end where there is none
+pub record IsBeginOrEnd (rs bytes : List ℕ) (from p : ℕ) : Type 0 where
+  pub within : p ≤ length bytes
+  pub none : (k : ℕ) → from ≤ k → k < p → ¬ BeginsAt rs bytes k
+  pub begins : p < length bytes → (from ≤ p) × BeginsAt rs bytes p
 
 -- these places rise from p on, and a record begins at each
-abbrev pub Rises : ℕ → List ℕ → ℕ → List ℕ → Type 0
-Rises separator bytes p [] = Unit {0}
-Rises separator bytes p (q ∷ qs) =
-    (p < q) × (q < length bytes) × (slice_index bytes (q - 1) ≡ separator)
-    × Rises separator bytes q qs
+abbrev pub Rises : List ℕ → List ℕ → ℕ → List ℕ → Type 0
+Rises rs bytes p [] = Unit {0}
+Rises rs bytes p (q ∷ qs) =
+    (p < q) × (q < length bytes) × BeginsAt rs bytes q × Rises rs bytes q qs
+
+-- the places rise from the first of these begins on
+abbrev pub RisesFrom : List ℕ → List ℕ → List ℕ → List ℕ → Type 0
+RisesFrom rs bytes [] qs = qs ≡ []
+RisesFrom rs bytes (p ∷ ps) qs = Rises rs bytes p qs

@@ -1,6 +1,6 @@
 -- A walk over records.
 use Rattle.std.specs.Prelude.{ℕ, ◌+◌, List, ◌++◌, length}
-use Rattle.pawk_input.specs.Records.{records_by}
+use Rattle.pawk_records.specs.Records.{records_by}
 use Rattle.pawk_input.specs.Input.{File, Item, file_items, items_from}
 
 -- the records that a walk has left, in order: a contract sees the walk as just that list

@@ -6,21 +6,25 @@ ghost use Rattle.pawk_input.specs.Plan.{cut_fault};
 ghost use Rattle.pawk_input.specs.Plan as spec;
 
 use crate::cutting::CutRefusal;
+use crate::draft::begin_or_end;
 use crate::files::Input;
+use pawk_records::Separator;
 
 /// Whether a record after its file's first begins at the cut.
 fn begins_record(input: &Input, rs: &[u8], cut: (usize, usize)) -> bool
-    requires { length rs.now ≡ 1 }
+    requires { length rs.now ≤ 1 }
     ensures { result ≡ spec.begins_record rs.now input.now cut }
 {
     if cut.0 >= input.files() {
         return false;
     }
     let bytes = input.bytes(cut.0);
-    if cut.1 == 0 || cut.1 >= bytes.len() {
+    let separator = Separator::of(rs);
+    let first = begin_or_end(separator, bytes, 0);
+    if cut.1 <= first || cut.1 >= bytes.len() {
         return false;
     }
-    bytes[cut.1 - 1] == rs[0]
+    separator.begins_at(bytes, cut.1)
 }
 
 /// Whether a cut comes after the cut before it, if there is one.
@@ -39,7 +43,7 @@ pub(crate) fn check_cuts(
     rs: &[u8],
     cuts: &[(usize, usize)],
 ) -> Result<(), CutRefusal>
-    requires { length rs.now ≡ 1 }
+    requires { length rs.now ≤ 1 }
     ensures { MatchResult result
         (λ _. cut_fault rs.now input.now cuts.now ≡ None)
         (λ fault. cut_fault rs.now input.now cuts.now ≡ Some fault) }

@@ -3,30 +3,23 @@
 ghost use Rattle.std.specs.Prelude.{◌≡◌, ℕ, ◌+◌, ◌<◌, ◌≤◌, ◌^◌, [], ◌∷◌, ◌++◌, map, length};
 ghost use Rattle.std.specs.Prelude.{vec_len, OnOk, IfOk, IfErr};
 ghost use Rattle.pawk_input.specs.Limits.{most_bytes, most_chunks};
-ghost use Rattle.pawk_input.specs.Records.{records, records_by, begins_by, separator_of};
-ghost use Rattle.pawk_input.specs.Plan.{IsPiece, RefusesMany, Rises};
+ghost use Rattle.pawk_records.specs.Records.{records_by};
+ghost use Rattle.pawk_records.specs.Begins.{begins_by};
+ghost use Rattle.pawk_records.specs.Separator.{rs_of};
+ghost use Rattle.pawk_input.specs.Plan.{IsBeginOrEnd, RefusesMany, RisesFrom};
 ghost use Rattle.pawk_input.specs.Plan.{chunks_at, cut_places, offsets, places_by_size};
 
-use crate::count::count_records;
 use crate::cutting::{Chunk, CutRefusal, MOST_CHUNKS};
-use memchr::memchr;
+use pawk_records::Separator;
 use std::alloc::Global;
 
-/// How many bytes a chunk takes of the rest of a file: up to the first record that begins at least
-/// `size` bytes past the first byte, or all.
-fn piece_length(rest: &[u8], separator: u8, size: u64) -> usize
-    requires some { 0 < length rest.now }
-    requires sized { 0 < size }
-    ensures { IsPiece separator size rest.now result }
+/// The first place from `from` on at which a record begins, or the end where there is none.
+pub(crate) fn begin_or_end(separator: Separator, bytes: &[u8], from: usize) -> usize
+    ensures { IsBeginOrEnd (rs_of separator) bytes.now from result }
 {
-    if size > rest.len() as u64 {
-        return rest.len();
-    }
-    let last = size as usize - 1;
-    let (_, after) = rest.split_at(last);
-    match memchr(separator, after) {
-        Some(end) => last + end + 1,
-        None => rest.len(),
+    match separator.next_begin(bytes, from) {
+        Some(place) => place,
+        None => bytes.len(),
     }
 }
 
@@ -70,7 +63,7 @@ impl Draft {
         file: usize,
         start: usize,
         part: &[u8],
-        separator: u8,
+        separator: Separator,
         fnr: u64,
     ) -> Result<u64, CutRefusal>
         requires room { self.old.nr + fnr + length part.now ≤ most_bytes }
@@ -83,7 +76,7 @@ impl Draft {
               nr = self.old.nr + fnr;
               fnr = fnr;
             } ∷ []) }
-        ensures counted { IfOk result (λ n. n ≡ fnr + length (records separator part.now)) }
+        ensures counted { IfOk result (λ n. n ≡ fnr + length (records_by (rs_of separator) part.now)) }
         ensures nr { OnOk result (self.new.nr ≡ self.old.nr) }
         ensures few { OnOk result (vec_len self.new.chunks ≤ most_chunks) }
         ensures refused { IfErr result (RefusesMany (vec_len self.old.chunks + 1) most_chunks) }
@@ -95,7 +88,7 @@ impl Draft {
             fnr,
         };
         add_chunk(&mut self.chunks, chunk)?;
-        Ok(fnr + count_records(part, separator) as u64)
+        Ok(fnr + separator.count_records(part) as u64)
     }
 
     /// Adds the next file's chunks by size.
@@ -106,7 +99,7 @@ impl Draft {
         rs: &[u8],
         size: u64,
     ) -> Result<(), CutRefusal>
-        requires one_byte { length rs.now ≡ 1 }
+        requires one_byte { length rs.now ≤ 1 }
         requires sized { 0 < size }
         requires room { self.old.nr + length bytes.now ≤ most_bytes }
         requires few { vec_len self.old.chunks ≤ most_chunks }
@@ -123,13 +116,13 @@ impl Draft {
             (places_by_size size (begins_by rs.now bytes.now))))
             most_chunks) }
     {
-        let mut start = 0;
+        let separator = Separator::of(rs);
+        let mut start = begin_or_end(separator, bytes, 0);
         let mut fnr = 0;
         while start < bytes.len() {
-            let (_, rest) = bytes.split_at(start);
-            let (piece, _) = rest.split_at(piece_length(rest, rs[0], size));
-            fnr = self.add_part(file, start, piece, rs[0], fnr)?;
-            start += piece.len();
+            let end = begin_or_end(separator, bytes, start.saturating_add(size as usize));
+            fnr = self.add_part(file, start, &bytes[start..end], separator, fnr)?;
+            start = end;
         }
         self.nr += fnr;
         Ok(())
@@ -144,11 +137,11 @@ impl Draft {
         rs: &[u8],
         cuts: &[(usize, usize)],
     ) -> Result<(), CutRefusal>
-        requires one_byte { length rs.now ≡ 1 }
+        requires one_byte { length rs.now ≤ 1 }
         requires room { self.old.nr + length bytes.now ≤ most_bytes }
         requires few { vec_len self.old.chunks ≤ most_chunks }
         requires here { offsets file cuts.now ≡ map (λ cut. cut.1) cuts.now }
-        requires rising { Rises (separator_of rs.now) bytes.now 0 (offsets file cuts.now) }
+        requires rising { RisesFrom rs.now bytes.now (begins_by rs.now bytes.now) (offsets file cuts.now) }
         ensures chunks { OnOk result (self.new.chunks.items
             ≡ self.old.chunks.items
             ++ chunks_at rs.now file bytes.now self.old.nr
@@ -162,16 +155,17 @@ impl Draft {
             (cut_places cuts.now file (begins_by rs.now bytes.now))))
             most_chunks) }
     {
-        if bytes.is_empty() {
+        let separator = Separator::of(rs);
+        let mut start = begin_or_end(separator, bytes, 0);
+        if start == bytes.len() {
             return Ok(());
         }
-        let mut start = 0;
         let mut fnr = 0;
         for cut in cuts {
-            fnr = self.add_part(file, start, &bytes[start..cut.1], rs[0], fnr)?;
+            fnr = self.add_part(file, start, &bytes[start..cut.1], separator, fnr)?;
             start = cut.1;
         }
-        self.nr += self.add_part(file, start, &bytes[start..], rs[0], fnr)?;
+        self.nr += self.add_part(file, start, &bytes[start..], separator, fnr)?;
         Ok(())
     }
 }

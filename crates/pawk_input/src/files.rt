@@ -3,11 +3,11 @@
 ghost use Rattle.std.specs.Prelude.{◌≡◌, ℕ, ◌+◌, ◌<◌, ◌≤◌, ◌↔◌, [], ◌∷◌, length, IsTrue};
 ghost use Rattle.std.specs.Prelude.{MatchResult};
 ghost use Rattle.pawk_input.specs.Limits.{most_bytes};
-ghost use Rattle.pawk_input.specs.Records.{separator_of};
 ghost use Rattle.pawk_input.specs.Input.{files_of, file_at, total_size, items};
 ghost use Rattle.pawk_input.specs.Walk.{items_left};
 
 use crate::walk::Records;
+use pawk_records::Separator;
 use std::error::Error;
 use std::fmt;
 use std::marker::Model;
@@ -109,16 +109,17 @@ impl Input {
         &self.files[file].1
     }
 
-    /// The records of all files in order, by the one byte of `rs`, with their files and numbers.
-    /// Takes no memory and copies nothing.
+    /// The records of all files in order, with their files and numbers. Takes no memory and copies
+    /// nothing.
     ///
-    /// A record ends at that byte; a last one without it counts if it is not empty. No record spans
-    /// two files. POSIX.1-2017, awk, "Variables and Special Variables" (`RS`, `NR`, `FNR`).
+    /// `rs` holds one byte, at which a record ends (a last one without it counts if it is not
+    /// empty), or none: then newlines at both ends of a file are taken away, and two or more of
+    /// them separate records. No record spans two files. POSIX.1-2017, awk, "Variables and Special Variables" (`RS`, `NR`, `FNR`).
     pub fn records(&self, rs: &[u8]) -> Records<'_>
-        requires { length rs.now ≡ 1 }
+        requires { length rs.now ≤ 1 }
         ensures walk { items_left result ≡ items rs.now self.now }
         ensures limited { total_size self.now ≤ most_bytes }
     {
-        Records::of_files(rs[0], &self.files)
+        Records::of_files(Separator::of(rs), &self.files)
     }
 }

@@ -3,7 +3,6 @@
 #![tactic(auto)]
 
 mod blank_fields;
-mod count;
 mod cuts;
 mod cutting;
 mod draft;
@@ -16,5 +15,6 @@ pub use blank_fields::{BlankFields, count_fields, field, fields, fields_law};
 pub use cutting::{Chunk, CutRefusal, MOST_CHUNKS};
 pub use files::{Input, LIMIT, TooLarge};
 pub use item::Item;
+pub use pawk_records::{begins_law, records_law};
 pub use plan::Plan;
-pub use walk::{Records, begins_law, records_law};
+pub use walk::Records;

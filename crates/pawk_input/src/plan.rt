@@ -12,6 +12,7 @@ use crate::cutting::{Chunk, CutRefusal};
 use crate::draft::Draft;
 use crate::files::Input;
 use crate::walk::Records;
+use pawk_records::Separator;
 use std::alloc::Global;
 use std::marker::Model;
 
@@ -34,12 +35,12 @@ impl Plan {
     /// The plan by size: a chunk ends before the first record that begins at least `bytes` bytes
     /// past the chunk's begin, or at the end of its file; a file with records always begins a chunk.
     ///
-    /// `rs` holds the one byte at which records end.
+    /// `rs` holds the byte at which records end, or none for paragraphs.
     ///
     /// Gives `TooMany` where that are more than 1,048,576 chunks, and `Memory` where memory was
     /// refused.
     pub fn by_size(alloc: Global, input: &Input, rs: &[u8], bytes: u64) -> Result<Plan, CutRefusal>
-        requires one_byte { length rs.now ≡ 1 }
+        requires one_byte { length rs.now ≤ 1 }
         requires some { 0 < bytes }
         ensures value { IfOk result (λ plan. plan ≡ sized rs.now input.now bytes) }
         ensures plan { IfOk result (λ plan. IsPlanOf rs.now input.now plan) }
@@ -59,7 +60,7 @@ impl Plan {
     /// The plan at cuts: a file with records begins a chunk, and one more begins at each cut, a
     /// file's place and an offset in that file, both counted from 0.
     ///
-    /// `rs` holds the one byte at which records end.
+    /// `rs` holds the byte at which records end, or none for paragraphs.
     ///
     /// Gives what is wrong with the first cut at fault: `NoRecord` where no record after its file's
     /// first begins there, else `NotRising` where it does not come after the cut before it, by
@@ -71,7 +72,7 @@ impl Plan {
         rs: &[u8],
         cuts: &[(usize, usize)],
     ) -> Result<Plan, CutRefusal>
-        requires { length rs.now ≡ 1 }
+        requires { length rs.now ≤ 1 }
         ensures accepted { IfOk result (λ _. cut_fault rs.now input.now cuts.now ≡ None) }
         ensures value { IfOk result (λ plan. plan ≡ cut_at rs.now input.now cuts.now) }
         ensures plan { IfOk result (λ plan. IsPlanOf rs.now input.now plan) }
@@ -112,14 +113,14 @@ impl Plan {
     pub fn walk<'a>(&self, input: &'a Input, rs: &[u8], i: usize) -> Records<'a>
         requires chunk { i < length self.now }
         requires plan { IsPlanOf rs.now input.now self.now }
-        requires one_byte { length rs.now ≡ 1 }
+        requires one_byte { length rs.now ≤ 1 }
         ensures { IfSome (slice_get self.now i)
             (λ c. items_left result ≡ chunk_items rs.now input.now c) }
     {
         let chunk = self.chunk(i);
         let bytes = input.bytes(chunk.file);
         Records::of_part(
-            rs[0],
+            Separator::of(rs),
             chunk.file,
             input.name(chunk.file),
             &bytes[chunk.range.start..chunk.range.end],

@@ -40,7 +40,7 @@ pub fn show_chunked(alloc: Global, words: &[Vec<u8>], line: &mut String) -> Resu
     let Some((size, separator, input)) = sized(alloc, words)? else {
         return line.push_str("no input");
     };
-    if size == 0 || separator.len() != 1 {
+    if size == 0 || separator.len() > 1 {
         return line.push_str("no such plan");
     }
     let plan = match Plan::by_size(alloc, &input, separator, size) {
@@ -60,7 +60,7 @@ pub fn show_by_size(alloc: Global, words: &[Vec<u8>], line: &mut String) -> Resu
     let Some((size, separator, input)) = sized(alloc, words)? else {
         return line.push_str("no input");
     };
-    if size == 0 || separator.len() != 1 {
+    if size == 0 || separator.len() > 1 {
         return line.push_str("no such plan");
     }
     append_plan(line, Plan::by_size(alloc, &input, separator, size))
@@ -86,7 +86,7 @@ pub fn show_at_cuts(alloc: Global, words: &[Vec<u8>], line: &mut String) -> Resu
     let Some(input) = files::input(alloc, names)? else {
         return line.push_str("too large");
     };
-    if separator.len() != 1 {
+    if separator.len() > 1 {
         return line.push_str("no such separator");
     }
     let cuts = places(alloc, cuts)?;

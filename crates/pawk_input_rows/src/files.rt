@@ -48,7 +48,7 @@ pub fn show_records(alloc: Global, words: &[Vec<u8>], line: &mut String) -> Resu
     let Some(input) = input(alloc, files)? else {
         return line.push_str("too large");
     };
-    if separator.len() != 1 {
+    if separator.len() > 1 {
         return line.push_str("no such separator");
     }
     for item in input.records(separator) {

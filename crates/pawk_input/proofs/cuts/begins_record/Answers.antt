@@ -1,16 +1,22 @@
-use Rattle.std.proofs.Common.{sym, inl, inr, arith}
-use Rattle.pawk_input.specs.Records.{separator_of}
-use Rattle.pawk_input.proofs.CutLemmas.{any_outside, any_inside}
+use Rattle.std.proofs.Common.{sym, ◌∙◌, inl, inr, arith}
+use Rattle.pawk_input.specs.Plan.{IsBeginOrEnd}
+use Rattle.pawk_input.proofs.CutPlanLemmas.{begins_outside, begins_inside}
 use Rattle.pawk_input.proofs.cuts.begins_record.Goals as goal
-use Rattle.pawk_input.proofs.cuts.begins_record.Goals.{then-cut-eq0-via-then-cut-eq0, then-cut-eq0-via-else-cut-eq0+then-cut-bytes}
+use Rattle.pawk_input.proofs.cuts.begins_record.Goals.{then-cut-first-via-then-cut-first, then-cut-first-via-else-cut-first+then-cut-bytes}
 
-pub returns-then-cut-eq0 : goal.returns-then-cut-eq0
-returns-then-cut-eq0 c =
-    rw (← c.bytes-bytes.ensures.value) (sym (any_outside (separator_of c.args.rs.now) c.bytes-bytes.result.now c.args.cut.1 (elim c.then-cut-eq0.branch [
-      | then-cut-eq0-via-then-cut-eq0 w ↦ inl (omega arith)
-      | then-cut-eq0-via-else-cut-eq0+then-cut-bytes w ↦ inr (omega arith)
+pub returns-then-cut-first : goal.returns-then-cut-first
+returns-then-cut-first c =
+    let rs = c.args.rs.now in
+    let s = c.bytes-bytes.result.now in
+    let h : IsBeginOrEnd rs s 0 c.begin_or_end-first.result = rw c.of-separator.ensures at c.begin_or_end-first.ensures in
+    rw (← c.bytes-bytes.ensures.value) (sym (begins_outside rs s c.begin_or_end-first.result c.args.cut.1 h (elim c.then-cut-first.branch [
+      | then-cut-first-via-then-cut-first w ↦ inl (omega arith)
+      | then-cut-first-via-else-cut-first+then-cut-bytes w ↦ inr (omega arith)
     ])))
 
 pub returns : goal.returns
 returns c =
-    rw (← c.bytes-bytes.ensures.value) (sym (any_inside (separator_of c.args.rs.now) c.bytes-bytes.result.now c.args.cut.1 (omega arith) (omega arith)))
+    let rs = c.args.rs.now in
+    let s = c.bytes-bytes.result.now in
+    let h : IsBeginOrEnd rs s 0 c.begin_or_end-first.result = rw c.of-separator.ensures at c.begin_or_end-first.ensures in
+    rw (← c.bytes-bytes.ensures.value) (rw c.of-separator.ensures at c.begins_at.ensures ∙ sym (begins_inside rs s c.begin_or_end-first.result c.args.cut.1 h (omega arith) (omega arith)))

@@ -1,8 +1,8 @@
 use Rattle.std.proofs.Common.{◌≡◌, ◌≤◌, ◌<◌, ◌++◌, ◌∷◌, length, take, drop, map, vec_len}
 use Rattle.pawk_input.specs.Limits.{most_chunks}
-use Rattle.pawk_input.specs.Records.{records_by, separator_of}
+use Rattle.pawk_records.specs.Records.{records_by}
+use Rattle.pawk_records.specs.Begins.{BeginsAt}
 use Rattle.pawk_input.specs.Plan.{Rises, chunks_at}
-use Rattle.pawk_input.proofs.CutLemmas.{IsCut}
 use Rattle.pawk_input.proofs.draft.Draft.add_at_cuts.Given as goal
 
 abbrev pub invariant-loop-cut : goal.invariant-loop-cut
@@ -11,9 +11,9 @@ invariant-loop-cut l = record {
   counted : l.fnr ≡ length (records_by l.rs (take l.start l.bytes));
   room : l.fnr ≤ l.start;
   within : l.start < length l.bytes;
-  begins : IsCut (separator_of l.rs) l.bytes l.start;
+  begins : BeginsAt l.rs l.bytes l.start;
   few : vec_len l.self.chunks ≤ most_chunks;
-  rising : Rises (separator_of l.rs) l.bytes l.start (map (λ cut. cut.1) (drop l.cut-index l.cuts));
+  rising : Rises l.rs l.bytes l.start (map (λ cut. cut.1) (drop l.cut-index l.cuts));
   chunks : l.self.chunks.items ++ chunks_at l.rs l.file l.bytes l.self.nr (l.start ∷ map (λ cut. cut.1) (drop l.cut-index l.cuts))
-      ≡ l.initial.self.chunks.items ++ chunks_at l.rs l.file l.bytes l.initial.self.nr (0 ∷ map (λ cut. cut.1) l.cuts);
+      ≡ l.initial.self.chunks.items ++ chunks_at l.rs l.file l.bytes l.initial.self.nr (l.initial.start ∷ map (λ cut. cut.1) l.cuts);
 }

@@ -1,8 +1,9 @@
-use Rattle.std.proofs.Common.{◌≡◌, ◌⊎◌, ◌-◌, ◌≤◌, ◌++◌, true, length, take, drop, vec_len}
+use Rattle.std.proofs.Common.{◌≡◌, ◌+◌, ◌-◌, ◌<◌, ◌≤◌, ◌++◌, length, take, vec_len}
 use Rattle.pawk_input.specs.Limits.{most_chunks}
-use Rattle.pawk_input.specs.Records.{records_by, begins_by, begins_from, separator_of}
+use Rattle.pawk_records.specs.Records.{records_by}
+use Rattle.pawk_records.specs.Begins.{BeginsAt, begins_by}
 use Rattle.pawk_input.specs.Plan.{chunks_at, places_by_size}
-use Rattle.pawk_input.proofs.CutLemmas.{IsCut}
+use Rattle.pawk_input.proofs.SizeLemmas.{places_left}
 use Rattle.pawk_input.proofs.draft.Draft.add_by_size.Given as goal
 
 abbrev pub invariant-loop-start : goal.invariant-loop-start
@@ -11,9 +12,9 @@ invariant-loop-start l = record {
   counted : l.fnr ≡ length (records_by l.rs (take l.start l.bytes));
   room : l.fnr ≤ l.start;
   within : l.start ≤ length l.bytes;
-  cut : (l.start ≡ length l.bytes) ⊎ IsCut (separator_of l.rs) l.bytes l.start;
+  begins : l.start < length l.bytes → BeginsAt l.rs l.bytes l.start;
   few : vec_len l.self.chunks ≤ most_chunks;
-  chunks : l.self.chunks.items ++ chunks_at l.rs l.file l.bytes l.self.nr (places_by_size l.size (begins_from (separator_of l.rs) l.start true (drop l.start l.bytes)))
+  chunks : l.self.chunks.items ++ chunks_at l.rs l.file l.bytes l.self.nr (places_left l.rs l.bytes l.size l.start)
       ≡ l.initial.self.chunks.items ++ chunks_at l.rs l.file l.bytes l.initial.self.nr (places_by_size l.size (begins_by l.rs l.bytes));
 }
 

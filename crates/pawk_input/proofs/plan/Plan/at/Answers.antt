@@ -3,9 +3,10 @@ use Rattle.std.proofs.lemmas.List.{append-nil, drop_all}
 use Rattle.std.proofs.lemmas.Result.{err_from_is_err_and}
 use Rattle.std.specs.List.{prefix_len}
 use Rattle.pawk_input.specs.Limits.{most_chunks}
-use Rattle.pawk_input.specs.Records.{separator_of, begins_by, records_by}
+use Rattle.pawk_records.specs.Records.{records_by}
+use Rattle.pawk_records.specs.Begins.{begins_by}
 use Rattle.pawk_input.specs.Plan.{IsPlanOf, chunks_at, cut_at, cut_places, offsets, chunks_of}
-use Rattle.pawk_input.proofs.RecordsLemmas.{length-records}
+use Rattle.pawk_records.proofs.BeginsLemmas.{length-records_by}
 use Rattle.pawk_input.proofs.PlanLemmas.{planned_next, planned_turn, total_size_next, is_plan}
 use Rattle.pawk_input.proofs.DraftLemmas.{RefusesMany-longer}
 use Rattle.pawk_input.proofs.CutPlanLemmas.{is_here, FilesRise-from_start, FilesRise-later, offsets_first, offsets_here, offsets_later, cut_places-same, rises_at_cuts, picked_at_cuts}
@@ -75,7 +76,7 @@ loop-file-preserved c =
     let same = cut_places-same file c.split_at.result.0.now cuts (begins_by rs bytes) here in
     record {
       few = c.in_ok-add_at_cuts.ensures.few;
-      room = omega (arith, total_size_next rs files (cut_places cuts) file nr bytes there c.bytes.ensures.value, c.in_ok-add_at_cuts.ensures.counted, length-records (separator_of rs) bytes);
+      room = omega (arith, total_size_next rs files (cut_places cuts) file nr bytes there c.bytes.ensures.value, c.in_ok-add_at_cuts.ensures.counted, length-records_by rs bytes);
       ordered = rw back (FilesRise-later file left c.loop-file.invariant.ordered);
       same = λ k le. c.loop-file.invariant.same k (omega arith) ∙ offsets_later k file left (omega arith) ∙ ap (offsets k) (sym back);
       chunks = planned_turn rs files (cut_places cuts) file nr bytes there c.bytes.ensures.value c.add_at_cuts.new.self.nr old c.add_at_cuts.new.self.chunks.items (cut_at rs files cuts)

@@ -9,7 +9,7 @@ of_part-requires-clause-counted c =
     let chunk = c.chunk-chunk.result.now in
     let is : get_or c.args.self.now c.args.i chunk ≡ chunk = get_or_from_slice_get c.args.self.now c.args.i chunk chunk c.chunk-chunk.ensures in
     let fits = rw is at (plan_fits c.args.rs.now c.args.input.now c.args.self.now c.args.i chunk c.requires.chunk c.requires.plan) in
-    rw c.bytes-bytes.ensures.value (omega (arith, fits.0, c.bytes-bytes.ensures.limited))
+    rw (c.of.ensures, c.bytes-bytes.ensures.value) (omega (arith, fits.0, c.bytes-bytes.ensures.limited))
 
 pub of_part-requires-clause-in_file : goal.of_part-requires-clause-in_file
 of_part-requires-clause-in_file c =
@@ -19,7 +19,7 @@ of_part-requires-clause-in_file c =
     fits.1
 
 pub returns : goal.returns
-returns c = rw c.chunk-chunk.ensures (rw (← c.bytes-bytes.ensures.value, ← c.name.ensures) c.of_part.ensures)
+returns c = rw c.chunk-chunk.ensures (rw (← c.bytes-bytes.ensures.value, ← c.name.ensures, ← c.of.ensures) c.of_part.ensures)
 
 pub of_part-requires-clause-short : goal.of_part-requires-clause-short
 of_part-requires-clause-short c =
