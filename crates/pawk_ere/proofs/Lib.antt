@@ -1,8 +1,3 @@
-pub mod Shift
-pub mod Leftmost
-pub mod Turns
-pub mod Rows
-pub mod Walks
 pub mod Keeping
 pub mod Literals
 pub mod Needed

@@ -1,13 +1,14 @@
--- What an expression tells of where its matches begin, and that it may be some bytes and nothing else.
-use Rattle.std.proofs.Common.{◌≡◌, ℕ, ◌+◌, ◌-◌, ◌<◌, ◌≤◌, Bool, List, [], ◌∷◌, ◌++◌, length, get_or, Option, Some, None, IfSome, refl, sym, ap, ◌∙◌, subst, ⊎_elim, arith, length-append}
+-- Expressions that are some bytes and nothing else.
+use Rattle.std.proofs.Common.{◌≡◌, ℕ, ◌+◌, ◌-◌, ◌<◌, ◌≤◌, Bool, drop, take, zero, suc, length-drop, List, [], ◌∷◌, ◌++◌, length, get_or, Option, Some, None, IfSome, refl, sym, ap, ◌∙◌, subst, ⊎_elim, arith, length-append}
 use Rattle.std.proofs.lemmas.Bool.{cases_lt}
-use Rattle.std.proofs.lemmas.List.{get_or_append_left}
+use Rattle.std.proofs.lemmas.List.{get_or_append_left, get_or-drop}
 use Rattle.std.proofs.Math.Seq.{get_or-append_right}
 use Rattle.std.specs.Prelude.{slice_index}
 use Rattle.memchr.specs.Find.{OccursAt}
-use Rattle.pawk_pattern.specs.Pattern.{Holds, Leads}
-use Rattle.pawk_ere.specs.Hints.{BeginsWith, IsAnchored, IsLiteral}
-use Rattle.pawk_ere.specs.Regex.{Regex, Bytes, Plus, Sequence, Takes}
+use Rattle.pawk_pattern.specs.Pattern.{Holds, IsFound}
+use Rattle.pawk_ere.specs.Words.{IsLiteral}
+use Rattle.pawk_machine.proofs.Leftmost.{found_none, found_first}
+use Rattle.pawk_machine.specs.Regex.{Regex, Bytes, Plus, Sequence, Takes}
 
 pub occurs_join : (s x y : List ℕ) (i : ℕ) → OccursAt s x i → OccursAt s y (i + length x) → OccursAt s (x ++ y) i
 occurs_join s x y i a b = record {
@@ -70,14 +71,51 @@ literal_byte members byte holds only s i j = (
         let here : i ≡ i + 0 = omega arith in
         ap (slice_index s) here ∙ o.reads 0 (omega arith)
 
--- the first turn of many
-first_turn : (a : Regex) (s : List ℕ) (i j : ℕ) (ks : List ℕ) → 1 ≤ length ks → Leads (Takes a s) i ks j → (k : ℕ) × Takes a s i k
-first_turn a s i j [] some l = absurd (omega arith)
-first_turn a s i j (k ∷ ks) some l = (k, l.0)
+-- a slice from a place on, as the code writes it
+tail : (s : List ℕ) (n : ℕ) → take (length s - n) (drop n s) ≡ drop n s
+tail s n = take_all (drop n s) (length s - n) (omega (arith, length-drop n s))
+  where
+    take_all : (xs : List ℕ) (k : ℕ) → length xs ≤ k → take k xs ≡ xs
+    take_all [] zero le = refl
+    take_all [] (suc k) le = refl
+    take_all (x ∷ xs) zero le = absurd (omega arith)
+    take_all (x ∷ xs) (suc k) le = ap (λ ys. x ∷ ys) (take_all xs k (omega arith))
 
-pub plus_begins : (r : Option ℕ) (a n : Regex) → n ≡ Plus a → IfSome r (λ byte. BeginsWith a byte) → IfSome r (λ byte. BeginsWith n byte)
-plus_begins None a n is h = tt
-plus_begins (Some byte) a n is h = subst (λ m. BeginsWith m byte) (sym is) (λ s i j t. let x = first_turn a s i j t.0 t.1 t.2 in h s i x.0 x.1)
+pub occurs_ahead : (s needle : List ℕ) (from k : ℕ) → OccursAt (drop from s) needle k → from ≤ length s → OccursAt s needle (from + k)
+occurs_ahead s needle from k o le = record {
+  fits = let f = o.fits in omega (arith, length-drop from s);
+  reads = λ j lt.
+      let there : (from + k) + j ≡ from + (k + j) = omega arith in
+      ap (slice_index s) there ∙ sym (get_or-drop from s (k + j) 0) ∙ o.reads j lt;
+}
 
-pub plus_anchored : (a n : Regex) → n ≡ Plus a → IsAnchored a → IsAnchored n
-plus_anchored a n is h = subst IsAnchored (sym is) (λ s i j t. let x = first_turn a s i j t.0 t.1 t.2 in h s i x.0 x.1)
+pub occurs_behind : (s needle : List ℕ) (from i : ℕ) → OccursAt s needle i → from ≤ i → from ≤ length s → OccursAt (drop from s) needle (i - from)
+occurs_behind s needle from i o le within' = record {
+  fits = let f = o.fits in omega (arith, length-drop from s);
+  reads = λ j lt.
+      let there : from + ((i - from) + j) ≡ i + j = omega arith in
+      get_or-drop from s ((i - from) + j) 0 ∙ ap (slice_index s) there ∙ o.reads j lt;
+}
+
+-- the bytes of a literal stand nowhere
+pub literal_none : (e : Regex) (s needle : List ℕ) (from : ℕ) → from ≤ length s → ((k : ℕ) → 0 ≤ k → k < length (take (length s - from) (drop from s)) + 1 → OccursAt (take (length s - from) (drop from s)) needle k → ⊥) → IsLiteral e needle → IsFound (Takes e s) from None
+literal_none e s needle from le all is =
+    let none = subst (λ hay. (k : ℕ) → 0 ≤ k → k < length hay + 1 → OccursAt hay needle k → ⊥) (tail s from) all in
+    found_none e s from (λ k ge j m.
+    let o = ((is s k j).0 m).0 in
+    let f = o.fits in
+    none (k - from) (omega arith) (omega (arith, length-drop from s)) (occurs_behind s needle from k o ge le))
+
+-- the first place where the bytes of a literal stand
+pub literal_some : (e : Regex) (s needle : List ℕ) (from ahead : ℕ) → from ≤ length s → OccursAt (take (length s - from) (drop from s)) needle ahead → ((k : ℕ) → 0 ≤ k → k < ahead → OccursAt (take (length s - from) (drop from s)) needle k → ⊥) → IsLiteral e needle → IsFound (Takes e s) from (Some (from + ahead, (from + ahead) + length needle))
+literal_some e s needle from ahead le at all is =
+    let here = subst (λ hay. OccursAt hay needle ahead) (tail s from) at in
+    let before = subst (λ hay. (k : ℕ) → 0 ≤ k → k < ahead → OccursAt hay needle k → ⊥) (tail s from) all in
+    found_first e s from (from + ahead) ((from + ahead) + length needle) (omega arith)
+    (λ k ge lt j m.
+    let o = ((is s k j).0 m).0 in
+    before (k - from) (omega arith) (omega arith) (occurs_behind s needle from k o ge le))
+    (record {
+      matches = (is s (from + ahead) ((from + ahead) + length needle)).1 (occurs_ahead s needle from ahead here le, refl);
+      longest = λ l m. let x = ((is s (from + ahead) l).0 m).1 in omega arith;
+    })

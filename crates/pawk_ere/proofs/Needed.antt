@@ -1,18 +1,18 @@
 -- Words that a text must hold to have a match.
-use Rattle.std.proofs.Common.{◌≡◌, ℕ, ◌+◌, ◌<◌, ◌≤◌, ◌⊎◌, Bool, true, false, Option, Some, None, is_some, List, [], ◌∷◌, ◌++◌, length, get_or, Vec, vec_len, Global, eqb, eq-eqb, sym, ap, ◌∙◌, subst, ⊎_elim, arith, length-append}
+use Rattle.std.proofs.Common.{◌≡◌, ℕ, ◌+◌, ◌<◌, ◌≤◌, ◌⊎◌, Bool, true, false, Option, Some, None, is_some, List, [], ◌∷◌, ◌++◌, length, get_or, Vec, vec_len, Global, eqb, eq-eqb, refl, sym, ap, ◌∙◌, subst, ⊎_elim, arith, length-append}
 use Rattle.std.specs.Prelude.{All}
 use Rattle.std.proofs.lemmas.Bool.{cases_lt}
 use Rattle.std.proofs.lemmas.List.{get_or_append_left, get_or-append-add, get_or_read}
 use Rattle.memchr.specs.Find.{FindsNeedle, OccursAt}
-use Rattle.pawk_ere.specs.Hints.{AreNeeded, EndsIn, HoldsNone, IsLiteral, IsSight, IsSought, NeedsOne}
-use Rattle.pawk_ere.specs.declared.words.Sight.{Sight}
-use Rattle.pawk_ere.specs.declared.words.Sought.{Sought}
-use Rattle.pawk_ere.specs.declared.words.Sought.TheVariants.{Words}
+use Rattle.pawk_ere.specs.Words.{AreNeeded, EndsIn, HoldsNone, IsLiteral, AreFeatures, IsPrefilter, NeedsOne}
+use Rattle.pawk_ere.specs.declared.words.Features.{Features}
+use Rattle.pawk_ere.specs.declared.words.Prefilter.{Prefilter}
+use Rattle.pawk_ere.specs.declared.words.Prefilter.TheVariants.{Words}
 use Rattle.pawk_pattern.specs.Pattern.{Leads, NoneFrom}
-use Rattle.pawk_ere.specs.Regex.{Regex, Sequence, Either, Plus, Takes}
-use Rattle.pawk_ere.proofs.Leftmost.{none_beyond}
+use Rattle.pawk_machine.specs.Regex.{Regex, Empty, Sequence, Either, Plus, Takes}
+use Rattle.pawk_machine.proofs.Leftmost.{none_beyond}
 use Rattle.pawk_ere.proofs.Literals.{literal_sequence, occurs_join}
-use Rattle.pawk_ere.proofs.Shift.{forward, within}
+use Rattle.pawk_machine.proofs.Shift.{forward, within}
 
 -- each match ends with no bytes
 pub ends_in_nothing : (e : Regex) → EndsIn e []
@@ -88,36 +88,36 @@ none_without e s words needed some none =
     none_beyond e s 0 (omega arith) (λ k low high j t. needed some s k j none t (within e s k j (omega arith) t))
 
 -- the same, as a search from the begin asks for it
-pub none_sought : (e : Regex) (s : List ℕ) (from : ℕ) (o : Sought) (v : Vec (List ℕ) Global) (words : List (List ℕ)) → from ≡ 0 → o ≡ Words v → words ≡ v.items → IsSought e o → 1 ≤ length words → HoldsNone s words → NoneFrom (Takes e s) from
-none_sought e s from o v words begin is same tells some none =
-    subst (NoneFrom (Takes e s)) (sym begin) (none_without e s words (subst (AreNeeded e) (sym same) (subst (IsSought e) is tells)) some none)
+pub none_filtered : (e : Regex) (s : List ℕ) (from : ℕ) (o : Prefilter) (v : Vec (List ℕ) Global) (words : List (List ℕ)) → from ≡ 0 → o ≡ Words v → words ≡ v.items → IsPrefilter e o → 1 ≤ length words → HoldsNone s words → NoneFrom (Takes e s) from
+none_filtered e s from o v words begin is same tells some none =
+    subst (NoneFrom (Takes e s)) (sym begin) (none_without e s words (subst (AreNeeded e) (sym same) (subst (IsPrefilter e) is tells)) some none)
 
 -- ---- what is seen
 
-pub sight_of_nothing : (e : Regex) (sight : Sight) → sight.tail.items ≡ [] → sight.whole ≡ false → sight.words.items ≡ [] → IsSight e sight
-sight_of_nothing e sight t w n = record {
+pub features_of_nothing : (e : Regex) (features : Features) → features.tail.items ≡ [] → features.whole ≡ false → features.words.items ≡ [] → AreFeatures e features
+features_of_nothing e features t w n = record {
   tail = subst (EndsIn e) (sym t) (ends_in_nothing e);
   whole = λ h. let x = sym w ∙ h in cc;
   words = λ some. let x = ap length n in absurd (omega arith);
 }
 
-pub sight_of_literal : (e : Regex) (sight : Sight) → IsLiteral e sight.tail.items → sight.words.items ≡ [] → IsSight e sight
-sight_of_literal e sight is n = record {
-  tail = ends_in_literal e sight.tail.items is;
+pub features_of_literal : (e : Regex) (features : Features) → IsLiteral e features.tail.items → features.words.items ≡ [] → AreFeatures e features
+features_of_literal e features is n = record {
+  tail = ends_in_literal e features.tail.items is;
   whole = λ h. is;
   words = λ some. let x = ap length n in absurd (omega arith);
 }
 
-pub sight_of_both : (a b : Regex) (first second both : Sight) → IsSight a first → IsSight b second → second.whole ≡ true → both.tail.items ≡ first.tail.items ++ second.tail.items → both.whole ≡ first.whole → both.words.items ≡ first.words.items → IsSight (Sequence a b) both
-sight_of_both a b first second both f g is t w n = record {
+pub features_of_both : (a b : Regex) (first second both : Features) → AreFeatures a first → AreFeatures b second → second.whole ≡ true → both.tail.items ≡ first.tail.items ++ second.tail.items → both.whole ≡ first.whole → both.words.items ≡ first.words.items → AreFeatures (Sequence a b) both
+features_of_both a b first second both f g is t w n = record {
   tail = subst (EndsIn (Sequence a b)) (sym t) (ends_in_both a b first.tail.items second.tail.items f.tail (g.whole is));
   whole = λ h. subst (IsLiteral (Sequence a b)) (sym t) (literal_sequence a b first.tail.items second.tail.items (f.whole (sym w ∙ h)) (g.whole is));
   words = λ some. subst (NeedsOne (Sequence a b)) (sym n) (needs_first a b first.words.items (f.words (subst (λ l. 1 ≤ length l) n some)));
 }
 
-pub sight_of_second : (a b : Regex) (words : List (List ℕ)) (second sight : Sight) → AreNeeded a words → IsSight b second → second.whole ≡ false → sight.tail.items ≡ second.tail.items → sight.whole ≡ second.whole
-    → (sight.words.items ≡ words) ⊎ (sight.words.items ≡ second.words.items) → IsSight (Sequence a b) sight
-sight_of_second a b words second sight f g gap t w n = record {
+pub features_of_second : (a b : Regex) (words : List (List ℕ)) (second features : Features) → AreNeeded a words → AreFeatures b second → second.whole ≡ false → features.tail.items ≡ second.tail.items → features.whole ≡ second.whole
+    → (features.words.items ≡ words) ⊎ (features.words.items ≡ second.words.items) → AreFeatures (Sequence a b) features
+features_of_second a b words second features f g gap t w n = record {
   tail = subst (EndsIn (Sequence a b)) (sym t) (ends_in_second a b second.tail.items g.tail);
   whole = λ h. let x = sym gap ∙ sym w ∙ h in cc;
   words = λ some. ⊎_elim
@@ -125,8 +125,8 @@ sight_of_second a b words second sight f g gap t w n = record {
       (λ r. subst (NeedsOne (Sequence a b)) (sym r) (needs_second a b second.words.items (g.words (subst (λ m. 1 ≤ length m) r some)))) n;
 }
 
-pub sight_of_either : (a b : Regex) (x y : List (List ℕ)) (sight : Sight) → AreNeeded a x → AreNeeded b y → 1 ≤ length x → 1 ≤ length y → sight.tail.items ≡ [] → sight.whole ≡ false → sight.words.items ≡ x ++ y → IsSight (Either a b) sight
-sight_of_either a b x y sight f g p q t w n = record {
+pub features_of_either : (a b : Regex) (x y : List (List ℕ)) (features : Features) → AreNeeded a x → AreNeeded b y → 1 ≤ length x → 1 ≤ length y → features.tail.items ≡ [] → features.whole ≡ false → features.words.items ≡ x ++ y → AreFeatures (Either a b) features
+features_of_either a b x y features f g p q t w n = record {
   tail = subst (EndsIn (Either a b)) (sym t) (ends_in_nothing (Either a b));
   whole = λ h. let z = sym w ∙ h in cc;
   words = λ some. subst (NeedsOne (Either a b)) (sym n) (needs_either a b x y (f p) (g q));
@@ -138,13 +138,24 @@ filled v empty is not_empty =
     let some : vec_len v ≡ 0 → ⊥ = λ h. (let x = eq-eqb (vec_len v) 0 h in let y = sym not_empty ∙ is ∙ x in cc) in
     omega (arith, v.ok.0, some)
 
-pub sight_of_turns : (a : Regex) (turn sight : Sight) → IsSight a turn → sight.tail.items ≡ turn.tail.items → sight.whole ≡ false → sight.words.items ≡ turn.words.items → IsSight (Plus a) sight
-sight_of_turns a turn sight f t w n = record {
+pub features_of_turns : (a : Regex) (turn features : Features) → AreFeatures a turn → features.tail.items ≡ turn.tail.items → features.whole ≡ false → features.words.items ≡ turn.words.items → AreFeatures (Plus a) features
+features_of_turns a turn features f t w n = record {
   tail = subst (EndsIn (Plus a)) (sym t) (ends_in_turn a turn.tail.items f.tail);
   whole = λ h. let z = sym w ∙ h in cc;
   words = λ some. subst (NeedsOne (Plus a)) (sym n) (needs_turn a turn.words.items (f.words (subst (λ l. 1 ≤ length l) n some)));
 }
 
 -- the tail as the only word
-pub tail_needed : (e : Regex) (sight : Sight) (words : List (List ℕ)) → IsSight e sight → words ≡ sight.tail.items ∷ [] → AreNeeded e words
-tail_needed e sight words f is some = subst (NeedsOne e) (sym is) (needs_tail e sight.tail.items f.tail)
+pub tail_needed : (e : Regex) (features : Features) (words : List (List ℕ)) → AreFeatures e features → words ≡ features.tail.items ∷ [] → AreNeeded e words
+tail_needed e features words f is some = subst (NeedsOne e) (sym is) (needs_tail e features.tail.items f.tail)
+
+-- nothing comes behind it
+pub features_before_nothing : (a : Regex) (features : Features) → AreFeatures a features → AreFeatures (Sequence a Empty) features
+features_before_nothing a features f = record {
+  tail = λ s i j t le. f.tail s i j (subst (Takes a s i) t.2 t.1) le;
+  whole = λ h s i j. (
+    λ t. (f.whole h s i j).0 (subst (Takes a s i) t.2 t.1),
+    λ o. (j, (f.whole h s i j).1 o, refl),
+  );
+  words = λ some s i j none t le. f.words some s i j none (subst (Takes a s i) t.2 t.1) le;
+}

@@ -1,9 +1,9 @@
 -- What a matcher answers.
 use Rattle.std.specs.Prelude.{◌↔◌, ℕ, List, Option}
-use Rattle.pawk_ere.specs.declared.node.Node.{Node}
+use Rattle.pawk_machine.specs.declared.node.Node.{Node}
 use Rattle.pawk_pattern.specs.Pattern.{Pattern, Matches, IsFound}
-use Rattle.pawk_ere.specs.Regex.{Takes}
-use Rattle.pawk_ere.specs.Tree.{regex_of}
+use Rattle.pawk_machine.specs.Regex.{Takes}
+use Rattle.pawk_machine.specs.Tree.{regex_of}
 
 -- the matcher is one of this expression: what it takes is what the expression matches
 abbrev pub IsFor : Pattern → Node → Type 0

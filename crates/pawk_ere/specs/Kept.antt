@@ -2,7 +2,7 @@
 use Rattle.std.specs.Prelude.{ℕ, List, Contains, Option, Vec}
 use Rattle.std.proofs.Common.{Global}
 use Rattle.pawk_ere.specs.Answers.{IsAnswer, IsFor}
-use Rattle.pawk_ere.specs.declared.node.Node.{Node}
+use Rattle.pawk_machine.specs.declared.node.Node.{Node}
 use Rattle.pawk_pattern.specs.Pattern.{Pattern}
 use Rattle.pawk_pattern.specs.Tokens.{SpellsEre}
 

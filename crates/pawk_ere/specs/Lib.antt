@@ -2,12 +2,7 @@ pub use Rattle.pawk_pattern.specs.Pattern
 pub use Rattle.pawk_pattern.specs.Tokens
 pub use Rattle.pawk_pattern.specs.Refusals
 pub use Rattle.pawk_pattern.specs.Spelled
-pub mod Regex
-pub mod Marks
-pub mod Tree
-pub mod Expand
-pub mod Hints
-pub mod Table
+pub mod Words
 pub mod Holding
 pub mod Answers
 pub mod Kept

@@ -7,9 +7,8 @@ ghost use Rattle.pawk_pattern.specs.Tokens.{SpellsEre};
 ghost use Rattle.std.specs.Prelude.{◌≡◌, ◌≤◌, length, IfErr, IfOk, IfSome};
 
 use crate::matcher::Matcher;
-use pawk_pattern::Ere;
-use pawk_pattern::EreRefusal;
 use lru::LruCache;
+use pawk_pattern::{Ere, EreRefusal};
 use std::alloc::{AllocError, Global};
 use std::marker::Model;
 use std::num::NonZeroUsize;
@@ -34,8 +33,8 @@ impl Model for Cache {
 }
 
 /// The matcher of a text that spells an expression.
-fn made(alloc: Global, pattern: &[u8]) -> Result<(Vec<u8>, Matcher), EreRefusal>
-    ensures made { IfOk result (λ e. (e.0.items ≡ pattern.now) × IsOfText e.0.items e.1) }
+fn read_matcher(alloc: Global, pattern: &[u8]) -> Result<(Vec<u8>, Matcher), EreRefusal>
+    ensures entry { IfOk result (λ e. (e.0.items ≡ pattern.now) × IsOfText e.0.items e.1) }
     ensures refused { IfErr result (λ why. Tells why ((e : Pattern) → SpellsEre pattern.now e → ⊥)) }
 {
     let ere = Ere::parse(alloc, pattern)?;
@@ -45,11 +44,11 @@ fn made(alloc: Global, pattern: &[u8]) -> Result<(Vec<u8>, Matcher), EreRefusal>
 }
 
 /// Takes the matcher of a text out of the cache, if it is there.
-fn taken(kept: &mut LruCache<Vec<u8>, Matcher>, pattern: &[u8]) -> Option<(Vec<u8>, Matcher)>
+fn take_matcher(kept: &mut LruCache<Vec<u8>, Matcher>, pattern: &[u8]) -> Option<(Vec<u8>, Matcher)>
     requires { AreOfTexts kept.old.entries }
     ensures rest { AreOfTexts kept.new.entries }
     ensures same { IfSome result (λ e. e.0.items ≡ pattern.now) }
-    ensures taken { IfSome result (λ e. IsOfText e.0.items e.1) }
+    ensures entry { IfSome result (λ e. IsOfText e.0.items e.1) }
     ensures cap { kept.new.cap ≡ kept.old.cap }
 {
     kept.pop_entry(pattern)
@@ -74,17 +73,17 @@ fn matcher_for(
     requires { AreOfTexts kept.old.entries }
     ensures rest { AreOfTexts kept.new.entries }
     ensures cap { kept.new.cap ≡ kept.old.cap }
-    ensures made { IfOk result (λ e. (e.0.items ≡ pattern.now) × IsOfText e.0.items e.1) }
+    ensures entry { IfOk result (λ e. (e.0.items ≡ pattern.now) × IsOfText e.0.items e.1) }
     ensures refused { IfErr result (λ why. Tells why ((e : Pattern) → SpellsEre pattern.now e → ⊥)) }
 {
-    match taken(kept, pattern) {
+    match take_matcher(kept, pattern) {
         Some(entry) => Ok(entry),
-        None => made(alloc, pattern),
+        None => read_matcher(alloc, pattern),
     }
 }
 
 /// Searches with a matcher, and puts it into the cache.
-fn searched(
+fn search_and_keep(
     kept: &mut LruCache<Vec<u8>, Matcher>,
     key: Vec<u8>,
     matcher: Matcher,
@@ -132,7 +131,7 @@ impl Cache {
         ensures capacity { self.new ≡ self.old }
     {
         let (key, matcher) = matcher_for(self.alloc, &mut self.kept, pattern)?;
-        let found = searched(&mut self.kept, key, matcher, text, from)?;
+        let found = search_and_keep(&mut self.kept, key, matcher, text, from)?;
         Ok(found)
     }
 }

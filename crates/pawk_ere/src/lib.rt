@@ -2,21 +2,10 @@
 #![tactic(auto)]
 
 mod cache;
-mod expand;
-mod hints;
-mod marks;
+mod literal;
 mod matcher;
-mod node;
-mod scan;
-mod table;
 mod words;
 
 pub use crate::cache::Cache;
 pub use crate::matcher::Matcher;
-pub use pawk_pattern::laws;
-pub use pawk_pattern::{Ere, EreRefusal};
-
-#[cfg(test)]
-mod definition_tests;
-#[cfg(test)]
-mod tests;
+pub use pawk_pattern::{Ere, EreRefusal, laws};

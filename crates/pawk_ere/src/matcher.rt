@@ -5,13 +5,10 @@ ghost use Rattle.pawk_pattern.specs.Pattern.{HasMatch, Matches, Pattern};
 ghost use Rattle.pawk_pattern.specs.Spelled.{expression};
 ghost use Rattle.std.specs.Prelude.{◌≡◌, ◌↔◌, ◌≤◌, length, IfOk, IsTrue};
 
-use crate::expand::expanded;
-use crate::hints::first_byte;
-use crate::node::Node;
+use crate::literal::{has_literal, search_literal};
+use crate::words::{Prefilter, lacks_words, prefilter_of};
+use pawk_machine::{Node, Table, begin, expand, first_byte, has_match, search};
 use pawk_pattern::Ere;
-use crate::scan::{has_literal, has_match, search, search_literal};
-use crate::table::{Table, begun};
-use crate::words::{Sought, lacks_words, sought_for};
 use std::alloc::{AllocError, Global};
 use std::marker::Model;
 
@@ -24,24 +21,24 @@ pub struct Matcher {
     /// The byte that each match begins with, if one is known.
     first: Option<u8>,
     /// What is looked for in a text before it is walked over.
-    sought: Sought,
+    prefilter: Prefilter,
 }
 
 impl Model for Matcher {
-    ghost use Rattle.pawk_ere.specs.declared.node.Node.{Node};
-    ghost use Rattle.pawk_ere.specs.contracts.node.Node as tree;
+    ghost use Rattle.pawk_machine.specs.declared.node.Node.{Node};
+    ghost use Rattle.pawk_machine.specs.contracts.node.Node as tree;
     ghost use Rattle.std.specs.Coded.{codes};
 
     ghost Value = { Node };
 
     ghost coded = { Prim.hlevel (codes, tree.the_row.coded) };
 
-    ghost use Rattle.pawk_ere.specs.Tree.{regex_of};
+    ghost use Rattle.pawk_machine.specs.Tree.{regex_of};
     ghost use Rattle.pawk_ere.specs.Holding.{IsMatcher};
 
     ghost view = { λ m. m.node };
 
-    ghost invariant = { λ m. IsMatcher (regex_of m.node) m.table m.first m.sought };
+    ghost invariant = { λ m. IsMatcher (regex_of m.node) m.table m.first m.prefilter };
 }
 
 impl Matcher {
@@ -49,16 +46,16 @@ impl Matcher {
     pub fn new(alloc: Global, ere: &Ere) -> Result<Matcher, AllocError>
         ensures { IfOk result (λ m. IsFor (expression ere.now) m) }
     {
-        let node = expanded(alloc, ere.root())?;
-        let table = begun(alloc, &node, 0)?;
+        let node = expand(alloc, ere.root())?;
+        let table = begin(alloc, &node, 0)?;
         let first = first_byte(&node);
-        let sought = sought_for(alloc, &node)?;
+        let prefilter = prefilter_of(alloc, &node)?;
         Ok(Matcher {
             alloc,
             node,
             table,
             first,
-            sought,
+            prefilter,
         })
     }
 
@@ -69,9 +66,9 @@ impl Matcher {
         ensures answer { (e : Pattern) → IsFor e self.old → IfOk result (λ found. IsAnswer e text.now from found) }
         ensures same { self.new ≡ self.old }
     {
-        match &self.sought {
-            Sought::Literal(literal) => return Ok(search_literal(literal, text, from)),
-            Sought::Words(words) => {
+        match &self.prefilter {
+            Prefilter::Literal(literal) => return Ok(search_literal(literal, text, from)),
+            Prefilter::Words(words) => {
                 if from == 0 && lacks_words(words, text) {
                     return Ok(None);
                 }
@@ -93,9 +90,9 @@ impl Matcher {
         ensures answer { (e : Pattern) → IsFor e self.old → IfOk result (λ told. IsTrue told ↔ HasMatch (Matches e text.now) from) }
         ensures same { self.new ≡ self.old }
     {
-        match &self.sought {
-            Sought::Literal(literal) => return Ok(has_literal(literal, text, from)),
-            Sought::Words(words) => {
+        match &self.prefilter {
+            Prefilter::Literal(literal) => return Ok(has_literal(literal, text, from)),
+            Prefilter::Words(words) => {
                 if from == 0 && lacks_words(words, text) {
                     return Ok(false);
                 }
@@ -110,19 +107,9 @@ impl Matcher {
             from,
         )
     }
-}
 
-#[cfg(test)]
-impl Matcher {
-    /// How often the table was emptied.
+    /// How often the table was emptied since the matcher was made.
     pub fn emptyings(&self) -> u64 {
         self.table.emptied
-    }
-    /// How many words a text is searched for before it is walked over.
-    pub fn word_count(&self) -> usize {
-        match &self.sought {
-            Sought::Literal(_) => 0,
-            Sought::Words(words) => words.len(),
-        }
     }
 }

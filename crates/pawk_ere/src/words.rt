@@ -1,14 +1,13 @@
 // Words that a text must hold to have a match.
 
-ghost use Rattle.pawk_ere.specs.Hints.{AreNeeded, HoldsNone, IsSight, IsSought};
-ghost use Rattle.pawk_ere.specs.Regex.{Regex, Bytes, Sequence, Either, Plus};
-ghost use Rattle.pawk_ere.specs.Tree.{regex_of};
+ghost use Rattle.pawk_ere.specs.Words.{AreNeeded, HoldsNone, AreFeatures, IsPrefilter};
+ghost use Rattle.pawk_machine.specs.Regex.{Regex, Bytes, Sequence, Either, Plus, copies};
+ghost use Rattle.pawk_machine.specs.Tree.{regex_of};
 ghost use Rattle.std.specs.Prelude.{◌≡◌, ◌≤◌, ◌⊎◌, [], false, length, IfOk, IsTrue};
 
-use pawk_pattern::ByteSet;
-use crate::hints::is_anchored;
-use crate::node::Node;
 use memchr::memmem::{Finder, FinderBuilder};
+use pawk_machine::{Node, is_anchored};
+use pawk_pattern::ByteSet;
 use std::alloc::{AllocError, Global};
 
 /// More words than this are not looked for.
@@ -22,7 +21,7 @@ const MOST_WEIGHED: usize = 16;
 
 /// What is seen of the matches of an expression.
 #[derive(Drop)]
-pub struct Sight {
+pub struct Features {
     /// Each match ends with these bytes.
     pub tail: Vec<u8>,
     /// The expression matches the tail and nothing else.
@@ -33,7 +32,7 @@ pub struct Sight {
 
 /// What is looked for in a text before it is walked over.
 #[derive(Drop)]
-pub enum Sought {
+pub enum Prefilter {
     /// The expression matches these bytes and nothing else.
     Literal(Finder<'static>),
     /// Each match holds one of these words. If there are none, nothing is known.
@@ -76,14 +75,14 @@ fn heavier(first: Vec<Finder<'static>>, second: Vec<Finder<'static>>) -> Vec<Fin
 }
 
 /// Words that are needed: those that are known, or the tail where it is heavier.
-fn settled(sight: Sight) -> Result<Vec<Finder<'static>>, AllocError>
-    ensures { (e : Regex) → IsSight e sight → IfOk result (λ words. AreNeeded e words.items) }
+fn needed_words(features: Features) -> Result<Vec<Finder<'static>>, AllocError>
+    ensures { (e : Regex) → AreFeatures e features → IfOk result (λ words. AreNeeded e words.items) }
 {
-    let Sight {
+    let Features {
         tail,
         whole: _,
         mut words,
-    } = sight;
+    } = features;
     if weight(&tail) <= least_weight(&words) {
         return Ok(words);
     }
@@ -94,12 +93,12 @@ fn settled(sight: Sight) -> Result<Vec<Finder<'static>>, AllocError>
 
 /// Nothing is seen.
 #[inline(never)]
-fn nothing(alloc: Global) -> Sight
+fn nothing(alloc: Global) -> Features
     ensures tail { result.tail.items ≡ [] }
     ensures whole { result.whole ≡ false }
     ensures words { result.words.items ≡ [] }
 {
-    Sight {
+    Features {
         tail: Vec::new(alloc),
         whole: false,
         words: Vec::new(alloc),
@@ -108,106 +107,128 @@ fn nothing(alloc: Global) -> Sight
 
 /// What is seen of one byte.
 #[inline(never)]
-fn in_bytes(alloc: Global, set: &ByteSet) -> Result<Sight, AllocError>
-    ensures { IfOk result (λ sight. IsSight (Bytes set.now.members) sight) }
+fn in_bytes(alloc: Global, set: &ByteSet) -> Result<Features, AllocError>
+    ensures { IfOk result (λ features. AreFeatures (Bytes set.now.members) features) }
 {
-    let mut sight = nothing(alloc);
+    let mut features = nothing(alloc);
     if let Some(byte) = set.only_member() {
-        sight.tail.push(byte)?;
-        sight.whole = true;
+        features.tail.push(byte)?;
+        features.whole = true;
     }
-    Ok(sight)
+    Ok(features)
 }
 
 /// What is seen of one after the other.
 #[inline(never)]
-fn in_sequence(first: Sight, second: Sight) -> Result<Sight, AllocError>
-    ensures { (a b : Regex) → IsSight a first → IsSight b second → IfOk result (λ sight. IsSight (Sequence a b) sight) }
+fn in_sequence(first: Features, second: Features) -> Result<Features, AllocError>
+    ensures { (a b : Regex) → AreFeatures a first → AreFeatures b second → IfOk result (λ features. AreFeatures (Sequence a b) features) }
 {
-    let mut sight = second;
-    if sight.whole {
+    let mut features = second;
+    if features.whole {
         let mut both = first;
-        both.tail.extend_from_slice(&sight.tail)?;
+        both.tail.extend_from_slice(&features.tail)?;
         return Ok(both);
     }
-    sight.words = heavier(settled(first)?, sight.words);
-    Ok(sight)
+    features.words = heavier(needed_words(first)?, features.words);
+    Ok(features)
 }
 
 /// What is seen of one or the other.
 #[inline(never)]
-fn in_either(alloc: Global, first: Sight, second: Sight) -> Result<Sight, AllocError>
-    ensures { (a b : Regex) → IsSight a first → IsSight b second → IfOk result (λ sight. IsSight (Either a b) sight) }
+fn in_either(alloc: Global, first: Features, second: Features) -> Result<Features, AllocError>
+    ensures { (a b : Regex) → AreFeatures a first → AreFeatures b second → IfOk result (λ features. AreFeatures (Either a b) features) }
 {
-    let mut sight = nothing(alloc);
-    let mut words = settled(first)?;
-    let mut others = settled(second)?;
+    let mut features = nothing(alloc);
+    let mut words = needed_words(first)?;
+    let mut others = needed_words(second)?;
     if words.is_empty() || others.is_empty() {
-        return Ok(sight);
+        return Ok(features);
     }
     if words.len().saturating_add(others.len()) <= MOST_WORDS {
         words.append(&mut others)?;
-        sight.words = words;
+        features.words = words;
     }
-    Ok(sight)
+    Ok(features)
 }
 
 /// What is seen of one turn or more.
 #[inline(never)]
-fn in_turns(turn: Sight) -> Sight
-    ensures { (a : Regex) → IsSight a turn → IsSight (Plus a) result }
+fn in_turns(turn: Features) -> Features
+    ensures { (a : Regex) → AreFeatures a turn → AreFeatures (Plus a) result }
 {
-    let mut sight = turn;
-    sight.whole = false;
-    sight
+    let mut features = turn;
+    features.whole = false;
+    features
 }
 
-/// What is seen of the matches of an expression, in one walk over it. What follows a first part stands outside the recursion,
-/// whose frames stay small.
-#[cycle(seeing)]
-fn seen(alloc: Global, node: &Node) -> Result<Sight, AllocError>
-    ensures { IfOk result (λ sight. IsSight (regex_of node.now) sight) }
+/// What is seen of the matches of an expression. What follows a first part stands outside the recursion, whose frames stay
+/// small.
+#[cycle(features)]
+fn features_of(alloc: Global, node: &Node) -> Result<Features, AllocError>
+    ensures { IfOk result (λ features. AreFeatures (regex_of node.now) features) }
 {
     match node {
         Node::Empty | Node::Start | Node::End | Node::Star(_) => Ok(nothing(alloc)),
         Node::Bytes(set) => in_bytes(alloc, set),
-        Node::Sequence(a, b) => with_second(alloc, seen(alloc, a)?, b),
-        Node::Either(a, b) => with_other(alloc, seen(alloc, a)?, b),
-        Node::Plus(a) => Ok(in_turns(seen(alloc, a)?)),
+        Node::Sequence(a, b) => with_second(alloc, features_of(alloc, a)?, b),
+        Node::Either(a, b) => with_other(alloc, features_of(alloc, a)?, b),
+        Node::Copies(count, a) => of_copies(alloc, *count, a),
+        Node::Plus(a) => Ok(in_turns(features_of(alloc, a)?)),
     }
 }
 
 /// What is seen of one part and a second one behind it.
-#[cycle(seeing)]
+#[cycle(features)]
 #[inline(never)]
-fn with_second(alloc: Global, first: Sight, second: &Node) -> Result<Sight, AllocError>
-    ensures { (a : Regex) → IsSight a first → IfOk result (λ sight. IsSight (Sequence a (regex_of second.now)) sight) }
+fn with_second(alloc: Global, first: Features, second: &Node) -> Result<Features, AllocError>
+    ensures { (a : Regex) → AreFeatures a first
+        → IfOk result (λ features. AreFeatures (Sequence a (regex_of second.now)) features) }
 {
-    in_sequence(first, seen(alloc, second)?)
+    if let Node::Empty = second {
+        return Ok(first);
+    }
+    in_sequence(first, features_of(alloc, second)?)
 }
 
 /// What is seen of one alternative and another one.
-#[cycle(seeing)]
+#[cycle(features)]
 #[inline(never)]
-fn with_other(alloc: Global, first: Sight, second: &Node) -> Result<Sight, AllocError>
-    ensures { (a : Regex) → IsSight a first → IfOk result (λ sight. IsSight (Either a (regex_of second.now)) sight) }
+fn with_other(alloc: Global, first: Features, second: &Node) -> Result<Features, AllocError>
+    ensures { (a : Regex) → AreFeatures a first
+        → IfOk result (λ features. AreFeatures (Either a (regex_of second.now)) features) }
 {
-    in_either(alloc, first, seen(alloc, second)?)
+    in_either(alloc, first, features_of(alloc, second)?)
+}
+
+/// What is seen of so many copies.
+#[cycle(features)]
+#[inline(never)]
+fn of_copies(alloc: Global, count: u8, a: &Node) -> Result<Features, AllocError>
+    ensures { IfOk result (λ features. AreFeatures (copies count (regex_of a.now)) features) }
+{
+    if count == 0 {
+        return Ok(nothing(alloc));
+    }
+    let mut all = features_of(alloc, a)?;
+    for _i in 1..count {
+        all = in_sequence(features_of(alloc, a)?, all)?;
+    }
+    Ok(all)
 }
 
 /// What to look for in a text before it is walked over. An anchored expression gives up early by itself.
-pub fn sought_for(alloc: Global, node: &Node) -> Result<Sought, AllocError>
-    ensures { IfOk result (λ sought. IsSought (regex_of node.now) sought) }
+pub fn prefilter_of(alloc: Global, node: &Node) -> Result<Prefilter, AllocError>
+    ensures { IfOk result (λ prefilter. IsPrefilter (regex_of node.now) prefilter) }
 {
-    let sight = seen(alloc, node)?;
-    if sight.whole {
-        let literal = FinderBuilder::new().build_forward_owned(sight.tail);
-        return Ok(Sought::Literal(literal));
+    let features = features_of(alloc, node)?;
+    if features.whole {
+        let literal = FinderBuilder::new().build_forward_owned(features.tail);
+        return Ok(Prefilter::Literal(literal));
     }
     if is_anchored(node) {
-        return Ok(Sought::Words(Vec::new(alloc)));
+        return Ok(Prefilter::Words(Vec::new(alloc)));
     }
-    Ok(Sought::Words(settled(sight)?))
+    Ok(Prefilter::Words(needed_words(features)?))
 }
 
 /// Whether a text is seen to hold none of the words. Where there are none, and in a short text, nothing is seen.

@@ -58,7 +58,52 @@ fn count_only(matcher: &mut Matcher, text: &[u8]) -> Result<u64, AllocError> {
     Ok(lines)
 }
 
-fn measured(
+/// How many matches a line has, one behind the other: an empty one right behind another is none.
+fn count_in(matcher: &mut Matcher, line: &[u8]) -> Result<u64, AllocError> {
+    let mut count = 0u64;
+    let mut from = 0usize;
+    let mut behind = None;
+    for _ in 0..=line.len() {
+        if from > line.len() {
+            break;
+        }
+        let (start, end) = match matcher.find(line, from)? {
+            None => break,
+            Some(places) => places,
+        };
+        if start < end {
+            count = count.wrapping_add(1);
+            behind = Some(end);
+            from = end;
+        } else {
+            if behind != Some(start) {
+                count = count.wrapping_add(1);
+            }
+            from = start.saturating_add(1);
+        }
+    }
+    Ok(count)
+}
+
+/// How many matches the lines have.
+fn count_all(matcher: &mut Matcher, text: &[u8]) -> Result<u64, AllocError> {
+    let mut count = 0u64;
+    let mut rest = text;
+    for _ in 0..u64::MAX {
+        let end = match memchr(b'\n', rest) {
+            Some(end) => end,
+            None => break,
+        };
+        if end >= rest.len() {
+            break;
+        }
+        count = count.wrapping_add(count_in(matcher, &rest[..end])?);
+        rest = after(rest, end);
+    }
+    Ok(count)
+}
+
+fn measure(
     rt: &(impl Print + AllocGlobal + std::rt::Clock),
     pattern: &[u8],
     text: &[u8],
@@ -76,7 +121,12 @@ fn measured(
             let lines = count_only(&mut matcher, text)?;
             let spent = start.elapsed(rt)?;
             let milliseconds = spent.as_millis();
-            println!(rt; "{lines} lines, {milliseconds} ms to test")
+            println!(rt; "{lines} lines, {milliseconds} ms to test")?;
+            let start = Instant::now(rt)?;
+            let matches = count_all(&mut matcher, text)?;
+            let spent = start.elapsed(rt)?;
+            let milliseconds = spent.as_millis();
+            println!(rt; "{matches} matches, {milliseconds} ms to find each")
         }
     }
 }
@@ -89,7 +139,7 @@ fn main(rt: HostRuntime) -> io::Result<()> {
     match (pattern, path) {
         (Some(pattern), Some(path)) => {
             let text = fs::read(&rt, path.as_str())?;
-            measured(&rt, pattern.as_bytes(), &text)
+            measure(&rt, pattern.as_bytes(), &text)
         }
         _ => println!(rt; "usage: pawk_ere_bench EXPRESSION FILE"),
     }

@@ -2,12 +2,12 @@ use Rattle.std.proofs.Common.{ℕ, List, Option, None, Result, Ok, Err, IfOk, su
 use Rattle.std.specs.declared.alloc.AllocError.{AllocError}
 use Rattle.pawk_ere.specs.Answers.{IsAnswer, IsFor}
 use Rattle.pawk_pattern.specs.Pattern.{Pattern, Matches, IsFound}
-use Rattle.pawk_ere.specs.Hints.{IsSought}
-use Rattle.pawk_ere.specs.Regex.{Takes}
-use Rattle.pawk_ere.specs.Tree.{regex_of}
-use Rattle.pawk_ere.specs.declared.node.Node.{Node}
-use Rattle.pawk_ere.proofs.Leftmost.{found_map, found_none}
-use Rattle.pawk_ere.proofs.Needed.{none_sought}
+use Rattle.pawk_ere.specs.Words.{IsPrefilter}
+use Rattle.pawk_machine.specs.Regex.{Takes}
+use Rattle.pawk_machine.specs.Tree.{regex_of}
+use Rattle.pawk_machine.specs.declared.node.Node.{Node}
+use Rattle.pawk_machine.proofs.Leftmost.{found_map, found_none}
+use Rattle.pawk_ere.proofs.Needed.{none_filtered}
 use Rattle.pawk_ere.proofs.matcher.Matcher.find.Goals as goal
 
 answers : (r : Result (Option (ℕ × ℕ)) AllocError) (e : Pattern) (node : Node) (text : List ℕ) (start : ℕ) → IsFor e node → IfOk r (λ found. IsFound (Takes (regex_of node) text) start found) → IfOk r (λ found. IsAnswer e text start found)
@@ -17,13 +17,13 @@ answers (Err why) e node text start for h = tt
 pub returns-in-Literal-clause-answer : goal.returns-in-Literal-clause-answer
 returns-in-Literal-clause-answer c = λ e for.
     found_map (Takes (regex_of c.self.inside.node) c.args.text.now) (Matches e c.args.text.now) c.args.from c.search_literal.result (subst (λ n. IsFor e n) (sym c.self.view_is) for c.args.text.now)
-    (c.search_literal.ensures (regex_of c.self.inside.node) (subst (IsSought (regex_of c.self.inside.node)) c.in-Literal.is c.self.invariant.tells))
+    (c.search_literal.ensures (regex_of c.self.inside.node) (subst (IsPrefilter (regex_of c.self.inside.node)) c.in-Literal.is c.self.invariant.tells))
 
 pub returns-then-lacks_words-clause-answer : goal.returns-then-lacks_words-clause-answer
 returns-then-lacks_words-clause-answer c = λ e for.
     found_map (Takes (regex_of c.self.inside.node) c.args.text.now) (Matches e c.args.text.now) c.args.from None (subst (λ n. IsFor e n) (sym c.self.view_is) for c.args.text.now)
     (found_none (regex_of c.self.inside.node) c.args.text.now c.args.from
-    (none_sought (regex_of c.self.inside.node) c.args.text.now c.args.from c.self.inside.sought _ c.deref.result.now c.if-from-eq0.true c.in-Words.is c.deref.ensures.value c.self.invariant.tells (c.lacks_words.ensures.some c.if-lacks_words.true) (c.lacks_words.ensures.none c.if-lacks_words.true)))
+    (none_filtered (regex_of c.self.inside.node) c.args.text.now c.args.from c.self.inside.prefilter _ c.deref.result.now c.if-from-eq0.true c.in-Words.is c.deref.ensures.value c.self.invariant.tells (c.lacks_words.ensures.some c.if-lacks_words.true) (c.lacks_words.ensures.none c.if-lacks_words.true)))
 
 pub returns-clause-answer : goal.returns-clause-answer
 returns-clause-answer c = λ e for.

@@ -2,12 +2,12 @@ use Rattle.std.proofs.Common.{◌↔◌, ℕ, Bool, false, IsTrue, List, Result,
 use Rattle.std.specs.declared.alloc.AllocError.{AllocError}
 use Rattle.pawk_ere.specs.Answers.{IsFor}
 use Rattle.pawk_pattern.specs.Pattern.{Pattern, Matches, HasMatch, NoneFrom}
-use Rattle.pawk_ere.specs.Hints.{IsSought}
-use Rattle.pawk_ere.specs.Regex.{Takes}
-use Rattle.pawk_ere.specs.Tree.{regex_of}
-use Rattle.pawk_ere.specs.declared.node.Node.{Node}
-use Rattle.pawk_ere.proofs.Leftmost.{match_map}
-use Rattle.pawk_ere.proofs.Needed.{none_sought}
+use Rattle.pawk_ere.specs.Words.{IsPrefilter}
+use Rattle.pawk_machine.specs.Regex.{Takes}
+use Rattle.pawk_machine.specs.Tree.{regex_of}
+use Rattle.pawk_machine.specs.declared.node.Node.{Node}
+use Rattle.pawk_machine.proofs.Leftmost.{match_map}
+use Rattle.pawk_ere.proofs.Needed.{none_filtered}
 use Rattle.pawk_ere.proofs.matcher.Matcher.is_match.Goals as goal
 
 answers : (r : Result Bool AllocError) (e : Pattern) (node : Node) (text : List ℕ) (start : ℕ) → IsFor e node → IfOk r (λ told. IsTrue told ↔ HasMatch (Takes (regex_of node) text) start) → IfOk r (λ told. IsTrue told ↔ HasMatch (Matches e text) start)
@@ -21,13 +21,13 @@ no_match R start none = (λ h. cc, λ m. absurd (none m.0 m.1 m.2 m.3))
 pub returns-in-Literal-clause-answer : goal.returns-in-Literal-clause-answer
 returns-in-Literal-clause-answer c = λ e for.
     match_map (Takes (regex_of c.self.inside.node) c.args.text.now) (Matches e c.args.text.now) c.args.from c.has_literal.result (subst (λ n. IsFor e n) (sym c.self.view_is) for c.args.text.now)
-    (c.has_literal.ensures (regex_of c.self.inside.node) (subst (IsSought (regex_of c.self.inside.node)) c.in-Literal.is c.self.invariant.tells))
+    (c.has_literal.ensures (regex_of c.self.inside.node) (subst (IsPrefilter (regex_of c.self.inside.node)) c.in-Literal.is c.self.invariant.tells))
 
 pub returns-then-lacks_words-clause-answer : goal.returns-then-lacks_words-clause-answer
 returns-then-lacks_words-clause-answer c = λ e for.
     match_map (Takes (regex_of c.self.inside.node) c.args.text.now) (Matches e c.args.text.now) c.args.from false (subst (λ n. IsFor e n) (sym c.self.view_is) for c.args.text.now)
     (no_match (Takes (regex_of c.self.inside.node) c.args.text.now) c.args.from
-    (none_sought (regex_of c.self.inside.node) c.args.text.now c.args.from c.self.inside.sought _ c.deref.result.now c.if-from-eq0.true c.in-Words.is c.deref.ensures.value c.self.invariant.tells (c.lacks_words.ensures.some c.if-lacks_words.true) (c.lacks_words.ensures.none c.if-lacks_words.true)))
+    (none_filtered (regex_of c.self.inside.node) c.args.text.now c.args.from c.self.inside.prefilter _ c.deref.result.now c.if-from-eq0.true c.in-Words.is c.deref.ensures.value c.self.invariant.tells (c.lacks_words.ensures.some c.if-lacks_words.true) (c.lacks_words.ensures.none c.if-lacks_words.true)))
 
 pub returns-clause-answer : goal.returns-clause-answer
 returns-clause-answer c = λ e for.

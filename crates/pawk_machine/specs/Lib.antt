@@ -1,0 +1,6 @@
+pub mod Regex
+pub mod Marks
+pub mod Tree
+pub mod Expand
+pub mod Hints
+pub mod Table

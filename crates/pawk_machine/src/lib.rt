@@ -1,0 +1,15 @@
+// A machine for extended regular expressions: sets of places, a table of those that were met, and walks over texts.
+#![tactic(auto)]
+
+mod expansion;
+mod hints;
+mod marks;
+mod node;
+mod scan;
+mod table;
+
+pub use crate::expansion::expand;
+pub use crate::hints::{first_byte, is_anchored};
+pub use crate::node::Node;
+pub use crate::scan::{has_match, search};
+pub use crate::table::{Table, begin};

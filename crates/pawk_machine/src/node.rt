@@ -1,0 +1,18 @@
+// Expressions as the matcher runs them.
+
+use pawk_pattern::ByteSet;
+
+/// An expression whose repetitions are copies, or turns without a bound.
+#[derive(Drop)]
+pub enum Node {
+    Empty,
+    Start,
+    End,
+    Bytes(Box<ByteSet>),
+    Sequence(Box<Node>, Box<Node>),
+    Either(Box<Node>, Box<Node>),
+    /// So many copies, one after the other.
+    Copies(u8, Box<Node>),
+    Star(Box<Node>),
+    Plus(Box<Node>),
+}
