@@ -13,5 +13,4 @@ pub use Rattle.pawk_merge.specs.Sums
 pub use Rattle.pawk_merge.specs.Results
 pub use Rattle.pawk_merge.specs.Merge
 pub use Rattle.pawk_shape.specs.Program
-pub use Rattle.pawk_shape.specs.Words
 pub use Rattle.pawk_shape.specs.Limits

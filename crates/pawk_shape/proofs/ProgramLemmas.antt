@@ -1,5 +1,5 @@
 -- The parts of a program's text.
-use Rattle.std.proofs.Common.{◌≡◌, ℕ, ◌+◌, ◌<◌, ◌≤◌, ◌*◌, ◌-◌, ◌||◌, inl, inr, suc, Bool, true, false, ◌&&◌, IsTrue, List, [], ◌∷◌, ◌++◌, codes, length, take, drop, get_or, map, refl, ap, sym, ◌∙◌, arith, rules}
+use Rattle.std.proofs.Common.{◌≡◌, ℕ, ◌+◌, ◌<◌, ◌≤◌, ◌*◌, ◌-◌, inl, inr, suc, Bool, true, false, ◌&&◌, IsTrue, List, [], ◌∷◌, ◌++◌, codes, length, take, drop, get_or, map, refl, ap, sym, ◌∙◌, arith, rules}
 use Rattle.std.specs.List.{prefix_len, list_all, take_while, Any, Contains}
 use Rattle.std.specs.Borrow.{Bor}
 use Rattle.std.proofs.lemmas.List.{get_or-map, length-map, get_or_default}
@@ -11,7 +11,8 @@ use Rattle.std.proofs.lemmas.Fmt.{digits_decimal, IsAscii-decimal}
 use Rattle.std.proofs.lemmas.Str.{IsUtf8-from_ascii}
 use Rattle.std.proofs.lemmas.Str.Parse.{IsNumeralModel, numerals_by_fold}
 use Rattle.std.proofs.lemmas.Bool.Decides.{eqb_tells}
-use Rattle.pawk_shape.specs.Program.{Shape, spelling, is_digit, is_letter, is_name_byte, is_word, not_space}
+use Rattle.pawk_shape.specs.Program.{Shape, spelling, is_letter, is_word, not_space}
+use Rattle.pawk_token.specs.Bytes.{is_name_byte}
 
 abbrev read_on : ℕ → List ℕ → ℕ
 read_on n [] = n
@@ -58,15 +59,17 @@ name_bytes (b ∷ s) h =
     let both = and_parts (is_name_byte b) (list_all is_name_byte s) h in
     rw (name_byte b both.0) (name_bytes s both.1)
 
-letter_is : (a b : Bool) → a ≡ true → (a || b) ≡ true
-letter_is true b h = refl
-letter_is false b h = absurd (cc)
+letter_byte : (b : ℕ) → is_letter b ≡ true → not_space b ≡ true
+letter_byte b h = elim (eqb_tells b 32) [
+  | inl y ↦ absurd (let e = rw y.1 at h in let f : false ≡ true = e in cc)
+  | inr f ↦ rw f.0 refl
+]
 
 pub word_is_free : (s : List ℕ) → IsTrue (is_word s) → list_all not_space s ≡ true
 word_is_free [] h = refl
 word_is_free (b ∷ s) h =
     let both = and_parts (is_letter b) (list_all is_name_byte s) h in
-    rw (name_byte b (letter_is (is_letter b) (is_digit b) both.0)) (name_bytes s both.1)
+    rw (letter_byte b both.0) (name_bytes s both.1)
 
 digits_free : (s : List ℕ) → all_ascii_digits s ≡ true → list_all not_space s ≡ true
 digits_free [] h = refl

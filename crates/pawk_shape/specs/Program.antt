@@ -1,9 +1,11 @@
 -- The one shape of program that is read so far: a field of each record is added to a variable, which is printed at the end.
-use Rattle.std.specs.Prelude.{◌≡◌, ℕ, ◌≤◌, ◌==◌, ◌||◌, ◌&&◌, nat_le, not, Bool, false, IsTrue, List, [], ◌∷◌, ◌++◌, codes}
+use Rattle.std.specs.Prelude.{◌≡◌, ℕ, ◌≤◌, ◌==◌, ◌||◌, ◌&&◌, not, Bool, false, IsTrue, List, [], ◌∷◌, ◌++◌, codes, Contains}
+use Rattle.std.specs.Char.{is_ascii_alphabetic}
 use Rattle.std.specs.List.{list_all}
 use Rattle.std.specs.Fmt.{decimal}
 use Rattle.pawk_shape.specs.Limits.{greatest_field}
-use Rattle.pawk_shape.specs.Words.{IsKept}
+use Rattle.pawk_token.specs.Bytes.{is_name_byte}
+use Rattle.pawk_token.specs.Vocabulary.{words}
 use Rattle.pawk_shape.specs.declared.program.SyntaxRefusal.{SyntaxRefusal}
 use Rattle.pawk_shape.specs.declared.program.SyntaxRefusal.TheVariants.{OutsideFirstPath, Memory}
 
@@ -12,23 +14,22 @@ pub record Shape : Type 0 where
   pub name : List ℕ
   pub field : ℕ
 
-abbrev pub is_digit : ℕ → Bool
-is_digit b = nat_le 48 b && nat_le b 57
-
 -- a letter of the portable character set, or an underscore
 abbrev pub is_letter : ℕ → Bool
-is_letter b = (nat_le 65 b && nat_le b 90) || ((nat_le 97 b && nat_le b 122) || (b == 95))
-
-abbrev pub is_name_byte : ℕ → Bool
-is_name_byte b = is_letter b || is_digit b
+is_letter b = is_ascii_alphabetic b || b == 95
 
 abbrev pub not_space : ℕ → Bool
 not_space b = not (b == 32)
 
--- a word as a name has it: a letter or an underscore, then letters, underscores and digits (POSIX.1-2017, awk, Lexical Conventions)
+-- a word as a name has it: a letter or an underscore, then letters, underscores and digits
+-- (POSIX.1-2017, awk, "Lexical Conventions")
 abbrev pub is_word : List ℕ → Bool
 is_word [] = false
 is_word (b ∷ s) = is_letter b && list_all is_name_byte s
+
+-- a word that the language keeps for itself
+unfoldable pub IsKept : List ℕ → Type 0
+IsKept word = Contains words word
 
 -- a name that a program may give to a variable of its own
 pub record IsName (name : List ℕ) : Type 0 where

@@ -5,8 +5,8 @@ ghost use Rattle.std.specs.List.{prefix_len, list_all, take_while};
 ghost use Rattle.std.specs.Fmt.{decimal};
 ghost use Rattle.pawk_shape.specs.declared.program.SyntaxRefusal.TheVariants.{Memory as SyntaxRefusal_Memory};
 ghost use Rattle.pawk_shape.specs.Limits.{greatest_field};
-ghost use Rattle.pawk_shape.specs.Program.{Shape, spelling, IsName, Spells, is_word, is_letter, is_name_byte, not_space, refusal_number};
-ghost use Rattle.pawk_shape.specs.Words.{IsKept};
+ghost use Rattle.pawk_shape.specs.Program.{Shape, spelling, IsKept, IsName, Spells, is_word, is_letter, not_space, refusal_number};
+ghost use Rattle.pawk_token.specs.Bytes.{is_name_byte};
 
 use itoa::Buffer;
 use memchr::memchr;
@@ -16,15 +16,15 @@ use std::marker::Model;
 /// The greatest index of a field.
 pub const GREATEST_FIELD: u16 = 32_767;
 
-/// The words that the language keeps for itself: reserved words, its functions, words of awk that pawk leaves out, and
-/// its variables.
+/// The words that the language keeps for itself, in the order of the list in `pawk_token`: `getline`, the reserved words,
+/// its functions, the words of awk that pawk leaves out, its variables.
 pub const KEPT: [&str; 57] = [
-    "BEGIN", "END", "function", "if", "else", "while", "do", "for", "in", "break", "continue",
-    "next", "nextfile", "exit", "return", "delete", "print", "printf", "getline", "length",
+    "getline", "BEGIN", "END", "function", "if", "else", "while", "for", "do", "in", "break",
+    "continue", "next", "nextfile", "exit", "return", "delete", "print", "printf", "length",
     "index", "substr", "split", "sub", "gsub", "match", "sprintf", "tolower", "toupper", "int",
-    "system", "close", "fflush", "sin", "cos", "atan2", "exp", "log", "sqrt", "rand", "srand",
-    "ENVIRON", "ARGC", "ARGV", "RS", "FS", "NR", "NF", "FNR", "FILENAME", "OFS", "ORS", "SUBSEP",
-    "RSTART", "RLENGTH", "CONVFMT", "OFMT",
+    "sin", "cos", "atan2", "exp", "log", "sqrt", "rand", "srand", "system", "close", "fflush",
+    "ENVIRON", "ARGC", "ARGV", "RS", "FS", "OFS", "ORS", "SUBSEP", "CONVFMT", "OFMT", "NR", "NF",
+    "FNR", "FILENAME", "RSTART", "RLENGTH",
 ];
 
 /// A program that adds field `field` of each record to the variable `name`, and prints it at the end.
@@ -129,8 +129,7 @@ fn is_letter_byte(b: u8) -> bool
 fn are_name_bytes(word: &[u8]) -> bool
     ensures { result ≡ list_all is_name_byte word.now }
 {
-    word.iter()
-        .all(|b| is_letter_byte(*b) || b.is_ascii_digit())
+    word.iter().all(|b| b.is_ascii_alphanumeric() || *b == b'_')
 }
 
 fn is_word_text(word: &[u8]) -> bool
