@@ -1,8 +1,8 @@
 -- What `bound_at` reads is a bound, and it reads each.
-use Rattle.std.proofs.Common.{◌≡◌, ◌↔◌, ℕ, ◌+◌, ◌-◌, ◌*◌, ◌<◌, ◌≤◌, ◌&&◌, ◌==◌, min, Bool, true, false, cond, leb, ltb, eqb-true, Option, Some, None, List, [], ◌∷◌, ◌++◌, refl, sym, ap, subst, ◌∙◌, arith, inl, inr, ⊎_elim}
+use Rattle.std.proofs.Common.{◌≡◌, ◌↔◌, ℕ, ◌+◌, ◌-◌, ◌*◌, ◌<◌, ◌≤◌, ◌&&◌, ◌==◌, min, Bool, true, false, cond, leb, eqb-true, Option, Some, None, List, [], ◌∷◌, ◌++◌, refl, sym, ap, subst, ◌∙◌, arith, inl, inr, ⊎_elim}
 use Rattle.std.specs.Char.{digit_value}
 use Rattle.std.specs.Str.Parse.{AllDigits, IsNumeral, digits_value, digits_value_after}
-use Rattle.std.proofs.lemmas.Bool.{and_parts, leb-true, le-leb, ltb-true, lt-ltb}
+use Rattle.std.proofs.lemmas.Bool.{and_parts, leb-true, le-leb}
 use Rattle.std.proofs.lemmas.Str.{digit_value_digit}
 use Rattle.std.proofs.lemmas.Str.Parse.{digit_from_value}
 use Rattle.pawk_pattern.specs.declared.token.Token.{Token}
@@ -12,13 +12,13 @@ use Rattle.pawk_pattern.specs.Numerals.{IsBoundOf, IsExact, IsFrom, IsBetween, I
 use Rattle.pawk_pattern.proofs.Reading.{some_inj}
 
 digit_true : (c : ℕ) → digit_value c < 10 → is_digit c ≡ true
-digit_true c h = let r = digit_from_value c h in rw (le-leb 48 c r.0, lt-ltb c 58 (omega (arith, r.1))) refl
+digit_true c h = let r = digit_from_value c h in rw (le-leb 48 c r.0, le-leb c 57 (omega (arith, r.1))) refl
 
 digit_is : (c : ℕ) → is_digit c ≡ true → (digit_value c < 10) × (digit_value c ≡ c - 48)
 digit_is c h =
-    let p = and_parts (leb 48 c) (ltb c 58) h in
+    let p = and_parts (leb 48 c) (leb c 57) h in
     let low = leb-true 48 c p.0 in
-    let high = ltb-true c 58 p.1 in
+    let high = leb-true c 57 p.1 in
     let v = digit_value_digit c (low, omega arith) in
     (omega arith, omega arith)
 

@@ -1,11 +1,12 @@
 -- Bounds of repetitions: XBD 9.4.6, EREs Matching Multiple Characters.
-use Rattle.std.specs.Prelude.{ℕ, ◌+◌, ◌-◌, ◌*◌, ◌==◌, ◌&&◌, min, Bool, Option, Some, None, List, [], ◌∷◌, nat_le, nat_lt, if◌then◌else◌}
+use Rattle.std.specs.Prelude.{ℕ, ◌+◌, ◌-◌, ◌*◌, ◌==◌, ◌&&◌, min, Bool, Option, Some, None, List, [], ◌∷◌, nat_le, if◌then◌else◌}
+use Rattle.std.specs.Char.{is_ascii_digit}
 use Rattle.pawk_pattern.specs.declared.token.Token.{Token}
 use Rattle.pawk_pattern.specs.declared.token.Token.TheVariants.{Times}
 use Rattle.pawk_pattern.specs.Limits.{greatest_bound}
 
 abbrev pub is_digit : ℕ → Bool
-is_digit c = nat_le 48 c && nat_lt c 58
+is_digit c = is_ascii_digit c
 
 -- the rest of a number, and what follows it. A number above the greatest bound counts as the next one above that bound
 abbrev pub number_more : ℕ → List ℕ → ℕ × List ℕ

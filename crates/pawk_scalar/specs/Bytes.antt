@@ -1,12 +1,13 @@
 -- The bytes that numerals are made of (POSIX.1-2017, awk, "Expressions in awk").
-use Rattle.std.specs.Prelude.{ℕ, ◌==◌, ◌||◌, ◌&&◌, nat_le, Bool}
+use Rattle.std.specs.Prelude.{ℕ, ◌==◌, ◌||◌, Bool}
+use Rattle.std.specs.Char.{is_ascii_digit}
 
 -- a space, a tab or a newline
 abbrev pub is_blank : ℕ → Bool
 is_blank b = (b == 32) || ((b == 9) || (b == 10))
 
 abbrev pub is_digit : ℕ → Bool
-is_digit b = nat_le 48 b && nat_le b 57
+is_digit b = is_ascii_digit b
 
 abbrev pub is_plus : ℕ → Bool
 is_plus b = b == 43
