@@ -1,6 +1,4 @@
-pub mod FieldsLemmas
-pub mod FieldWalkLemmas
-pub mod FieldsLawLemmas
+pub use Rattle.pawk_fields.proofs.FieldsLemmas
 pub mod ItemsLemmas
 pub mod PlanLemmas
 pub mod CutPlanLemmas

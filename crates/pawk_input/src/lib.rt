@@ -2,7 +2,6 @@
 //! records into chunks.
 #![tactic(auto)]
 
-mod blank_fields;
 mod cuts;
 mod cutting;
 mod draft;
@@ -11,7 +10,8 @@ mod item;
 mod plan;
 mod walk;
 
-pub use blank_fields::{BlankFields, count_fields, field, fields, fields_law};
+pub use pawk_fields::{BlankFields, FieldSeparator, SplitFields, append_ranges};
+pub use pawk_fields::{count_fields, field, fields, fields_law, pieces_law, split};
 pub use cutting::{Chunk, CutRefusal, MOST_CHUNKS};
 pub use files::{Input, LIMIT, TooLarge};
 pub use item::Item;

@@ -6,14 +6,14 @@ ghost use Rattle.std.specs.List.{prefix_len};
 ghost use Rattle.std.specs.Iterator.{YieldsFirstBy, item_count};
 ghost use Rattle.std.specs.Option.{option_copied};
 ghost use Rattle.pawk_value.specs.Bytes.{is_blank};
-ghost use Rattle.pawk_input.specs.Fields.{is_not_blank, blank_fields, FieldsLaw};
+ghost use Rattle.pawk_fields.specs.Fields.{is_not_blank, blank_fields, FieldsLaw};
 
 use pawk_value::is_blank_byte;
 use std::marker::Model;
 
 /// How many blanks the text begins with.
 #[inline]
-fn blank_length(text: &[u8]) -> usize
+pub(crate) fn blank_length(text: &[u8]) -> usize
     ensures value { result ≡ prefix_len is_blank text.now }
     ensures bound { result ≤ length text.now }
 {
@@ -35,7 +35,7 @@ fn past_blanks(text: &[u8]) -> &[u8]
 
 /// How many bytes that are no blanks the text begins with.
 #[inline]
-fn word_length(text: &[u8]) -> usize
+pub(crate) fn word_length(text: &[u8]) -> usize
     ensures value { result ≡ prefix_len is_not_blank text.now }
     ensures bound { result ≤ length text.now }
 {
@@ -113,7 +113,7 @@ pub struct BlankFields<'a> {
 
 impl<'a> Model for BlankFields<'a> {
     ghost use Rattle.std.specs.Prelude.{ℕ, List};
-    ghost use Rattle.pawk_input.specs.Fields.{blank_fields};
+    ghost use Rattle.pawk_fields.specs.Fields.{blank_fields};
 
     ghost Value = { List (List ℕ) };
 

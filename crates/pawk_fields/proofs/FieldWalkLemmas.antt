@@ -6,8 +6,8 @@ use Rattle.std.proofs.lemmas.List.{drop_all, drop_more, drop-drop, length-drop}
 use Rattle.std.proofs.lemmas.Option.{slice_get_past}
 use Rattle.std.specs.List.{prefix_len}
 use Rattle.pawk_value.specs.Bytes.{is_blank}
-use Rattle.pawk_input.specs.Fields.{is_not_blank, blank_fields}
-use Rattle.pawk_input.proofs.FieldsLemmas.{fields_of_word}
+use Rattle.pawk_fields.specs.Fields.{is_not_blank, blank_fields}
+use Rattle.pawk_fields.proofs.FieldsLemmas.{fields_of_word}
 
 -- the fields of what is left of a text; a word that has begun is none of them
 abbrev pub fields_left : Bool → List ℕ → List (List ℕ)

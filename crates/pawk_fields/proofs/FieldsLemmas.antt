@@ -2,7 +2,7 @@
 use Rattle.std.proofs.Common.{◌≡◌, ℕ, ◌+◌, ◌<◌, ◌≤◌, true, false, not, cond, List, [], ◌∷◌, length, take, drop, refl, ap, arith, sym, one-add}
 use Rattle.std.specs.List.{prefix_len, onto_first}
 use Rattle.pawk_value.specs.Bytes.{is_blank}
-use Rattle.pawk_input.specs.Fields.{is_not_blank, begins_word, blank_fields}
+use Rattle.pawk_fields.specs.Fields.{is_not_blank, begins_word, blank_fields}
 
 -- blanks in front change no field
 pub fields_past_blanks : (s : List ℕ) → blank_fields (drop (prefix_len is_blank s) s) ≡ blank_fields s

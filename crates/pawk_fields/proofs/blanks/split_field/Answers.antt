@@ -2,9 +2,9 @@ use Rattle.std.proofs.Common.{◌≡◌, ◌<◌, length, ap, sym, ◌∙◌, ru
 use Rattle.std.proofs.lemmas.List.{nil_from_length}
 use Rattle.std.specs.List.{prefix_len}
 use Rattle.pawk_value.specs.Bytes.{is_blank}
-use Rattle.pawk_input.specs.Fields.{blank_fields}
-use Rattle.pawk_input.proofs.FieldsLemmas.{fields_past_blanks, fields_of_some, no_blanks_left}
-use Rattle.pawk_input.proofs.blank_fields.split_field.Goals as goal
+use Rattle.pawk_fields.specs.Fields.{blank_fields}
+use Rattle.pawk_fields.proofs.FieldsLemmas.{fields_past_blanks, fields_of_some, no_blanks_left}
+use Rattle.pawk_fields.proofs.blanks.split_field.Goals as goal
 
 pub returns-then-is_empty : goal.returns-then-is_empty
 returns-then-is_empty c =

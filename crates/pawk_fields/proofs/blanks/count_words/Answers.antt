@@ -1,6 +1,6 @@
 use Rattle.std.proofs.Common.{arith}
-use Rattle.pawk_input.proofs.FieldWalkLemmas.{all_begun, count_on, one_at_most}
-use Rattle.pawk_input.proofs.blank_fields.count_words.Goals as goal
+use Rattle.pawk_fields.proofs.FieldWalkLemmas.{all_begun, count_on, one_at_most}
+use Rattle.pawk_fields.proofs.blanks.count_words.Goals as goal
 
 pub loop-byte-preserved : goal.loop-byte-preserved
 loop-byte-preserved c = record {

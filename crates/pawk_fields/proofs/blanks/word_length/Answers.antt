@@ -1,7 +1,7 @@
 use Rattle.std.proofs.Common.{sym, arith, rules, length, tests}
 use Rattle.std.proofs.lemmas.List.Sums.{prefix_len_is}
-use Rattle.pawk_input.specs.Fields.{is_not_blank}
-use Rattle.pawk_input.proofs.blank_fields.word_length.Goals as goal
+use Rattle.pawk_fields.specs.Fields.{is_not_blank}
+use Rattle.pawk_fields.proofs.blanks.word_length.Goals as goal
 
 pub returns-then-is_blank_byte-clause-value : goal.returns-then-is_blank_byte-clause-value
 returns-then-is_blank_byte-clause-value c =

@@ -3,7 +3,7 @@ use Rattle.std.proofs.Common.{◌≡◌, ◌≢◌, ℕ, true, false, not, cond,
 use Rattle.std.proofs.lemmas.Bool.{false≢true}
 use Rattle.std.specs.List.{onto_first}
 use Rattle.pawk_value.specs.Bytes.{is_blank}
-use Rattle.pawk_input.specs.Fields.{AllBlank, NoBlank, EndsWord, IsPartedInto, begins_word, blank_fields, FieldsLaw}
+use Rattle.pawk_fields.specs.Fields.{AllBlank, NoBlank, EndsWord, IsPartedInto, begins_word, blank_fields, FieldsLaw}
 
 -- ---- uniqueness
 

@@ -1,7 +1,7 @@
 use Rattle.std.proofs.Common.{◌≡◌, ◌+◌, ◌≤◌, drop, length}
-use Rattle.pawk_input.specs.Fields.{blank_fields}
-use Rattle.pawk_input.proofs.FieldWalkLemmas.{fields_left}
-use Rattle.pawk_input.proofs.blank_fields.count_words.Given as goal
+use Rattle.pawk_fields.specs.Fields.{blank_fields}
+use Rattle.pawk_fields.proofs.FieldWalkLemmas.{fields_left}
+use Rattle.pawk_fields.proofs.blanks.count_words.Given as goal
 
 abbrev pub invariant-loop-byte : goal.invariant-loop-byte
 invariant-loop-byte l = record {

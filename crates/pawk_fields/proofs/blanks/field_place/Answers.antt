@@ -1,7 +1,7 @@
 use Rattle.std.proofs.Common.{◌≡◌, ◌-◌, arith}
-use Rattle.pawk_input.specs.Fields.{blank_fields}
-use Rattle.pawk_input.proofs.FieldWalkLemmas.{field_begun, left_on, none_later, one_at_most}
-use Rattle.pawk_input.proofs.blank_fields.field_place.Goals as goal
+use Rattle.pawk_fields.specs.Fields.{blank_fields}
+use Rattle.pawk_fields.proofs.FieldWalkLemmas.{field_begun, left_on, none_later, one_at_most}
+use Rattle.pawk_fields.proofs.blanks.field_place.Goals as goal
 
 pub returns-then-count-k : goal.returns-then-count-k
 returns-then-count-k c =

@@ -1,7 +1,7 @@
 use Rattle.std.proofs.Common.{sym, arith, rules, length, tests}
 use Rattle.std.proofs.lemmas.List.Sums.{prefix_len_is}
 use Rattle.pawk_value.specs.Bytes.{is_blank}
-use Rattle.pawk_input.proofs.blank_fields.blank_length.Goals as goal
+use Rattle.pawk_fields.proofs.blanks.blank_length.Goals as goal
 
 pub returns-then-not-is_blank_byte-clause-value : goal.returns-then-not-is_blank_byte-clause-value
 returns-then-not-is_blank_byte-clause-value c =

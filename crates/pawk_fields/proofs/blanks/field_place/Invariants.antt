@@ -1,7 +1,7 @@
 use Rattle.std.proofs.Common.{◌≡◌, ◌<◌, drop}
-use Rattle.pawk_input.specs.Fields.{blank_fields}
-use Rattle.pawk_input.proofs.FieldWalkLemmas.{fields_left}
-use Rattle.pawk_input.proofs.blank_fields.field_place.Given as goal
+use Rattle.pawk_fields.specs.Fields.{blank_fields}
+use Rattle.pawk_fields.proofs.FieldWalkLemmas.{fields_left}
+use Rattle.pawk_fields.proofs.blanks.field_place.Given as goal
 
 abbrev pub invariant-loop-place : goal.invariant-loop-place
 invariant-loop-place l = record {
