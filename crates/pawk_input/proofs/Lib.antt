@@ -4,3 +4,4 @@ pub mod PlanLemmas
 pub mod CutPlanLemmas
 pub mod DraftLemmas
 pub mod SizeLemmas
+pub mod CountLemmas

@@ -8,3 +8,5 @@ pub use Rattle.pawk_fields.specs.Fields
 pub use Rattle.pawk_fields.specs.Splits
 pub use Rattle.pawk_fields.specs.FieldSeparator
 pub mod Plan
+pub mod Counts
+pub mod Passed

@@ -2,6 +2,7 @@
 //! records into chunks.
 #![tactic(auto)]
 
+mod counts;
 mod cuts;
 mod cutting;
 mod draft;
@@ -10,11 +11,14 @@ mod item;
 mod plan;
 mod walk;
 
-pub use pawk_fields::{BlankFields, FieldSeparator, SplitFields, append_ranges};
-pub use pawk_fields::{count_fields, field, fields, fields_law, pieces_law, split};
+pub use counts::count_block;
 pub use cutting::{Chunk, CutRefusal, MOST_CHUNKS};
 pub use files::{Input, LIMIT, TooLarge};
 pub use item::Item;
+pub use pawk_fields::{
+    BlankFields, FieldSeparator, SplitFields, append_ranges, count_fields, field, fields,
+    fields_law, pieces_law, split,
+};
 pub use pawk_records::{begins_law, records_law};
 pub use plan::Plan;
 pub use walk::Records;
