@@ -1,5 +1,5 @@
 -- Counts of the blocks of a file.
-use Rattle.std.proofs.Common.{◌≡◌, ◌⊎◌, inl, inr, ℕ, zero, suc, ◌+◌, ◌-◌, ◌<◌, ◌≤◌, true, false, ltb, min, List, [], ◌∷◌, ◌++◌, length, take, drop, get_or, refl, ap, arith, sym, ◌∙◌, length-append}
+use Rattle.std.proofs.Common.{◌≡◌, ◌⊎◌, inl, inr, ℕ, zero, suc, ◌+◌, ◌-◌, ◌<◌, ◌≤◌, true, false, ltb, min, List, [], ◌∷◌, ◌++◌, length, take, drop, get_or, refl, ap, arith, sym, ◌∙◌, length-append, append_assoc}
 use Rattle.std.proofs.lemmas.Bool.Decides.{leb_tells}
 use Rattle.std.proofs.lemmas.List.{drop_more}
 use Rattle.pawk_records.specs.Records.{records_by}
@@ -146,3 +146,20 @@ module _ (rs : List ℕ) (block : ℕ) (some : 0 < block) (files : List File) (f
   counts_later =
       ap (drop number) parts ∙ ap (λ n. drop n (counts_left rs block bytes 0 ++ block_counts rs block (drop (file + 1) files))) (sym long)
       ∙ back_of (counts_left rs block bytes 0) (block_counts rs block (drop (file + 1) files))
+
+-- a block's count, and those after it, where the block ends at the file's end at the latest
+pub counts_to : (rs : List ℕ) (block : ℕ) (some : 0 < block) (bytes : List ℕ) (from end : ℕ) → from < length bytes → end ≡ min (from + block) (length bytes)
+    → counts_left rs block bytes from ≡ length (begins_within rs bytes from end) ∷ counts_left rs block bytes end
+counts_to rs block some bytes from end lt is =
+    counts_step rs block some bytes from lt ∙ ap (λ e. length (begins_within rs bytes from e) ∷ counts_left rs block bytes (from + block)) (sym is)
+    ∙ ap (λ l. length (begins_within rs bytes from end) ∷ l) (elim (leb_tells (from + block) (length bytes)) [
+      | inl y ↦ ap (counts_left rs block bytes) (let e : from + block ≡ end = omega (arith, y.1, is) in e)
+      | inr n ↦ (let a : length bytes - (from + block) ≡ 0 = omega (arith, n.1) in
+          let b : length bytes - end ≡ 0 = omega (arith, n.1, is) in
+          ap (counts_along rs block bytes (from + block)) a ∙ sym (ap (counts_along rs block bytes end) b))
+    ])
+
+-- one more count was moved from what is to come to what is there
+pub count_moved : (old new all more rest : List ℕ) (n : ℕ) → old ++ rest ≡ all → rest ≡ n ∷ more → new ≡ old ++ n ∷ [] → new ++ more ≡ all
+count_moved old new all more rest n is first added =
+    ap (λ l. l ++ more) added ∙ append_assoc old (n ∷ []) more ∙ ap (λ l. old ++ l) (sym first) ∙ is

@@ -1,12 +1,12 @@
 //! Plans by size out of the counts of records of blocks.
 
-ghost use Rattle.std.specs.Prelude.{◌≡◌, ◌+◌, ◌<◌, ◌≤◌, ◌++◌, length, take, vec_len, OnOk, IfErr};
+ghost use Rattle.std.specs.Prelude.{◌≡◌, ◌+◌, ◌<◌, ◌≤◌, ◌++◌, length, take, vec_len, OnOk, IfErr, IfOk};
 ghost use Rattle.pawk_records.specs.Records.{records_by};
 ghost use Rattle.pawk_records.specs.Begins.{begins_by, begins_within};
 ghost use Rattle.pawk_records.specs.Separator.{rs_of};
 ghost use Rattle.pawk_input.specs.Limits.{most_bytes, most_chunks};
 ghost use Rattle.pawk_input.specs.Input.{file_at};
-ghost use Rattle.pawk_input.specs.Counts.{blocks_of, counts_left};
+ghost use Rattle.pawk_input.specs.Counts.{block_counts, blocks_of, counts_left};
 ghost use Rattle.pawk_input.specs.Passed.{IsPassed};
 ghost use Rattle.pawk_input.specs.Plan.{RefusesMany, chunks_at, places_by_size};
 
@@ -14,6 +14,7 @@ use crate::cutting::{Chunk, CutRefusal};
 use crate::draft::{Draft, add_chunk, begin_or_end};
 use crate::files::Input;
 use pawk_records::Separator;
+use std::alloc::{AllocError, Global};
 use std::ops::Range;
 
 /// How many records of a file begin in a range of it, in bytes counted from 0. Takes no memory.
@@ -28,6 +29,51 @@ pub fn count_block(input: &Input, rs: &[u8], file: usize, range: Range<usize>) -
         ≡ length (begins_within rs.now (file_at input.now file).bytes range.start range.end) }
 {
     Separator::of(rs).count_begins(input.bytes(file), range.start, range.end) as u64
+}
+
+/// Appends how many records begin in each block of a file.
+fn push_counts(
+    counts: &mut Vec<u64>,
+    input: &Input,
+    rs: &[u8],
+    file: usize,
+    block: usize,
+) -> Result<(), AllocError>
+    requires separator { length rs.now ≤ 1 }
+    requires file { file < length input.now }
+    requires some { 0 < block }
+    ensures { OnOk result (counts.new.items ≡ counts.old.items
+        ++ counts_left rs.now block (file_at input.now file).bytes 0) }
+{
+    let size = input.size(file);
+    let mut from = 0;
+    while from < size {
+        let end = from.saturating_add(block).min(size);
+        counts.push(count_block(input, rs, file, from..end))?;
+        from = end;
+    }
+    Ok(())
+}
+
+/// How many records begin in each block of `block` bytes of each file, the last block of a file
+/// shorter, file by file: what `Plan::by_counts` takes.
+///
+/// `rs` holds the byte at which records end, or none for paragraphs.
+pub fn count_blocks(
+    alloc: Global,
+    input: &Input,
+    rs: &[u8],
+    block: usize,
+) -> Result<Vec<u64>, AllocError>
+    requires separator { length rs.now ≤ 1 }
+    requires some { 0 < block }
+    ensures { IfOk result (λ counts. counts.items ≡ block_counts rs.now block input.now) }
+{
+    let mut counts = Vec::new(alloc);
+    for file in 0..input.files() {
+        push_counts(&mut counts, input, rs, file, block)?;
+    }
+    Ok(counts)
 }
 
 /// The blocks of a file that were passed: where the next one begins, how many records begin before

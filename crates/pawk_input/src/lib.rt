@@ -11,7 +11,7 @@ mod item;
 mod plan;
 mod walk;
 
-pub use counts::count_block;
+pub use counts::{count_block, count_blocks};
 pub use cutting::{Chunk, CutRefusal, MOST_CHUNKS};
 pub use files::{Input, LIMIT, TooLarge};
 pub use item::Item;
