@@ -1,14 +1,18 @@
 -- The first field of a rest of a record, and those after it.
-use Rattle.std.proofs.Common.{◌≡◌, inl, inr, ℕ, zero, suc, ◌+◌, ◌-◌, ◌<◌, ◌≤◌, Bool, true, false, cond, List, [], ◌∷◌, Option, None, Some, length, drop, get_or, refl, ap, arith, sym, ◌∙◌}
+use Rattle.std.proofs.Common.{◌≡◌, inl, inr, ℕ, zero, suc, ◌+◌, ◌-◌, ◌<◌, ◌≤◌, Bool, true, false, cond, List, [], ◌∷◌, Option, None, Some, length, map, drop, get_or, refl, ap, arith, sym, ◌∙◌, ◌++◌, append_assoc, take, ◌||◌, eqb}
 use Rattle.std.proofs.lemmas.Bool.{false≢true}
 use Rattle.std.proofs.lemmas.Bool.Decides.{leb_tells}
-use Rattle.std.proofs.lemmas.List.{drop-drop, drop_all, get_or-drop, length-drop}
-use Rattle.std.specs.List.{prefix_len}
-use Rattle.memchr.specs.Find.{Passes, Nowhere, NoneBefore}
+use Rattle.std.proofs.lemmas.List.{append-nil, take_more, drop-drop, drop_all, get_or-drop, length-drop}
+use Rattle.std.proofs.lemmas.List.Sums.{sum_by-cons}
+use Rattle.std.specs.List.{count_by, prefix_len}
+use Rattle.memchr.specs.Find.{is_byte2, Passes, Nowhere, NoneBefore}
 use Rattle.pawk_value.specs.Bytes.{is_blank}
-use Rattle.pawk_fields.specs.Fields.{is_not_blank}
-use Rattle.pawk_fields.proofs.FieldsLemmas.{no_blanks_left}
-use Rattle.pawk_fields.specs.Splits.{pieces_from, words_from, NonePass, ArePieces, PiecesLaw}
+use Rattle.pawk_fields.specs.Fields.{is_not_blank, blank_fields}
+use Rattle.pawk_fields.proofs.FieldsLemmas.{fields_of_word, no_blanks_left}
+use Rattle.pawk_fields.specs.Splits.{bytes_of, separates, pieces_from, words_from, NonePass, ArePieces, PiecesLaw}
+use Rattle.pawk_fields.specs.FieldSeparator.{fields_by, ranges_by}
+use Rattle.pawk_fields.specs.declared.separator.FieldSeparator.{FieldSeparator}
+use Rattle.pawk_fields.specs.declared.separator.FieldSeparator.TheVariants.{Blanks, Byte, ByteOrNewline}
 
 -- ---- pieces
 
@@ -185,3 +189,132 @@ module _ (s : List ℕ) (from n : ℕ) (blanks : n ≡ prefix_len is_blank (drop
 abbrev pub left_of : Option ℕ → ℕ → ℕ
 left_of None n = 0
 left_of (Some p) n = n + 1 - p
+
+-- ---- how many there are
+
+length-pieces_from : (test : ℕ → Bool) (t : List ℕ) (start at : ℕ) → length (pieces_from test start at t) ≤ length t + 1
+length-pieces_from test [] start at = omega arith
+length-pieces_from test (b ∷ t) start at =
+    let a = length-pieces_from test t (at + 1) (at + 1) in
+    let c = length-pieces_from test t start (at + 1) in
+    elim (test b) as (λ v. length (cond v ((start, at) ∷ pieces_from test (at + 1) (at + 1) t) (pieces_from test start (at + 1) t)) ≤ length (b ∷ t) + 1) [
+      | true ↦ omega arith
+      | false ↦ omega arith
+    ]
+
+length-words_from : (t : List ℕ) (at : ℕ) → (length (words_from None at t) ≤ length t) × ((start : ℕ) → length (words_from (Some start) at t) ≤ length t + 1)
+length-words_from [] at = (omega arith, λ start. omega arith)
+length-words_from (b ∷ t) at =
+    let later = length-words_from t (at + 1) in
+    let none = later.0 in
+    let some = later.1 at in (
+      elim (is_blank b) as (λ v. length (cond v (words_from None (at + 1) t) (words_from (Some at) (at + 1) t)) ≤ length (b ∷ t)) [ true ↦ omega arith | false ↦ omega arith ],
+      λ start. (let on = later.1 start in elim (is_blank b) as (λ v. length (cond v ((start, at) ∷ words_from None (at + 1) t) (words_from (Some start) (at + 1) t)) ≤ length (b ∷ t) + 1) [ true ↦ omega arith | false ↦ omega arith ]),
+    )
+
+length-map_of : (s : List ℕ) (l : List (ℕ × ℕ)) → length (map (bytes_of s) l) ≡ length l
+length-map_of s [] = refl
+length-map_of s (x ∷ l) = omega (arith, length-map_of s l)
+
+length-ranges_by : (separator : FieldSeparator) (s : List ℕ) → length (ranges_by separator s) ≤ length s + 1
+length-ranges_by separator [] = omega arith
+length-ranges_by Blanks (b ∷ s) = omega (arith, (length-words_from (b ∷ s) 0).0)
+length-ranges_by (Byte c) (b ∷ s) = length-pieces_from (separates c false) (b ∷ s) 0 0
+length-ranges_by (ByteOrNewline c) (b ∷ s) = length-pieces_from (separates c true) (b ∷ s) 0 0
+
+-- no more fields than bytes, and one
+pub length-fields_by : (separator : FieldSeparator) (s : List ℕ) → length (fields_by separator s) ≤ length s + 1
+length-fields_by separator s = omega (arith, length-map_of s (ranges_by separator s), length-ranges_by separator s)
+
+-- ---- the words are the fields that blanks separate
+
+module _ (s : List ℕ) where
+  here : (at b : ℕ) (t : List ℕ) → drop at s ≡ b ∷ t → get_or s at 0 ≡ b
+  here at b t left = ap (λ k. get_or s k 0) (let z : at ≡ at + 0 = omega arith in z) ∙ sym (get_or-drop at s 0 0) ∙ ap (λ l. get_or l 0 0) left
+
+  there : (at b : ℕ) (t : List ℕ) → drop at s ≡ b ∷ t → drop (at + 1) s ≡ t
+  there at b t left = sym (drop-drop 1 at s) ∙ ap (drop 1) left
+
+  -- a word that goes on by one byte
+  one_more : (start at b : ℕ) (t : List ℕ) → start ≤ at → drop at s ≡ b ∷ t → bytes_of s (start, at + 1) ≡ bytes_of s (start, at) ++ b ∷ []
+  one_more start at b t le left =
+      let n : at + 1 - start ≡ at - start + 1 = omega arith in
+      let lt : at - start < length (drop start s) = omega (arith, length-drop start s, length-drop at s, ap length left) in
+      let read : get_or (drop start s) (at - start) 0 ≡ b = get_or-drop start s (at - start) 0 ∙ ap (λ k. get_or s k 0) (let e : start + (at - start) ≡ at = omega arith in e) ∙ here at b t left in
+      ap (λ k. take k (drop start s)) n ∙ take_more (drop start s) (at - start) 0 lt ∙ ap (λ x. take (at - start) (drop start s) ++ x ∷ []) read
+
+  first_of_word : (b : ℕ) (t : List ℕ) → is_blank b ≡ false
+      → take (prefix_len is_not_blank (b ∷ t)) (b ∷ t) ∷ blank_fields (drop (prefix_len is_not_blank (b ∷ t)) (b ∷ t)) ≡ (b ∷ take (prefix_len is_not_blank t) t) ∷ blank_fields (drop (prefix_len is_not_blank t) t)
+  first_of_word b t e = let n : 1 + prefix_len is_not_blank t ≡ suc (prefix_len is_not_blank t) = omega arith in rw (e, n) refl
+
+  -- what is left of a word, and the fields after it
+  abbrev Goes : ℕ → ℕ → List ℕ → Type 0
+  Goes start at t =
+      map (bytes_of s) (words_from (Some start) at t)
+      ≡ (bytes_of s (start, at) ++ take (prefix_len is_not_blank t) t) ∷ blank_fields (drop (prefix_len is_not_blank t) t)
+
+  words_are : (t : List ℕ) (at : ℕ) → drop at s ≡ t → (map (bytes_of s) (words_from None at t) ≡ blank_fields t) × ((start : ℕ) → start ≤ at → Goes start at t)
+  words_are [] at left = (refl, λ start le. ap (λ l. l ∷ []) (sym (append-nil (bytes_of s (start, at)))))
+  words_are (b ∷ t) at left =
+      let on = there at b t left in
+      let later = words_are t (at + 1) on in
+      let one : bytes_of s (at, at + 1) ≡ b ∷ [] = one_more at at b t (omega arith) left ∙ ap (λ k. take k (drop at s) ++ b ∷ []) (let z : at - at ≡ 0 = omega arith in z) in
+      let n : 1 + prefix_len is_not_blank t ≡ suc (prefix_len is_not_blank t) = omega arith in
+      by_first (is_blank b) refl later.0 later.1 one n
+    where
+      by_first : (v : Bool) → is_blank b ≡ v → map (bytes_of s) (words_from None (at + 1) t) ≡ blank_fields t → ((start : ℕ) → start ≤ at + 1 → Goes start (at + 1) t)
+          → bytes_of s (at, at + 1) ≡ b ∷ [] → 1 + prefix_len is_not_blank t ≡ suc (prefix_len is_not_blank t)
+          → (map (bytes_of s) (words_from None at (b ∷ t)) ≡ blank_fields (b ∷ t)) × ((start : ℕ) → start ≤ at → Goes start at (b ∷ t))
+      by_first true e none some one n = (
+        rw e none,
+        λ start le. rw e (rw e (ap (λ l. bytes_of s (start, at) ∷ l) none ∙ ap (λ l. l ∷ blank_fields t) (sym (append-nil (bytes_of s (start, at)))))),
+      )
+      by_first false e none some one n = (
+        rw e (some at (omega arith) ∙ ap (λ l. (l ++ take (prefix_len is_not_blank t) t) ∷ blank_fields (drop (prefix_len is_not_blank t) t)) one)
+            ∙ sym (fields_of_word b t e ∙ first_of_word b t e),
+        λ start le. rw (e, n) (some start (omega arith) ∙ ap (λ l. l ∷ blank_fields (drop (prefix_len is_not_blank t) t)) (ap (λ l. l ++ take (prefix_len is_not_blank t) t) (one_more start at b t le left) ∙ append_assoc (bytes_of s (start, at)) (b ∷ []) (take (prefix_len is_not_blank t) t))),
+      )
+
+pub fields_by_blanks : (s : List ℕ) → fields_by Blanks s ≡ blank_fields s
+fields_by_blanks [] = refl
+fields_by_blanks (b ∷ s) = (words_are (b ∷ s) (b ∷ s) 0 refl).0
+
+-- ---- counted
+
+-- one piece more than bytes that separate
+pub pieces_count : (test : ℕ → Bool) (t : List ℕ) (start at : ℕ) → length (pieces_from test start at t) ≡ count_by test t + 1
+pieces_count test [] start at = refl
+pieces_count test (b ∷ t) start at =
+    let counts = sum_by-cons (λ y. cond (test y) 1 0) b t in
+    let a = pieces_count test t (at + 1) (at + 1) in
+    let c = pieces_count test t start (at + 1) in
+    let n : count_by test (b ∷ t) ≡ cond (test b) 1 0 + count_by test t = counts in
+    elim (test b) as (λ v. count_by test (b ∷ t) ≡ cond v 1 0 + count_by test t → length (cond v ((start, at) ∷ pieces_from test (at + 1) (at + 1) t) (pieces_from test start (at + 1) t)) ≡ count_by test (b ∷ t) + 1) [
+      | true ↦ (λ h. omega arith)
+      | false ↦ (λ h. omega arith)
+    ] n
+
+count_same : (f g : ℕ → Bool) (t : List ℕ) → ((b : ℕ) → f b ≡ g b) → count_by f t ≡ count_by g t
+count_same f g [] h = refl
+count_same f g (b ∷ t) h =
+    let head : cond (f b) 1 0 ≡ cond (g b) 1 0 = ap (λ v. cond v 1 0) (h b) in
+    sum_by-cons (λ y. cond (f y) 1 0) b t
+    ∙ ap (λ n. n + count_by f t) head ∙ ap (λ n. cond (g b) 1 0 + n) (count_same f g t h)
+    ∙ sym (sum_by-cons (λ y. cond (g y) 1 0) b t)
+
+pub count_byte_pieces : (b : ℕ) (s : List ℕ) → 0 < length s → length (ranges_by (Byte b) s) ≡ count_by (is_byte2 b b) s + 1
+count_byte_pieces b [] some = absurd (omega arith)
+count_byte_pieces b (x ∷ s) some =
+    pieces_count (separates b false) (x ∷ s) 0 0
+    ∙ ap (λ n. n + 1) (count_same (separates b false) (is_byte2 b b) (x ∷ s) (λ y. twice (eqb y b)))
+  where
+    twice : (v : Bool) → (v || false) ≡ (v || v)
+    twice true = refl
+    twice false = refl
+
+pub count_line_pieces : (b : ℕ) (s : List ℕ) → 0 < length s → length (ranges_by (ByteOrNewline b) s) ≡ count_by (is_byte2 b 10) s + 1
+count_line_pieces b [] some = absurd (omega arith)
+count_line_pieces b (x ∷ s) some = pieces_count (separates b true) (x ∷ s) 0 0
+
+pub count_word_ranges : (s : List ℕ) → length (ranges_by Blanks s) ≡ length (blank_fields s)
+count_word_ranges s = sym (length-map_of s (ranges_by Blanks s)) ∙ ap length (fields_by_blanks s)

@@ -1,7 +1,8 @@
 //! Walks over fields and lists of their ranges.
 
-ghost use Rattle.std.specs.Prelude.{◌≡◌, ◌++◌, map, OnErr, OnOk};
+ghost use Rattle.std.specs.Prelude.{◌≡◌, ◌+◌, ◌≤◌, ◌++◌, length, map, OnErr, OnOk};
 ghost use Rattle.std.specs.Iterator.{YieldsFirstBy, item_count};
+ghost use Rattle.pawk_fields.specs.Fields.{blank_fields};
 ghost use Rattle.pawk_fields.specs.Splits.{PiecesLaw, separates};
 ghost use Rattle.pawk_fields.specs.FieldSeparator.{fields_by, range_of, ranges_by};
 
@@ -34,7 +35,8 @@ impl<'a> SplitFields<'a> {
     /// The fields of this record.
     #[inline]
     fn of(separator: FieldSeparator, text: &'a [u8]) -> Self
-        ensures { result ≡ fields_by separator text.entry.now }
+        ensures value { result ≡ fields_by separator text.entry.now }
+        ensures few { length result ≤ length text.entry.now + 1 }
     {
         SplitFields {
             separator,
@@ -63,7 +65,8 @@ impl<'a> Iterator for SplitFields<'a> {
 /// The fields of a record, one after the other. An empty record has none. Takes no memory.
 #[inline]
 pub fn split(separator: FieldSeparator, text: &[u8]) -> SplitFields<'_>
-    ensures { result ≡ fields_by separator text.now }
+    ensures value { result ≡ fields_by separator text.now }
+    ensures few { length result ≤ length text.now + 1 }
 {
     SplitFields::of(separator, text)
 }
@@ -103,5 +106,12 @@ pub fn pieces_law(byte: u8, paragraph: bool, text: &[u8])
 {
     let _ = byte;
     let _ = paragraph;
+    let _ = text;
+}
+
+/// The fields between blanks that a walk hands out are those of `fields`.
+pub fn blanks_law(text: &[u8])
+    ensures { fields_by FieldSeparator.Blanks text.now ≡ blank_fields text.now }
+{
     let _ = text;
 }

@@ -2,9 +2,11 @@
 #![tactic(auto)]
 
 mod blanks;
+mod count;
 mod field_walk;
 mod separator;
 
 pub use blanks::{BlankFields, count_fields, field, fields, fields_law};
-pub use field_walk::{SplitFields, append_ranges, pieces_law, split};
+pub use count::count_split;
+pub use field_walk::{SplitFields, append_ranges, blanks_law, pieces_law, split};
 pub use separator::FieldSeparator;
