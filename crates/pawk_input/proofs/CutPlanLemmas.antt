@@ -1,6 +1,6 @@
 -- Cuts that are not at fault rise in each file, and a file's cuts are the first ones left.
-use Rattle.std.proofs.Common.{◌≡◌, ◌≢◌, ◌⊎◌, inl, inr, ℕ, zero, suc, ◌+◌, ◌-◌, ◌<◌, ◌≤◌, Bool, true, false, cond, ◌||◌, ◌&&◌, eqb, leb, ltb, List, [], ◌∷◌, map, one-add, length, take, drop, get_or, Option, None, Some, refl, ap, arith, sym, ◌∙◌, subst}
-use Rattle.std.proofs.lemmas.Bool.{eqb-true, false≢true}
+use Rattle.std.proofs.Common.{◌≡◌, ◌≢◌, ◌⊎◌, inl, inr, ℕ, zero, suc, ◌+◌, ◌-◌, ◌<◌, ◌≤◌, Bool, true, false, cond, ◌||◌, ◌&&◌, eqb, leb, ltb, List, [], ◌∷◌, map, one-add, length, take, drop, Option, None, Some, refl, ap, arith, sym, ◌∙◌, subst}
+use Rattle.std.proofs.lemmas.Bool.{false≢true}
 use Rattle.std.proofs.lemmas.Bool.Decides.{eqb_tells, leb_tells, nat_tests}
 use Rattle.std.specs.List.{prefix_len, list_any}
 use Rattle.pawk_input.specs.declared.cutting.CutRefusal.{CutRefusal}
@@ -8,7 +8,6 @@ use Rattle.pawk_input.specs.declared.cutting.CutRefusal.TheVariants.{NoRecord, N
 use Rattle.pawk_records.specs.Begins.{BeginsAt, begins_at, begins_by, places_where}
 use Rattle.pawk_input.specs.Input.{File, file_at}
 use Rattle.pawk_input.specs.Plan.{IsBeginOrEnd, Rises, RisesFrom, begins_record, is_after, cut_fault, cut_fault_from, cut_places, offsets}
-use Rattle.memchr.specs.Find.{Nowhere}
 use Rattle.pawk_input.proofs.PlanLemmas.{Picked, first_place}
 use Rattle.pawk_input.proofs.SizeLemmas.{begins_first}
 

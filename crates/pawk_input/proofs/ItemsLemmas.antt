@@ -1,5 +1,5 @@
 -- Numbered records.
-use Rattle.std.proofs.Common.{◌≡◌, ℕ, ◌+◌, ◌≤◌, List, [], ◌∷◌, ◌++◌, length, refl, ap, arith, ◌∙◌, add-zero, length-append, zero, suc, take, drop, length-drop, length-take}
+use Rattle.std.proofs.Common.{◌≡◌, ℕ, ◌+◌, ◌≤◌, List, [], ◌∷◌, ◌++◌, length, refl, ap, arith, ◌∙◌, length-append, zero, suc, take, drop, length-drop, length-take}
 use Rattle.pawk_records.specs.Records.{records_by}
 use Rattle.pawk_input.specs.Input.{File, file_at, total_size, file_items, items_from}
 use Rattle.std.proofs.lemmas.List.{append-nil}

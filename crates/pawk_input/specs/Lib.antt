@@ -4,5 +4,9 @@ pub use Rattle.pawk_records.specs.Begins
 pub use Rattle.pawk_records.specs.Separator
 pub mod Input
 pub mod Walk
-pub mod Fields
+pub use Rattle.pawk_fields.specs.Fields
+pub use Rattle.pawk_fields.specs.Splits
+pub use Rattle.pawk_fields.specs.FieldSeparator
 pub mod Plan
+pub mod Counts
+pub mod Passed

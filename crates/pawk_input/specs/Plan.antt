@@ -1,9 +1,9 @@
 -- Chunks of the input: a plan writes the list of all records as consecutive runs, none over two
 -- files.
-use Rattle.std.specs.Prelude.{ℕ, ◌+◌, ◌-◌, ◌≡◌, ◌≢◌, ◌⊎◌, ◌<◌, ◌≤◌, Bool, true, nat_lt, nat_le}
+use Rattle.std.specs.Prelude.{ℕ, ◌+◌, ◌≡◌, ◌<◌, ◌≤◌, Bool, true, nat_lt, nat_le}
 use Rattle.std.specs.Prelude.{◌==◌, ◌||◌, ◌&&◌, if◌then◌else◌, List, [], ◌∷◌, ◌++◌, length, take}
 use Rattle.std.specs.Prelude.{drop, All, Contains, Option, None, Some, MatchOption}
-use Rattle.std.specs.Prelude.{slice_range, slice_index}
+use Rattle.std.specs.Prelude.{slice_range}
 use Rattle.std.specs.List.{slice_index_or, flat_map, list_any}
 use Rattle.pawk_records.specs.Records.{records_by}
 use Rattle.pawk_records.specs.Begins.{BeginsAt, begins_by}

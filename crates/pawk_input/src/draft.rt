@@ -24,7 +24,7 @@ pub(crate) fn begin_or_end(separator: Separator, bytes: &[u8], from: usize) -> u
 }
 
 /// Appends a chunk.
-fn add_chunk(chunks: &mut Vec<Chunk>, chunk: Chunk) -> Result<(), CutRefusal>
+pub(crate) fn add_chunk(chunks: &mut Vec<Chunk>, chunk: Chunk) -> Result<(), CutRefusal>
     requires { vec_len chunks.old ≤ most_chunks }
     ensures added { OnOk result (chunks.new.items ≡ chunks.old.items ++ chunk ∷ []) }
     ensures few { OnOk result (vec_len chunks.new ≤ most_chunks) }
@@ -41,7 +41,7 @@ fn add_chunk(chunks: &mut Vec<Chunk>, chunk: Chunk) -> Result<(), CutRefusal>
 #[derive(Drop)]
 pub(crate) struct Draft {
     pub(crate) chunks: Vec<Chunk>,
-    nr: u64,
+    pub(crate) nr: u64,
 }
 
 impl Draft {

@@ -2,7 +2,7 @@
 //! records into chunks.
 #![tactic(auto)]
 
-mod blank_fields;
+mod counts;
 mod cuts;
 mod cutting;
 mod draft;
@@ -11,10 +11,14 @@ mod item;
 mod plan;
 mod walk;
 
-pub use blank_fields::{BlankFields, count_fields, field, fields, fields_law};
+pub use counts::{count_block, count_blocks};
 pub use cutting::{Chunk, CutRefusal, MOST_CHUNKS};
 pub use files::{Input, LIMIT, TooLarge};
 pub use item::Item;
+pub use pawk_fields::{
+    BlankFields, FieldSeparator, SplitFields, append_ranges, blanks_law, count_fields,
+    count_split, field, fields, fields_law, pieces_law, split,
+};
 pub use pawk_records::{begins_law, records_law};
 pub use plan::Plan;
 pub use walk::Records;

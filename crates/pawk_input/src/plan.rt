@@ -4,9 +4,11 @@ ghost use Rattle.std.specs.Prelude.{◌≡◌, ℕ, ◌<◌, ◌≤◌, None, le
 ghost use Rattle.std.specs.Prelude.{IfOk, IfErr, IfSome};
 ghost use Rattle.pawk_input.specs.Limits.{most_chunks};
 ghost use Rattle.pawk_input.specs.Walk.{items_left};
+ghost use Rattle.pawk_input.specs.Counts.{block_counts};
 ghost use Rattle.pawk_input.specs.Plan.{IsPlanOf, RefusesCuts, RefusesMany, chunk_items};
 ghost use Rattle.pawk_input.specs.Plan.{cut_at, cut_fault, sized};
 
+use crate::counts::block_number;
 use crate::cuts::{check_cuts, cuts_in};
 use crate::cutting::{Chunk, CutRefusal};
 use crate::draft::Draft;
@@ -51,6 +53,42 @@ impl Plan {
         let mut draft = Draft::new(alloc);
         for file in 0..input.files() {
             draft.add_by_size(file, input.bytes(file), rs, bytes)?;
+        }
+        Ok(Plan {
+            chunks: draft.chunks,
+        })
+    }
+
+    /// The plan by size again, out of the counts of records of blocks: `counts` tells how many
+    /// records begin in each block of `block` bytes of each file, the last of a file shorter, file by
+    /// file (`count_block`). Reads of the files only what is near the chunks' ends.
+    ///
+    /// `rs` holds the byte at which records end, or none for paragraphs. Refuses as `by_size` does.
+    pub fn by_counts(
+        alloc: Global,
+        input: &Input,
+        rs: &[u8],
+        bytes: u64,
+        block: usize,
+        counts: &[u64],
+    ) -> Result<Plan, CutRefusal>
+        requires one_byte { length rs.now ≤ 1 }
+        requires some { 0 < bytes }
+        requires block { 0 < block }
+        requires counts { counts.now ≡ block_counts rs.now block input.now }
+        ensures value { IfOk result (λ plan. plan ≡ sized rs.now input.now bytes) }
+        ensures plan { IfOk result (λ plan. IsPlanOf rs.now input.now plan) }
+        ensures few { IfOk result (λ plan. length plan ≤ most_chunks) }
+        ensures refused { IfErr result
+            (RefusesMany (length (sized rs.now input.now bytes)) most_chunks) }
+    {
+        let mut draft = Draft::new(alloc);
+        let mut left = counts;
+        for file in 0..input.files() {
+            let text = input.bytes(file);
+            let (here, later) = left.split_at(block_number(text.len(), block));
+            draft.add_by_counts(file, text, rs, bytes, block, here)?;
+            left = later;
         }
         Ok(Plan {
             chunks: draft.chunks,

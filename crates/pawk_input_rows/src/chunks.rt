@@ -10,7 +10,7 @@ fn append_refusal(line: &mut String, refusal: CutRefusal) -> Result<(), AllocErr
 }
 
 /// Appends the chunks of a plan: file, begin and end in it, the records before it in the input and in its file.
-fn append_plan(line: &mut String, plan: Result<Plan, CutRefusal>) -> Result<(), AllocError> {
+pub fn append_plan(line: &mut String, plan: Result<Plan, CutRefusal>) -> Result<(), AllocError> {
     let plan = match plan {
         Ok(plan) => plan,
         Err(refusal) => return append_refusal(line, refusal),

@@ -12,12 +12,18 @@
 //! | `size` size separator files | the chunks of the plan by size: file, begin, end, `NR` and `FNR` before it |
 //! | `cuts` places separator files | the chunks of the plan at cuts |
 //! | `many` count size | how many chunks of that size has a file of that many empty records |
+//! | `counts` block separator files | how many records begin in each block |
+//! | `counted` block size separator files | the chunks of the plan by size out of those counts |
+//! | `begins` begin end separator bytes | how many records of the bytes begin in the range |
+//! | `split` separator paragraph record | the ranges of the fields between a byte, with `paragraph` 1 between newlines too |
+//! | `pieces` separator paragraph record | how many fields they are, and each |
 //! | `fields` record | how many fields there are, and each |
 //! | `field` number record | that field after `=`, or `none` |
 //! | `refusals` | each refusal with its number and text |
 #![tactic(auto)]
 
 mod chunks;
+mod counts;
 mod fields;
 mod files;
 mod text;
@@ -39,6 +45,11 @@ fn answer(alloc: Global, row: &str) -> Result<String, AllocError> {
         b"size" => chunks::show_by_size(alloc, asked, &mut line)?,
         b"cuts" => chunks::show_at_cuts(alloc, asked, &mut line)?,
         b"many" => chunks::show_many(alloc, asked, &mut line)?,
+        b"counts" => counts::show_counts(alloc, asked, &mut line)?,
+        b"counted" => counts::show_counted(alloc, asked, &mut line)?,
+        b"begins" => counts::show_begins(alloc, asked, &mut line)?,
+        b"split" => fields::show_ranges(alloc, asked, &mut line)?,
+        b"pieces" => fields::show_pieces(asked, &mut line)?,
         b"fields" => fields::show_fields(asked, &mut line)?,
         b"field" => fields::show_field(asked, &mut line)?,
         b"refusals" => chunks::show_refusals(&mut line)?,

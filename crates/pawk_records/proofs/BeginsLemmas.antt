@@ -170,22 +170,26 @@ pub length-records_by : (rs s : List ℕ) → length (records_by rs s) ≤ lengt
 length-records_by [] s = omega (arith, length-paragraphs_from false s)
 length-records_by (e ∷ rs) s = length-records e s
 
+-- whether a record begins at a place rests on the bytes up to it
+pub begins_at-take : (rs s : List ℕ) (q k : ℕ) → k < q → begins_at rs (take q s) k ≡ begins_at rs s k
+begins_at-take rs s q k lt = same rs
+  where
+    before : (b k : ℕ) → k < q → is_after b (take q s) k ≡ is_after b s k
+    before b k lt = ap (λ x. eqb k 0 || eqb x b) (get_or-take q s (k - 1) 0 (omega arith))
+
+    same : (rs : List ℕ) → begins_at rs (take q s) k ≡ begins_at rs s k
+    same [] =
+        ap (λ v. v && is_after newline (take q s) (k - 1) && not (eqb (get_or (take q s) k 0) newline)) (before newline k lt)
+        ∙ ap (λ v. is_after newline s k && v && not (eqb (get_or (take q s) k 0) newline)) (before newline (k - 1) (omega arith))
+        ∙ ap (λ b. is_after newline s k && is_after newline s (k - 1) && not (eqb b newline)) (get_or-take q s k 0 lt)
+    same (e ∷ rs) = before e k lt
+
 -- as many records are before a place as begin before it
 pub begins_before : (rs s : List ℕ) (q : ℕ) → q ≤ length s → length (records_by rs (take q s)) ≡ length (places_where (begins_at rs s) 0 q)
 begins_before rs s q le =
     sym (length-begins_by rs (take q s))
     ∙ ap (λ n. length (places_where (begins_at rs (take q s)) 0 n)) (length-take-le q s le)
-    ∙ ap length (places_where-same (begins_at rs (take q s)) (begins_at rs s) 0 q (λ k low lt. same rs k (omega (arith, lt))))
-  where
-    before : (b k : ℕ) → k < q → is_after b (take q s) k ≡ is_after b s k
-    before b k lt = ap (λ x. eqb k 0 || eqb x b) (get_or-take q s (k - 1) 0 (omega arith))
-
-    same : (rs : List ℕ) (k : ℕ) → k < q → begins_at rs (take q s) k ≡ begins_at rs s k
-    same [] k lt =
-        ap (λ v. v && is_after newline (take q s) (k - 1) && not (eqb (get_or (take q s) k 0) newline)) (before newline k lt)
-        ∙ ap (λ v. is_after newline s k && v && not (eqb (get_or (take q s) k 0) newline)) (before newline (k - 1) (omega arith))
-        ∙ ap (λ b. is_after newline s k && is_after newline s (k - 1) && not (eqb b newline)) (get_or-take q s k 0 lt)
-    same (e ∷ rs) k lt = before e k lt
+    ∙ ap length (places_where-same (begins_at rs (take q s)) (begins_at rs s) 0 q (λ k low lt. begins_at-take rs s q k (omega arith)))
 
 -- from where one begins on, the records up to a later place are those before it and those between
 pub length-records_part : (rs s : List ℕ) (p n : ℕ) → BeginsAt rs s p → 0 < n → p + n ≤ length s

@@ -6,3 +6,4 @@ pub mod ParagraphLemmas
 pub mod ParagraphLawLemmas
 pub mod BeginsLemmas
 pub mod FindLemmas
+pub mod CountLemmas

@@ -1,10 +1,11 @@
 //! Counting the records of bytes.
 
-ghost use Rattle.std.specs.Prelude.{◌≡◌, ◌≤◌, count_by, length};
+ghost use Rattle.std.specs.Prelude.{◌≡◌, ◌≤◌, [], ◌∷◌, count_by, length};
 ghost use Rattle.memchr.specs.Find.{is_byte};
 ghost use Rattle.pawk_records.specs.Records.{paragraphs, records};
+ghost use Rattle.pawk_records.specs.Begins.{begins_within};
 
-use crate::paragraphs::split_paragraph;
+use crate::paragraphs::{next_paragraph, split_paragraph};
 
 /// How many bytes are counted at a time: so few that a `u8` counts them, which lets the processor
 /// count many side by side.
@@ -63,6 +64,38 @@ pub(crate) fn count_paragraphs(bytes: &[u8]) -> usize
     while let Some((_, later)) = split_paragraph(rest) {
         count += 1;
         rest = later;
+    }
+    count
+}
+
+/// How many lines begin from place `start` up to place `end`: one at the first byte, and one behind
+/// each separator.
+pub(crate) fn count_line_begins(bytes: &[u8], start: usize, end: usize, separator: u8) -> usize
+    requires rising { start ≤ end }
+    requires within { end ≤ length bytes.now }
+    ensures { result ≡ length (begins_within (separator ∷ []) bytes.now start end) }
+{
+    if start == end {
+        return 0;
+    }
+    if start == 0 {
+        return 1 + count_byte(&bytes[..end - 1], separator);
+    }
+    count_byte(&bytes[start - 1..end - 1], separator)
+}
+
+/// How many paragraphs begin from place `start` up to place `end`.
+pub(crate) fn count_paragraph_begins(bytes: &[u8], start: usize, end: usize) -> usize
+    requires rising { start ≤ end }
+    requires within { end ≤ length bytes.now }
+    ensures { result ≡ length (begins_within [] bytes.now start end) }
+{
+    let (front, _) = bytes.split_at(end);
+    let mut count = 0;
+    let mut from = start;
+    while let Some(place) = next_paragraph(front, from) {
+        count += 1;
+        from = place + 1;
     }
     count
 }

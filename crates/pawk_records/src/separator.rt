@@ -3,7 +3,7 @@
 ghost use Rattle.std.specs.Prelude.{◌≡◌, ◌+◌, ◌<◌, ◌≤◌, [], ◌∷◌, length, IfSome, MatchOption};
 ghost use Rattle.memchr.specs.Find.{IsFirst};
 ghost use Rattle.pawk_records.specs.Records.{records_by};
-ghost use Rattle.pawk_records.specs.Begins.{BeginsAt};
+ghost use Rattle.pawk_records.specs.Begins.{BeginsAt, begins_within};
 ghost use Rattle.pawk_records.specs.Begins as spec;
 ghost use Rattle.pawk_records.specs.Separator.{rs_of};
 
@@ -64,6 +64,19 @@ impl Separator {
         match self {
             Separator::Byte(byte) => place == 0 || bytes[place - 1] == byte,
             Separator::Paragraph => paragraphs::begins_paragraph(bytes, place),
+        }
+    }
+
+    /// How many records of the bytes begin from place `start` up to place `end`. Of the bytes before
+    /// `start` it looks at two at most, and at none from `end` on.
+    pub fn count_begins(self, bytes: &[u8], start: usize, end: usize) -> usize
+        requires rising { start ≤ end }
+        requires within { end ≤ length bytes.now }
+        ensures { result ≡ length (begins_within (rs_of self) bytes.now start end) }
+    {
+        match self {
+            Separator::Byte(byte) => count::count_line_begins(bytes, start, end, byte),
+            Separator::Paragraph => count::count_paragraph_begins(bytes, start, end),
         }
     }
 

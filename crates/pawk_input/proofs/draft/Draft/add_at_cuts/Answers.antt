@@ -3,7 +3,7 @@ use Rattle.std.proofs.lemmas.List.{append-nil, drop_more, drop_all, take_rest, l
 use Rattle.std.proofs.lemmas.Result.{err_from_is_err_and}
 use Rattle.pawk_input.specs.Limits.{most_chunks}
 use Rattle.pawk_records.specs.Records.{records_by}
-use Rattle.pawk_records.specs.Begins.{BeginsAt, begins_by}
+use Rattle.pawk_records.specs.Begins.{begins_by}
 use Rattle.pawk_records.proofs.BeginsLemmas.{length-records_by}
 use Rattle.pawk_input.specs.Plan.{IsBeginOrEnd, Rises, chunks_at, cut_places}
 use Rattle.pawk_input.proofs.SizeLemmas.{nothing_before, part_end, part_count, few_before, all_before}

@@ -1,0 +1,4 @@
+pub mod FieldsLemmas
+pub mod FieldWalkLemmas
+pub mod FieldsLawLemmas
+pub mod SplitLemmas

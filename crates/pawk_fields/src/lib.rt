@@ -1,0 +1,12 @@
+//! The fields of a record.
+#![tactic(auto)]
+
+mod blanks;
+mod count;
+mod field_walk;
+mod separator;
+
+pub use blanks::{BlankFields, count_fields, field, fields, fields_law};
+pub use count::count_split;
+pub use field_walk::{SplitFields, append_ranges, blanks_law, pieces_law, split};
+pub use separator::FieldSeparator;

@@ -1,5 +1,0 @@
-use Rattle.pawk_input.proofs.FieldsLawLemmas.{fields_law_lem}
-use Rattle.pawk_input.proofs.blank_fields.fields_law.Goals as goal
-
-pub returns : goal.returns
-returns c = fields_law_lem c.args.text.now

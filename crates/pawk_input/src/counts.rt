@@ -1,0 +1,185 @@
+//! Plans by size out of the counts of records of blocks.
+
+ghost use Rattle.std.specs.Prelude.{◌≡◌, ◌+◌, ◌<◌, ◌≤◌, ◌++◌, length, take, vec_len, OnOk, IfErr, IfOk};
+ghost use Rattle.pawk_records.specs.Records.{records_by};
+ghost use Rattle.pawk_records.specs.Begins.{begins_by, begins_within};
+ghost use Rattle.pawk_records.specs.Separator.{rs_of};
+ghost use Rattle.pawk_input.specs.Limits.{most_bytes, most_chunks};
+ghost use Rattle.pawk_input.specs.Input.{file_at};
+ghost use Rattle.pawk_input.specs.Counts.{block_counts, blocks_of, counts_left};
+ghost use Rattle.pawk_input.specs.Passed.{IsPassed};
+ghost use Rattle.pawk_input.specs.Plan.{RefusesMany, chunks_at, places_by_size};
+
+use crate::cutting::{Chunk, CutRefusal};
+use crate::draft::{Draft, add_chunk, begin_or_end};
+use crate::files::Input;
+use pawk_records::Separator;
+use std::alloc::{AllocError, Global};
+use std::ops::Range;
+
+/// How many records of a file begin in a range of it, in bytes counted from 0. Takes no memory.
+///
+/// `rs` holds the byte at which records end, or none for paragraphs.
+pub fn count_block(input: &Input, rs: &[u8], file: usize, range: Range<usize>) -> u64
+    requires separator { length rs.now ≤ 1 }
+    requires file { file < length input.now }
+    requires rising { range.start ≤ range.end }
+    requires within { range.end ≤ length (file_at input.now file).bytes }
+    ensures { result
+        ≡ length (begins_within rs.now (file_at input.now file).bytes range.start range.end) }
+{
+    Separator::of(rs).count_begins(input.bytes(file), range.start, range.end) as u64
+}
+
+/// Appends how many records begin in each block of a file.
+fn push_counts(
+    counts: &mut Vec<u64>,
+    input: &Input,
+    rs: &[u8],
+    file: usize,
+    block: usize,
+) -> Result<(), AllocError>
+    requires separator { length rs.now ≤ 1 }
+    requires file { file < length input.now }
+    requires some { 0 < block }
+    ensures { OnOk result (counts.new.items ≡ counts.old.items
+        ++ counts_left rs.now block (file_at input.now file).bytes 0) }
+{
+    let size = input.size(file);
+    let mut from = 0;
+    while from < size {
+        let end = from.saturating_add(block).min(size);
+        counts.push(count_block(input, rs, file, from..end))?;
+        from = end;
+    }
+    Ok(())
+}
+
+/// How many records begin in each block of `block` bytes of each file, the last block of a file
+/// shorter, file by file: what `Plan::by_counts` takes.
+///
+/// `rs` holds the byte at which records end, or none for paragraphs.
+pub fn count_blocks(
+    alloc: Global,
+    input: &Input,
+    rs: &[u8],
+    block: usize,
+) -> Result<Vec<u64>, AllocError>
+    requires separator { length rs.now ≤ 1 }
+    requires some { 0 < block }
+    ensures { IfOk result (λ counts. counts.items ≡ block_counts rs.now block input.now) }
+{
+    let mut counts = Vec::new(alloc);
+    for file in 0..input.files() {
+        push_counts(&mut counts, input, rs, file, block)?;
+    }
+    Ok(counts)
+}
+
+/// The blocks of a file that were passed: where the next one begins, how many records begin before
+/// it, and the counts of the blocks from it on.
+#[derive(Clone, Copy)]
+pub(crate) struct Passed<'c> {
+    pub(crate) edge: usize,
+    pub(crate) count: u64,
+    pub(crate) left: &'c [u64],
+}
+
+/// How many records of a file begin before a place, and the blocks passed up to it.
+fn records_before<'c>(
+    separator: Separator,
+    bytes: &[u8],
+    block: usize,
+    passed: Passed<'c>,
+    place: usize,
+) -> (u64, Passed<'c>)
+    requires some { 0 < block }
+    requires within { place ≤ length bytes.now }
+    requires passed { IsPassed (rs_of separator) block bytes.now passed place }
+    ensures count { result.0 ≡ length (records_by (rs_of separator) (take place bytes.now)) }
+    ensures passed { IsPassed (rs_of separator) block bytes.now result.1 place }
+{
+    let mut passed = passed;
+    while place - passed.edge >= block {
+        let Some((first, later)) = passed.left.split_first() else {
+            break;
+        };
+        passed = Passed {
+            edge: passed.edge + block,
+            count: passed.count + first,
+            left: later,
+        };
+    }
+    let more = separator.count_begins(bytes, passed.edge, place) as u64;
+    (passed.count + more, passed)
+}
+
+/// How many blocks a file of this size has.
+pub(crate) fn block_number(size: usize, block: usize) -> usize
+    requires { 0 < block }
+    ensures { result ≡ blocks_of block size size }
+{
+    let mut count = 0;
+    let mut left = size;
+    while left > 0 {
+        count += 1;
+        left = left.saturating_sub(block);
+    }
+    count
+}
+
+impl Draft {
+    /// Adds the next file's chunks by size, numbered by the counts of its blocks.
+    pub(crate) fn add_by_counts(
+        &mut self,
+        file: usize,
+        bytes: &[u8],
+        rs: &[u8],
+        size: u64,
+        block: usize,
+        counts: &[u64],
+    ) -> Result<(), CutRefusal>
+        requires one_byte { length rs.now ≤ 1 }
+        requires sized { 0 < size }
+        requires some { 0 < block }
+        requires counts { counts.now ≡ counts_left rs.now block bytes.now 0 }
+        requires room { self.old.nr + length bytes.now ≤ most_bytes }
+        requires few { vec_len self.old.chunks ≤ most_chunks }
+        ensures chunks { OnOk result (self.new.chunks.items
+            ≡ self.old.chunks.items
+            ++ chunks_at rs.now file bytes.now self.old.nr
+            (places_by_size size (begins_by rs.now bytes.now))) }
+        ensures counted { OnOk result
+            (self.new.nr ≡ self.old.nr + length (records_by rs.now bytes.now)) }
+        ensures few { OnOk result (vec_len self.new.chunks ≤ most_chunks) }
+        ensures refused { IfErr result (RefusesMany
+            (vec_len self.old.chunks
+            + length (chunks_at rs.now file bytes.now self.old.nr
+            (places_by_size size (begins_by rs.now bytes.now))))
+            most_chunks) }
+    {
+        let separator = Separator::of(rs);
+        let mut passed = Passed {
+            edge: 0,
+            count: 0,
+            left: counts,
+        };
+        let mut start = begin_or_end(separator, bytes, 0);
+        while start < bytes.len() {
+            let end = begin_or_end(separator, bytes, start.saturating_add(size as usize));
+            let (fnr, later) = records_before(separator, bytes, block, passed, start);
+            let chunk = Chunk {
+                file,
+                range: start..end,
+                nr: self.nr + fnr,
+                fnr,
+            };
+            add_chunk(&mut self.chunks, chunk)?;
+            passed = later;
+            start = end;
+        }
+        let (count, _) = records_before(separator, bytes, block, passed, bytes.len());
+        self.nr += count;
+        Ok(())
+    }
+}
