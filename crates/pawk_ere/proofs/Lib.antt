@@ -1,3 +1,4 @@
 pub mod Keeping
 pub mod Literals
 pub mod Needed
+pub mod Runs

@@ -2,6 +2,7 @@ pub use Rattle.pawk_pattern.specs.Pattern
 pub use Rattle.pawk_pattern.specs.Tokens
 pub use Rattle.pawk_pattern.specs.Refusals
 pub use Rattle.pawk_pattern.specs.Spelled
+pub mod Runs
 pub mod Words
 pub mod Holding
 pub mod Answers

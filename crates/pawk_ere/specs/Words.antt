@@ -4,7 +4,8 @@ use Rattle.memchr.specs.Find.{OccursAt}
 use Rattle.pawk_machine.specs.Regex.{Regex, Takes}
 use Rattle.pawk_ere.specs.declared.words.Features.{Features}
 use Rattle.pawk_ere.specs.declared.words.Prefilter.{Prefilter}
-use Rattle.pawk_ere.specs.declared.words.Prefilter.TheVariants.{Literal, Words}
+use Rattle.pawk_ere.specs.declared.words.Prefilter.TheVariants.{Literal, Run, Words}
+use Rattle.pawk_ere.specs.Runs.{IsRun}
 
 -- it matches these bytes and nothing else
 abbrev pub IsLiteral : Regex → List ℕ → Type 0
@@ -35,4 +36,5 @@ pub record AreFeatures (e : Regex) (features : Features) : Type 0 where
 -- what is looked for before a walk tells of the matches
 abbrev pub IsPrefilter : Regex → Prefilter → Type 0
 IsPrefilter e (Literal bytes) = IsLiteral e bytes
+IsPrefilter e (Run set count) = IsRun e set.value.members count × (1 ≤ count)
 IsPrefilter e (Words words) = AreNeeded e words.items

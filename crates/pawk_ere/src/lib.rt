@@ -4,6 +4,7 @@
 mod cache;
 mod literal;
 mod matcher;
+mod run;
 mod words;
 
 pub use crate::cache::Cache;

@@ -5,6 +5,7 @@ ghost use Rattle.pawk_machine.specs.Regex.{Regex, Bytes, Sequence, Either, Plus,
 ghost use Rattle.pawk_machine.specs.Tree.{regex_of};
 ghost use Rattle.std.specs.Prelude.{◌≡◌, ◌≤◌, ◌⊎◌, [], false, length, IfOk, IsTrue};
 
+use crate::run::run_of;
 use memchr::memmem::{Finder, FinderBuilder};
 use pawk_machine::{Node, is_anchored};
 use pawk_pattern::ByteSet;
@@ -35,6 +36,8 @@ pub struct Features {
 pub enum Prefilter {
     /// The expression matches these bytes and nothing else.
     Literal(Finder<'static>),
+    /// The expression matches so many bytes of this set, at least one, and nothing else.
+    Run(Box<ByteSet>, usize),
     /// Each match holds one of these words. If there are none, nothing is known.
     Words(Vec<Finder<'static>>),
 }
@@ -224,6 +227,11 @@ pub fn prefilter_of(alloc: Global, node: &Node) -> Result<Prefilter, AllocError>
     if features.whole {
         let literal = FinderBuilder::new().build_forward_owned(features.tail);
         return Ok(Prefilter::Literal(literal));
+    }
+    if let Some((set, count)) = run_of(node) {
+        if count > 0 {
+            return Ok(Prefilter::Run(Box::new(alloc, *set)?, count));
+        }
     }
     if is_anchored(node) {
         return Ok(Prefilter::Words(Vec::new(alloc)));

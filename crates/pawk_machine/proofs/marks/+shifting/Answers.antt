@@ -1,6 +1,6 @@
-use Rattle.std.proofs.Common.{◌≡◌, ◌+◌, ◌-◌, ◌++◌, ◌&&◌, ◌||◌, List, Bool, drop, ap, ◌∙◌, sym, refl, arith, length, false}
+use Rattle.std.proofs.Common.{ℕ, append_assoc, subst, ◌≡◌, ◌+◌, ◌-◌, ◌++◌, ◌&&◌, ◌||◌, List, Bool, drop, ap, ◌∙◌, sym, refl, arith, length, false}
 use Rattle.pawk_machine.specs.Tree.{regex_of}
-use Rattle.pawk_machine.specs.Regex.{copies}
+use Rattle.pawk_machine.specs.Regex.{Regex, Either, copies}
 use Rattle.pawk_machine.specs.Marks.{final, nullable, places, turns, shift}
 use Rattle.pawk_machine.proofs.Copies.{left_start, left_step, left_ends, left_empty, left_rest, turns_left_start, turns_left_split, turns_left_end, pushed_start, pushed_step, pushed_end, run_turns_left, run_ends, run_rest}
 use Rattle.pawk_machine.proofs.marks.+shifting.Goals as goal
@@ -66,3 +66,38 @@ push_copies-returns-then-count-source-clause-ends t c =
 pub push_copies-returns-then-count-source-clause-marks : goal.push_copies-returns-then-count-source-clause-marks
 push_copies-returns-then-count-source-clause-marks t c =
     c.look_run.ensures.rest ∙ run_rest c.args.count _ c.args.source.marks.now ∙ ap (λ n. drop (places (copies c.args.count (regex_of n))) c.args.source.marks.now) (sym c.in-Bytes.is)
+
+-- the turns of the second of two, where those of both are given
+second_turns : (a b : Regex) (first : Bool) (marks rest old new more : List Bool) → rest ≡ drop (places a) marks → ((m : List Bool) → old ≡ turns a marks first ++ m → new ≡ m) → old ≡ turns (Either a b) marks first ++ more → new ≡ turns b rest first ++ more
+second_turns a b first marks rest old new more on left h =
+    left (turns b (drop (places a) marks) first ++ more) (h ∙ append_assoc (turns a marks first) (turns b (drop (places a) marks) first) more)
+    ∙ ap (λ m. turns b m first ++ more) (sym on)
+
+either_out : (a b : Regex) (enter : Bool) (byte : ℕ) (first : Bool) (marks rest before between after : List Bool) → rest ≡ drop (places a) marks
+    → between ≡ before ++ shift a enter marks byte first → after ≡ between ++ shift b enter rest byte first → after ≡ before ++ shift (Either a b) enter marks byte first
+either_out a b enter byte first marks rest before between after on left right =
+    right
+    ∙ ap (λ m. between ++ shift b enter m byte first) on
+    ∙ ap (λ m. m ++ shift b enter (drop (places a) marks) byte first) left
+    ∙ append_assoc before (shift a enter marks byte first) (shift b enter (drop (places a) marks) byte first)
+
+pub push_shifted-returns-in_ok-right-in-Either-clause-out : goal.push_shifted-returns-in_ok-right-in-Either-clause-out
+push_shifted-returns-in_ok-right-in-Either-clause-out t c = λ more h.
+    let a = regex_of c.deref-in-Either.result.now in
+    let b = regex_of c.deref-in-Either-2.result.now in
+    let first = c.args.step.first in
+    let marks = c.args.source.marks.now in
+    let l = c.in_ok-left-in-Either.ensures in
+    let r = c.in_ok-right-in-Either.ensures in
+    let o = c.source-in-Either.ensures in
+    let is : regex_of c.args.node.now ≡ Either a b = ap regex_of c.in-Either.is
+    ∙ ap (λ x. Either (regex_of x) (regex_of c.in-Either.b.value)) (sym c.deref-in-Either.ensures)
+    ∙ ap (λ x. Either a (regex_of x)) (sym c.deref-in-Either-2.ensures) in
+    let on : c.source-in-Either.result.marks.now ≡ drop (places a) marks = o.marks ∙ l.marks in
+    let given : c.args.source.turns.now ≡ turns (Either a b) marks first ++ more = h ∙ ap (λ e. turns e marks first ++ more) is in
+    let split : c.args.source.turns.now ≡ turns a marks first ++ (turns b (drop (places a) marks) first ++ more) =
+    given ∙ append_assoc (turns a marks first) (turns b (drop (places a) marks) first) more in
+    either_out a b c.args.enter c.args.step.byte first marks c.source-in-Either.result.marks.now c.args.out.now.items c.push_shifted-in-Either.new.out.items c.push_shifted-in-Either-2.new.out.items on
+    (l.out _ split)
+    (r.out more (second_turns a b first marks c.source-in-Either.result.marks.now c.args.source.turns.now c.source-in-Either.result.turns.now more on (λ m e. o.turns ∙ l.turns m e) given))
+    ∙ ap (λ e. c.args.out.now.items ++ shift e c.args.enter marks c.args.step.byte first) (sym is)

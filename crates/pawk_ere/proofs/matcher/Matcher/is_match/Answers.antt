@@ -2,7 +2,9 @@ use Rattle.std.proofs.Common.{◌↔◌, ℕ, Bool, false, IsTrue, List, Result,
 use Rattle.std.specs.declared.alloc.AllocError.{AllocError}
 use Rattle.pawk_ere.specs.Answers.{IsFor}
 use Rattle.pawk_pattern.specs.Pattern.{Pattern, Matches, HasMatch, NoneFrom}
+use Rattle.pawk_ere.specs.Runs.{IsRun}
 use Rattle.pawk_ere.specs.Words.{IsPrefilter}
+use Rattle.pawk_pattern.specs.declared.byte_set.ByteSet.{ByteSet}
 use Rattle.pawk_machine.specs.Regex.{Takes}
 use Rattle.pawk_machine.specs.Tree.{regex_of}
 use Rattle.pawk_machine.specs.declared.node.Node.{Node}
@@ -27,8 +29,18 @@ pub returns-then-lacks_words-clause-answer : goal.returns-then-lacks_words-claus
 returns-then-lacks_words-clause-answer c = λ e for.
     match_map (Takes (regex_of c.self.inside.node) c.args.text.now) (Matches e c.args.text.now) c.args.from false (subst (λ n. IsFor e n) (sym c.self.view_is) for c.args.text.now)
     (no_match (Takes (regex_of c.self.inside.node) c.args.text.now) c.args.from
-    (none_filtered (regex_of c.self.inside.node) c.args.text.now c.args.from c.self.inside.prefilter _ c.deref.result.now c.if-from-eq0.true c.in-Words.is c.deref.ensures.value c.self.invariant.tells (c.lacks_words.ensures.some c.if-lacks_words.true) (c.lacks_words.ensures.none c.if-lacks_words.true)))
+    (none_filtered (regex_of c.self.inside.node) c.args.text.now c.args.from c.self.inside.prefilter _ c.deref-then-from-eq0.result.now c.if-from-eq0.true c.in-Words.is c.deref-then-from-eq0.ensures.value c.self.invariant.tells (c.lacks_words.ensures.some c.if-lacks_words.true) (c.lacks_words.ensures.none c.if-lacks_words.true)))
 
 pub returns-clause-answer : goal.returns-clause-answer
 returns-clause-answer c = λ e for.
     answers c.has_match.result e c.self.inside.node c.args.text.now c.args.from (subst (λ n. IsFor e n) (sym c.self.view_is) for) c.has_match.ensures.told
+
+pub has_run-requires-clause-some : goal.has_run-requires-clause-some
+has_run-requires-clause-some c =
+    let tells = subst (IsPrefilter (regex_of c.self.inside.node)) c.in-Run.is c.self.invariant.tells in tells.1
+
+pub returns-in-Run-clause-answer : goal.returns-in-Run-clause-answer
+returns-in-Run-clause-answer c = λ e for.
+    let tells = subst (IsPrefilter (regex_of c.self.inside.node)) c.in-Run.is c.self.invariant.tells in
+    match_map (Takes (regex_of c.self.inside.node) c.args.text.now) (Matches e c.args.text.now) c.args.from c.has_run.result (subst (λ n. IsFor e n) (sym c.self.view_is) for c.args.text.now)
+    (c.has_run.ensures (regex_of c.self.inside.node) (subst (λ (set : ByteSet). IsRun (regex_of c.self.inside.node) set.members c.in-Run.count) (sym c.deref.ensures) tells.0))

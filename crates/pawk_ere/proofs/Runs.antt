@@ -1,0 +1,75 @@
+-- Expressions that are so many bytes of one set.
+use Rattle.std.proofs.Common.{◌≡◌, ℕ, zero, suc, ◌+◌, ◌-◌, ◌*◌, ◌<◌, ◌≤◌, Bool, List, length, get_or, Option, Some, None, IfSome, refl, sym, ap, ◌∙◌, subst, ⊎_elim, arith}
+use Rattle.std.proofs.lemmas.Bool.{cases_lt}
+use Rattle.pawk_pattern.specs.Pattern.{Holds, IsFound}
+use Rattle.pawk_ere.specs.Runs.{AllHold, IsRun}
+use Rattle.pawk_machine.proofs.Leftmost.{found_none, found_first}
+use Rattle.pawk_machine.specs.Regex.{Regex, Empty, Bytes, Sequence, Takes, copies}
+
+pub run_byte : (members : List Bool) → IsRun (Bytes members) members 1
+run_byte members s i j = (
+  λ t. (
+    λ k ge lt.
+        let here : k ≡ i = omega (arith, t.1) in
+        subst (λ x. (x < length s) × Holds members (get_or s x 0)) (sym here) (t.0, t.2),
+    t.1,
+  ),
+  λ h. let x = h.0 i (omega arith) (omega (arith, h.1)) in (x.0, h.1, x.1),
+)
+
+run_nothing : (members : List Bool) → IsRun Empty members 0
+run_nothing members s i j = (λ t. (λ k ge lt. absurd (omega arith), omega arith), λ h. omega (arith, h.1))
+
+run_join : (a b : Regex) (members : List Bool) (x y : ℕ) → IsRun a members x → IsRun b members y → IsRun (Sequence a b) members (x + y)
+run_join a b members x y f g s i j = (
+  λ t.
+      let p = (f s i t.0).0 t.1 in
+      let q = (g s t.0 j).0 t.2 in
+      (λ k ge lt. ⊎_elim (λ l. p.0 k ge l) (λ r. q.0 k r lt) (cases_lt k t.0), omega (arith, p.1, q.1)),
+  λ h. (
+    i + x,
+    (f s i (i + x)).1 (λ k ge lt. h.0 k ge (omega (arith, h.1)), refl),
+    (g s (i + x) j).1 (λ k ge lt. h.0 k (omega arith) lt, omega (arith, h.1)),
+  ),
+)
+
+pub run_before_nothing : (a : Regex) (members : List Bool) (x : ℕ) → IsRun a members x → IsRun (Sequence a Empty) members x
+run_before_nothing a members x f =
+    let e : x + 0 ≡ x = omega arith in
+    subst (IsRun (Sequence a Empty) members) e (run_join a Empty members x 0 f (run_nothing members))
+
+pub run_copies : (a : Regex) (members : List Bool) (n x : ℕ) → IsRun a members x → IsRun (copies n a) members (n * x)
+run_copies a members zero x f = let e : 0 ≡ zero * x = grind arith in subst (IsRun Empty members) e (run_nothing members)
+run_copies a members (suc n) x f =
+    let e : x + n * x ≡ suc n * x = grind arith in
+    subst (IsRun (Sequence a (copies n a)) members) e (run_join a (copies n a) members x (n * x) f (run_copies a members n x f))
+
+-- no run of so many starts from one place up to another
+abbrev pub NoRun : List Bool → List ℕ → ℕ → ℕ → ℕ → Type 0
+NoRun members s count low high = (k : ℕ) → low ≤ k → k < high → AllHold members s k (k + count) → ⊥
+
+-- a byte of another kind ends each run that starts before it
+pub no_run_over : (members : List Bool) (s : List ℕ) (count low start place : ℕ) → NoRun members s count low start → place < start + count → (Holds members (get_or s place 0) → ⊥) → NoRun members s count low (place + 1)
+no_run_over members s count low start place before near other k ge lt all = ⊎_elim
+    (λ l. before k ge l all)
+    (λ r. other (all place (omega arith) (omega arith)).1)
+    (cases_lt k start)
+
+pub run_some : (e : Regex) (members : List Bool) (s : List ℕ) (count from start : ℕ) → from ≤ start → NoRun members s count from start → AllHold members s start (start + count) → IsRun e members count → IsFound (Takes e s) from (Some (start, start + count))
+run_some e members s count from start le before all is = found_first e s from start (start + count) le
+    (λ k ge lt j m. let x = (is s k j).0 m in before k ge lt (subst (AllHold members s k) x.1 x.0))
+    (record {
+      matches = (is s start (start + count)).1 (all, refl);
+      longest = λ l m. let x = ((is s start l).0 m).1 in omega arith;
+    })
+
+pub run_none : (e : Regex) (members : List Bool) (s : List ℕ) (count from start : ℕ) → 1 ≤ count → start ≤ length s → length s - start < count → NoRun members s count from start → IsRun e members count → IsFound (Takes e s) from None
+run_none e members s count from start some within' short before is = found_none e s from (λ k ge j m.
+    let x = (is s k j).0 m in ⊎_elim
+    (λ l. before k ge l (subst (AllHold members s k) x.1 x.0))
+    (λ r. let y = x.0 ((k + count) - 1) (omega arith) (omega (arith, x.1)) in let z = y.0 in omega arith)
+    (cases_lt k start))
+
+pub map_some : {A : Type 0} (P Q : A → Type 0) (r : Option A) → ((x : A) → P x → Q x) → IfSome r P → IfSome r Q
+map_some P Q None f h = tt
+map_some P Q (Some x) f h = f x h

@@ -1,0 +1,81 @@
+// Searches for an expression that is so many bytes of one set and nothing else.
+
+ghost use Rattle.pawk_ere.specs.Runs.{AllHold, IsRun};
+ghost use Rattle.pawk_machine.specs.Regex.{Regex, Takes};
+ghost use Rattle.pawk_machine.specs.Tree.{regex_of};
+ghost use Rattle.pawk_pattern.specs.Pattern.{HasMatch, Holds, IsFound};
+ghost use Rattle.std.specs.Prelude.{◌↔◌, ◌<◌, ◌≤◌, length, slice_index, IfSome, IsTrue, MatchOption};
+
+use pawk_machine::Node;
+use pawk_pattern::ByteSet;
+
+/// The byte set and the number of bytes, where the expression is seen to match so many bytes of one set and nothing else.
+pub fn run_of(node: &Node) -> Option<(&ByteSet, usize)>
+    ensures { IfSome result (λ run. IsRun (regex_of node.now) run.0.now.members run.1) }
+{
+    match node {
+        Node::Bytes(set) => Some((set, 1)),
+        Node::Sequence(a, b) => {
+            if let Node::Empty = &**b {
+                return run_of(a);
+            }
+            None
+        }
+        Node::Copies(copies, a) => {
+            let (set, count) = run_of(a)?;
+            let count = (*copies as usize).checked_mul(count)?;
+            Some((set, count))
+        }
+        Node::Empty
+        | Node::Start
+        | Node::End
+        | Node::Either(_, _)
+        | Node::Star(_)
+        | Node::Plus(_) => None,
+    }
+}
+
+/// The last place from `low` on and before `high` whose byte does not belong to the set.
+fn last_other(set: &ByteSet, text: &[u8], low: usize, high: usize) -> Option<usize>
+    requires { high ≤ length text.now }
+    ensures { MatchOption result (AllHold set.now.members text.now low high)
+        (λ place. (low ≤ place) × (place < high) × (Holds set.now.members (slice_index text.now place) → ⊥)) }
+{
+    let mut place = high;
+    while low < place {
+        place -= 1;
+        if !set.contains(text[place]) {
+            return Some(place);
+        }
+    }
+    None
+}
+
+/// The leftmost match of an expression that matches `count` bytes of the set and nothing else. No byte is read more than
+/// twice: a byte of another kind ends each match that starts before it.
+pub fn search_run(set: &ByteSet, count: usize, text: &[u8], from: usize) -> Option<(usize, usize)>
+    requires some { 1 ≤ count }
+    requires within { from ≤ length text.now }
+    ensures { (e : Regex) → IsRun e set.now.members count → IsFound (Takes e text.now) from result }
+{
+    let mut start = from;
+    while count <= text.len() - start {
+        match last_other(set, text, start, start + count) {
+            None => return Some((start, start + count)),
+            Some(place) => start = place + 1,
+        }
+    }
+    None
+}
+
+/// Whether `count` bytes of the set stand in a row at `from` or later.
+pub fn has_run(set: &ByteSet, count: usize, text: &[u8], from: usize) -> bool
+    requires some { 1 ≤ count }
+    requires within { from ≤ length text.now }
+    ensures { (e : Regex) → IsRun e set.now.members count → IsTrue result ↔ HasMatch (Takes e text.now) from }
+{
+    match search_run(set, count, text, from) {
+        None => false,
+        Some(_) => true,
+    }
+}
