@@ -1,5 +1,5 @@
 -- What a chunk's run tells, and the store that it is merged into.
-use Rattle.std.specs.Prelude.{◌≡◌, ℕ, ℤ, pos, List, [], Option, Some, None}
+use Rattle.std.specs.Prelude.{◌≡◌, ℕ, ℤ, pos, List, [], map, Option, Some, None}
 use Rattle.std.specs.Option.{option_map}
 use Rattle.pawk_value.specs.Value.{Val, Uninit, shown}
 use Rattle.pawk_merge.specs.Sums.{HasSums}
@@ -45,6 +45,14 @@ result_view c = record {
   ending = c.ending;
   last = option_map record_view c.state;
 }
+
+-- a chunk's number and its result
+abbrev pub Numbered : Type 0
+Numbered = ℕ × ChunkResult
+
+-- numbered results with texts as lists, without the numbers
+abbrev pub views : List Numbered → List ResultView
+views rs = map (λ (r : Numbered). result_view r.1) rs
 
 -- the second where there is one, else the first
 abbrev pub later_or : Option RecordView → Option RecordView → Option RecordView

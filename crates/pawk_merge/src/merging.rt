@@ -1,6 +1,6 @@
 //! The merge of the chunks' results, in order.
 
-ghost use Rattle.std.specs.Prelude.{◌≡◌, ◌≢◌, ℤ, ◌+ℤ◌, ◌&&◌, List, Ok, Err, IfOk, map, MatchResult};
+ghost use Rattle.std.specs.Prelude.{◌≡◌, ◌≢◌, ℤ, ◌+ℤ◌, ◌&&◌, List, Ok, Err, IfOk, MatchResult};
 ghost use Rattle.pawk_value.specs.Range.{in_range};
 ghost use Rattle.pawk_value.specs.Value.{shown, Num};
 ghost use Rattle.pawk_merge.specs.Small.{IsSmall};
@@ -8,7 +8,7 @@ ghost use Rattle.pawk_merge.specs.Cases.{result_cases};
 ghost use Rattle.pawk_value.specs.Conversion.{num_of};
 ghost use Rattle.std.specs.List.{flat_map};
 ghost use Rattle.std.specs.Option.{option_map};
-ghost use Rattle.pawk_merge.specs.Results.{record_view, result_view, view_of};
+ghost use Rattle.pawk_merge.specs.Results.{record_view, result_view, view_of, views};
 ghost use Rattle.pawk_merge.specs.Merge.{CanMerge, HaveTables, StopsAt, after, end_to_end, last_record, merged, whole_of};
 ghost use Rattle.pawk_merge.specs.MergeSteps.{value_or};
 ghost use Rattle.pawk_merge.specs.MergeSteps as steps;
@@ -125,12 +125,12 @@ fn merge_chunk(
 }
 
 /// The number that the cell has after all chunks; none where no chunk adds to it.
-fn merge_all(start: &Value, chunks: &[ChunkResult]) -> Result<Option<i64>, MergeStop>
+fn merge_all(start: &Value, chunks: &[(u64, ChunkResult)]) -> Result<Option<i64>, MergeStop>
     ensures { result_cases result (λ n. Ok (value_or (shown start.now) n)) Err
-        ≡ steps.merge_from (shown start.now) (map result_view chunks.now) }
+        ≡ steps.merge_from (shown start.now) (views chunks.now) }
 {
     let mut now = None;
-    for chunk in chunks {
+    for (_, chunk) in chunks {
         now = merge_chunk(start, now, chunk)?;
     }
     Ok(now)
@@ -140,16 +140,16 @@ fn merge_all(start: &Value, chunks: &[ChunkResult]) -> Result<Option<i64>, Merge
 fn join_results(
     alloc: Global,
     first: Option<RecordState>,
-    results: Vec<ChunkResult>,
+    results: Vec<(u64, ChunkResult)>,
 ) -> Result<(Vec<u8>, Option<RecordState>), AllocError>
     ensures output { IfOk result (λ r.
-        r.0.items ≡ flat_map (λ c. c.output) (map result_view results.items)) }
+        r.0.items ≡ flat_map (λ c. c.output) (views results.items)) }
     ensures state { IfOk result (λ r. option_map record_view r.1
-        ≡ last_record (option_map record_view first) (map result_view results.items)) }
+        ≡ last_record (option_map record_view first) (views results.items)) }
 {
     let mut output = Vec::new(alloc);
     let mut last = first;
-    for result in results {
+    for (_, result) in results {
         let ChunkResult {
             output: written,
             table: _,
@@ -163,13 +163,17 @@ fn join_results(
 }
 
 /// The value after the merge of the tables.
-fn merged_value(alloc: Global, start: &Value, chunks: &[ChunkResult]) -> Result<Value, MergeStop>
-    ensures { (adds : List (List ℤ)) → HaveTables (map result_view chunks.now) adds → MatchResult result
-        (λ v. CanMerge (shown start.now) (map result_view chunks.now) adds
+fn merged_value(
+    alloc: Global,
+    start: &Value,
+    chunks: &[(u64, ChunkResult)],
+) -> Result<Value, MergeStop>
+    ensures { (adds : List (List ℤ)) → HaveTables (views chunks.now) adds → MatchResult result
+        (λ v. CanMerge (shown start.now) (views chunks.now) adds
         × (shown v ≡ after (shown start.now) (end_to_end adds)))
         (λ e. e ≢ MergeStop.Memory →
-        StopsAt (shown start.now) (map result_view chunks.now) adds e
-        × ¬ CanMerge (shown start.now) (map result_view chunks.now) adds) }
+        StopsAt (shown start.now) (views chunks.now) adds e
+        × ¬ CanMerge (shown start.now) (views chunks.now) adds) }
 {
     match merge_all(start, chunks) {
         Err(stop) => Err(stop),
@@ -178,20 +182,25 @@ fn merged_value(alloc: Global, start: &Value, chunks: &[ChunkResult]) -> Result<
     }
 }
 
-/// Adds the tables of consecutive chunks, the first of which began with this store, in order: for any lists of adds that
-/// have these tables it is as if each add were made, one after the other, from the store's value on.
+/// Adds the tables of consecutive chunks, the first of which began with this store, in the order of the list: for any lists
+/// of adds that have these tables it is as if each add were made, one after the other, from the store's value on. The
+/// numbers beside the results are those by which a caller orders them; they are not read here.
 ///
 /// It succeeds exactly where, if there is an add at all, the store's value converts and each sum on the way is in the
 /// range of a number, and no chunk ended in a fault. Then the variable has its sum, or its value as it was where no chunk
 /// adds to it; the record state is the last one that a result tells, or the store's. Else it tells the stop that is met
 /// first, chunk by chunk, the cell before the chunk's ending. `Memory` comes where memory was refused.
-pub fn merge(alloc: Global, store: &Store, results: Vec<ChunkResult>) -> Result<Merged, MergeStop>
-    ensures { (adds : List (List ℤ)) → HaveTables (map result_view results.items) adds → MatchResult result
-        (λ m. CanMerge (view_of store.now).value (map result_view results.items) adds
-        × (whole_of m ≡ merged (view_of store.now) (map result_view results.items) adds))
+pub fn merge(
+    alloc: Global,
+    store: &Store,
+    results: Vec<(u64, ChunkResult)>,
+) -> Result<Merged, MergeStop>
+    ensures { (adds : List (List ℤ)) → HaveTables (views results.items) adds → MatchResult result
+        (λ m. CanMerge (view_of store.now).value (views results.items) adds
+        × (whole_of m ≡ merged (view_of store.now) (views results.items) adds))
         (λ e. e ≢ MergeStop.Memory →
-        StopsAt (view_of store.now).value (map result_view results.items) adds e
-        × ¬ CanMerge (view_of store.now).value (map result_view results.items) adds) }
+        StopsAt (view_of store.now).value (views results.items) adds e
+        × ¬ CanMerge (view_of store.now).value (views results.items) adds) }
 {
     let value = merged_value(alloc, &store.value, &results)?;
     let (output, state) = join_results(alloc, store.state, results)?;

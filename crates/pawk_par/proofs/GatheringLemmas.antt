@@ -16,9 +16,9 @@ use Rattle.pawk_board.proofs.Weights.{Weighs, cut_at, cut_drops}
 use Rattle.pawk_board.specs.declared.hand.Hand.{Hand}
 use Rattle.pawk_board.specs.Views.{SeatView, BoardView}
 use Rattle.pawk_board.specs.History.{blank, drawn_by, told_by, Lawful}
-use Rattle.pawk_par.specs.Worker.{Numbered, Mark, HasWorked, RanOrSeen, numbers, stopping, marked, ran_of, stops}
-use Rattle.pawk_par.specs.Shifts.{results_in, results_of, limit_of}
-use Rattle.pawk_par.specs.declared.shifts.Shift.{Shift}
+use Rattle.pawk_worker.specs.Worker.{Numbered, Mark, HasWorked, RanOrSeen, numbers, stopping, marked, ran_of, stops}
+use Rattle.pawk_worker.specs.Shifts.{results_in, results_of, limit_of}
+use Rattle.pawk_worker.specs.declared.shifts.Shift.{Shift}
 
 abbrev Results : Type 0
 Results = Result (Vec Numbered Global) AllocError

@@ -1,5 +1,3 @@
 pub mod PlanRunLemmas
 pub mod StreamLemmas
-pub mod WorkerLemmas
-pub mod ShiftLemmas
 pub mod GatheringLemmas

@@ -12,11 +12,11 @@ use Rattle.pawk_input.specs.declared.cutting.Chunk.{Chunk}
 use Rattle.pawk_sequence.specs.Outcome.{newline}
 use Rattle.pawk_sequence.specs.Meaning.{opening, record_phase}
 use Rattle.pawk_merge.specs.Merge.{end_to_end, HaveTables, CanMerge, StopsAt as MergeStopsAt}
-use Rattle.pawk_merge.specs.Results.{ResultView, StoreView, opening_view, result_view}
+use Rattle.pawk_merge.specs.Results.{ResultView, StoreView, opening_view, result_view, views}
 use Rattle.pawk_sequence.specs.Chunks.{RanChunk, Ran}
-use Rattle.pawk_par.specs.declared.job.Task.{Task}
-use Rattle.pawk_par.specs.Worker.{Numbered, IsResultOf, numbers, stops}
-use Rattle.pawk_par.specs.Shifts.{limit_of}
+use Rattle.pawk_worker.specs.declared.task.Task.{Task}
+use Rattle.pawk_worker.specs.Worker.{Numbered, IsResultOf, numbers, stops}
+use Rattle.pawk_worker.specs.Shifts.{limit_of}
 use Rattle.pawk_merge.specs.declared.merging.MergeStop.{MergeStop}
 use Rattle.pawk_merge.specs.declared.merging.MergeStop.TheVariants as stop
 use Rattle.pawk_merge.specs.declared.chunk.Left.{Left}
@@ -56,7 +56,7 @@ pub Ran-upto : (k : ℕ) (records : Chunk → List Item) (stop : ℕ) (plan : Li
     → ((i : ℕ) (d : Numbered) → i < length rs → RanChunk k (records (get_or plan i no_chunk)) (result_view (get_or rs i d).1))
     → ((i : ℕ) (d : Numbered) → i < length rs → i < stop → (get_or rs i d).1.ending ≡ left.Through)
     → (stop < length plan → (d : Numbered) × (stops (get_or rs stop d).1.ending ≡ true))
-    → Ran k (map records plan) (map result_view (map (λ (r : Numbered). r.1) rs))
+    → Ran k (map records plan) (views rs)
 Ran-upto k records stop [] [] len ran through last = tt
 Ran-upto k records stop [] (r ∷ rs) len ran through last = absurd (let none : limit_of stop 0 ≤ 0 = grind (arith, nat_tests) in omega (arith, len, none))
 Ran-upto k records stop (c ∷ plan) [] len ran through last = absurd (omega (arith, len, limit_some stop (length plan)))
@@ -80,7 +80,7 @@ key_at n rs e i d h =
 -- results of the first chunks in order, up to the one that did not run through
 pub Ran-numbered : (t : Task) (stop : ℕ) (rs : List Numbered) → numbers rs ≡ range_with_len 0 (limit_of stop (length t.plan.now))
     → All (IsResultOf t) rs → All (λ (r : Numbered). stops r.1.ending ≡ true → r.0 ≡ stop) rs → (stop < length t.plan.now → StopsAt stop rs)
-    → Ran t.program.now.field (map (chunk_items newline t.input.now) t.plan.now) (map result_view (map (λ (r : Numbered). r.1) rs))
+    → Ran t.program.now.field (map (chunk_items newline t.input.now) t.plan.now) (views rs)
 Ran-numbered t stop rs order run only last =
     let files : List File = t.input.now in
     let plan : List Chunk = t.plan.now in

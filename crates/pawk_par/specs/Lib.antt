@@ -1,10 +1,6 @@
-pub mod Task
 pub mod Cutting
 pub mod Run
-pub mod Device
 pub mod Streams
-pub mod Worker
-pub mod Shifts
 pub use Rattle.pawk_sequence.specs.Meaning
 pub use Rattle.pawk_sequence.specs.Outcome
 pub use Rattle.pawk_sequence.specs.Chunks
@@ -14,3 +10,7 @@ pub use Rattle.pawk_merge.specs.Results
 pub use Rattle.pawk_merge.specs.Merge
 pub use Rattle.pawk_shape.specs.Program
 pub use Rattle.pawk_shape.specs.Limits
+pub use Rattle.pawk_device.specs.Device
+pub use Rattle.pawk_worker.specs.Task
+pub use Rattle.pawk_worker.specs.Worker
+pub use Rattle.pawk_worker.specs.Shifts

@@ -1,22 +1,21 @@
 //! The results of all workers, brought together.
 
-ghost use Rattle.std.specs.Prelude.{◌≡◌, ◌≢◌, ◌≤◌, nat_lt, length, map, filter, All, IfOk, IfErr, IsOk};
+ghost use Rattle.std.specs.Prelude.{◌≡◌, ◌≢◌, ◌≤◌, ◌++◌, nat_lt, length, map, filter, All, IfOk, IfErr, IsOk};
 ghost use Rattle.std.specs.List.{flat_map};
 ghost use Rattle.pawk_board.specs.Limits.{most_chunks};
 ghost use Rattle.pawk_input.specs.Plan.{IsPlanOf, chunk_items};
-ghost use Rattle.pawk_merge.specs.Results.{result_view};
+ghost use Rattle.pawk_merge.specs.Results.{views};
 ghost use Rattle.pawk_sequence.specs.Chunks.{Ran};
 ghost use Rattle.pawk_sequence.specs.Outcome.{newline};
-ghost use Rattle.pawk_par.specs.Shifts.{limit_of, results_of};
-ghost use Rattle.pawk_par.specs.Task.{IsCrew};
+ghost use Rattle.pawk_worker.specs.Shifts.{limit_of, results_of};
+ghost use Rattle.pawk_worker.specs.Task.{IsCrew};
 
-use crate::gate::Gate;
-use crate::job::{Job, Task};
+use crate::job::Job;
 use crate::report::Refusal;
-use crate::shifts::{Shift, all_work};
 use pawk_board::{Board, BoardSeat};
 use pawk_input::Plan;
 use pawk_merge::ChunkResult;
+use pawk_worker::{Gate, Shift, Task, all_work};
 use std::alloc::{AllocError, Global};
 use std::sync::Wait;
 use std::thread::Threads;
@@ -37,9 +36,8 @@ fn join_shifts(
             seat,
             results: done,
         } = shift;
-        let mut done = done?;
+        results = join_results(results, done?)?;
         seats.push(seat)?;
-        results.append(&mut done)?;
     }
     Ok((seats, results))
 }
@@ -58,20 +56,22 @@ fn keep_below(results: &mut Vec<(u64, ChunkResult)>, limit: u64)
     results.retain(|numbered| numbered.0 < limit);
 }
 
-fn without_numbers(
-    alloc: Global,
-    numbered: Vec<(u64, ChunkResult)>,
-) -> Result<Vec<ChunkResult>, AllocError>
-    ensures { IfOk result (λ v. v.items ≡ map (λ r. r.1) numbered.items) }
+/// The first results with the others after them, in the room of the first as far as it goes.
+fn join_results(
+    first: Vec<(u64, ChunkResult)>,
+    mut others: Vec<(u64, ChunkResult)>,
+) -> Result<Vec<(u64, ChunkResult)>, AllocError>
+    ensures { IfOk result (λ v. v.items ≡ first.items ++ others.items) }
 {
-    let mut results = Vec::with_capacity(alloc, numbered.len())?;
-    for (_, result) in numbered {
-        results.push(result)?;
+    if first.is_empty() {
+        return Ok(others);
     }
+    let mut results = first;
+    results.append(&mut others)?;
     Ok(results)
 }
 
-/// The results of the chunks in order, up to the first that did not run through, by so many workers, or fewer where there
+/// The results of the chunks in order, with their numbers, up to the first that did not run through, by so many workers, or fewer where there
 /// are fewer chunks.
 pub(crate) fn run_chunks<G: Gate + Sync, R: Threads + Wait>(
     rt: &R,
@@ -80,13 +80,13 @@ pub(crate) fn run_chunks<G: Gate + Sync, R: Threads + Wait>(
     plan: &Plan,
     workers: usize,
     gate: &G,
-) -> Result<Vec<ChunkResult>, Refusal>
+) -> Result<Vec<(u64, ChunkResult)>, Refusal>
     requires plan { IsPlanOf newline job.input.now plan.now }
     requires few { length plan.now ≤ most_chunks }
     requires workers { IsCrew workers }
     ensures refused { IfErr result (λ e. e ≢ Refusal.Cutting) }
     ensures ran { IfOk result (λ rs. Ran job.entry.program.now.field
-        (map (chunk_items newline job.entry.input.now) plan.now) (map result_view rs.items)) }
+        (map (chunk_items newline job.entry.input.now) plan.now) (views rs.items)) }
 {
     let chunks = plan.len() as u64;
     let crew = workers.min(plan.len()).max(1);
@@ -103,5 +103,5 @@ pub(crate) fn run_chunks<G: Gate + Sync, R: Threads + Wait>(
     let stop = tally.stop();
     keep_below(&mut results, limit(stop, chunks));
     results.sort_unstable_by_key(|numbered| numbered.0);
-    Ok(without_numbers(alloc, results)?)
+    Ok(results)
 }

@@ -1,5 +1,6 @@
 //! How a run went, and why one was refused.
 
+use pawk_worker::WorkerRefusal;
 use std::alloc::AllocError;
 
 /// Which way a run went.
@@ -37,5 +38,19 @@ impl From<AllocError> for Refusal {
 
     fn from(_error: AllocError) -> Refusal {
         Refusal::Memory
+    }
+}
+
+impl From<WorkerRefusal> for Refusal {
+    ghost use Rattle.std.specs.Prelude.{◌≢◌};
+    ghost use Rattle.pawk_par.specs.declared.report.Refusal.TheVariants.{Cutting};
+
+    ghost from_gives = { λ _ e. e ≢ Cutting };
+
+    fn from(refusal: WorkerRefusal) -> Refusal {
+        match refusal {
+            WorkerRefusal::Memory => Refusal::Memory,
+            WorkerRefusal::Thread => Refusal::Thread,
+        }
     }
 }

@@ -8,16 +8,16 @@ ghost use Rattle.pawk_sequence.specs.Chunks.{state_over};
 ghost use Rattle.pawk_sequence.specs.Outcome.{meaning, newline, phase_over, shown_outcome};
 ghost use Rattle.pawk_par.specs.Cutting.{IsSized, IsRefused, PlanRefused};
 ghost use Rattle.pawk_par.specs.Run.{route_over};
-ghost use Rattle.pawk_par.specs.Task.{IsCrew};
+ghost use Rattle.pawk_worker.specs.Task.{IsCrew};
 
 use crate::cutting::Cutting;
-use crate::gate::Gate;
 use crate::gathering::run_chunks;
 use crate::job::Job;
 use crate::report::{Refusal, Report, Route};
 use pawk_input::{CutRefusal, Input, Plan};
 use pawk_merge::{MergeStop, Store, merge};
 use pawk_sequence::{NEWLINE, Outcome, RecordPhase, finish, run_sequence};
+use pawk_worker::Gate;
 use std::alloc::Global;
 use std::sync::Wait;
 use std::thread::Threads;

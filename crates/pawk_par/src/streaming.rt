@@ -1,25 +1,24 @@
 //! A run from a source to a sink.
 
-ghost use Rattle.std.specs.Prelude.{◌≡◌, ◌≤◌, ◌<◌, [], take, drop, length, Some, Ok, Err, IfOk, IfErr, IfSome, OnOk};
-ghost use Rattle.std.specs.Io.KnownBytes.{Appends, Keeps};
+ghost use Rattle.std.specs.Prelude.{◌≡◌, [], Some, IfOk, IfErr, IfSome};
 ghost use Rattle.pawk_sequence.specs.Outcome.{meaning, shown_outcome};
 ghost use Rattle.pawk_shape.specs.Limits.{IsBudget};
 ghost use Rattle.pawk_shape.specs.Program.{Spells};
 ghost use Rattle.pawk_par.specs.Cutting.{IsSized, IsRefused};
 ghost use Rattle.pawk_par.specs.Run.{route_over};
 ghost use Rattle.pawk_par.specs.Streams.{Answers, WhyRefused, WhyUnprepared, WhyUnread, devices, standard_input};
-ghost use Rattle.pawk_par.specs.Task.{IsCrew};
+ghost use Rattle.pawk_worker.specs.Task.{IsCrew};
 
 use crate::cutting::Cutting;
-use crate::device::{Failed, Sink, Source};
-use crate::gate::Gate;
 use crate::job::Job;
 use crate::report::{Refusal, Report};
 use crate::running::run;
-use pawk_input::{Input, LIMIT, TooLarge};
+use pawk_device::{ReadStop, Sink, Source, read_all, write_all};
+use pawk_input::{Input, TooLarge};
 use pawk_sequence::Ending;
 use pawk_shape::{Assignment, Program, Settings, SettingsRefusal, SyntaxRefusal, parse};
-use std::alloc::{AllocError, AllocFailed, Global};
+use pawk_worker::Gate;
+use std::alloc::{AllocFailed, Global};
 use std::sync::Wait;
 use std::thread::Threads;
 
@@ -57,107 +56,6 @@ pub enum StreamRefusal {
     Write(u64),
     /// The input is larger than an input may be.
     Input,
-}
-
-/// How many bytes are asked of a source at once.
-const PIECE: usize = 131_072;
-
-/// Why a source was not read to its end.
-#[derive(Clone, Copy)]
-enum ReadStop {
-    Memory,
-    Failed,
-    TooLarge,
-}
-
-impl From<AllocError> for ReadStop {
-    ghost use Rattle.pawk_par.specs.declared.streaming.ReadStop.TheVariants.{Memory};
-
-    ghost from_gives = { λ _ e. e ≡ Memory };
-
-    fn from(_error: AllocError) -> ReadStop {
-        ReadStop::Memory
-    }
-}
-
-/// So many zero bytes.
-fn zeros(alloc: Global, count: usize) -> Result<Vec<u8>, AllocError>
-    ensures { IfOk result (λ v. length v.items ≡ count) }
-{
-    vec![in alloc; 0u8; count]
-}
-
-/// Reads a source to its end, a piece at a time.
-fn read_pieces<S: Source>(
-    alloc: Global,
-    source: &mut S,
-    piece: &mut [u8],
-) -> Result<Vec<u8>, ReadStop>
-    requires { 0 < length piece.old }
-    ensures bytes { IfOk result (λ v. IfSome (S.left source.old) (λ bytes. v.items ≡ bytes)) }
-    ensures small { IfOk result (λ v. length v.items ≤ LIMIT) }
-    ensures failed { result ≡ Err ReadStop.Failed → S.failures source.old < S.failures source.new }
-    ensures large { result ≡ Err ReadStop.TooLarge →
-        IfSome (S.left source.old) (λ bytes. LIMIT < length bytes) }
-{
-    let mut bytes = Vec::new(alloc);
-    loop {
-        let count = match source.read(piece) {
-            Ok(count) => count,
-            Err(Failed) => return Err(ReadStop::Failed),
-        };
-        if count == 0 {
-            return Ok(bytes);
-        }
-        bytes.extend_from_slice(&piece[..count])?;
-        if bytes.len() as u64 > LIMIT {
-            return Err(ReadStop::TooLarge);
-        }
-    }
-}
-
-/// Reads a source to its end.
-fn read_all<S: Source>(alloc: Global, source: &mut S) -> Result<Vec<u8>, ReadStop>
-    ensures bytes { IfOk result (λ v. IfSome (S.left source.old) (λ bytes. v.items ≡ bytes)) }
-    ensures small { IfOk result (λ v. length v.items ≤ LIMIT) }
-    ensures failed { result ≡ Err ReadStop.Failed → S.failures source.old < S.failures source.new }
-    ensures large { result ≡ Err ReadStop.TooLarge →
-        IfSome (S.left source.old) (λ bytes. LIMIT < length bytes) }
-{
-    let mut piece = zeros(alloc, PIECE)?;
-    read_pieces(alloc, source, &mut piece)
-}
-
-/// What follows the first `count` bytes.
-fn past(bytes: &[u8], count: usize) -> &[u8]
-    ensures { result.now ≡ drop count bytes.now }
-{
-    if count < bytes.len() {
-        &bytes[count..]
-    } else {
-        &[]
-    }
-}
-
-/// Writes all the bytes, or tells how many went out before a write failed.
-fn write_all<K: Sink>(sink: &mut K, bytes: &[u8]) -> Result<(), u64>
-    ensures all { OnOk result (Appends (K.taken sink.old) (K.taken sink.new) bytes.now) }
-    ensures failed { IfErr result (λ _. K.failures sink.old < K.failures sink.new) }
-    ensures part { IfErr result (λ n.
-        (n < length bytes.now) × Appends (K.taken sink.old) (K.taken sink.new) (take n bytes.now)) }
-{
-    let mut done = 0;
-    while done < bytes.len() {
-        let count = match sink.write(past(bytes, done)) {
-            Ok(count) => count,
-            Err(Failed) => return Err(done as u64),
-        };
-        if count == 0 {
-            return Err(done as u64);
-        }
-        done += count;
-    }
-    Ok(())
 }
 
 /// The program and the settings.

@@ -75,8 +75,8 @@ fn merge_two(
         state: None,
     };
     let mut results = Vec::with_capacity(alloc, 2)?;
-    results.push(result_of(alloc, None, Left::Through, 1))?;
-    results.push(result_of(alloc, table_of(adds), ending, 2))?;
+    results.push((0, result_of(alloc, None, Left::Through, 1)))?;
+    results.push((1, result_of(alloc, table_of(adds), ending, 2)))?;
     Ok(merge(alloc, &store, results))
 }
 

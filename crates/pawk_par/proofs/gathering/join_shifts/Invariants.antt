@@ -1,7 +1,7 @@
 use Rattle.std.proofs.Common.{◌≡◌, map, All, IsOk}
 use Rattle.std.specs.List.{flat_map}
-use Rattle.pawk_par.specs.declared.shifts.Shift.{Shift}
-use Rattle.pawk_par.specs.Shifts.{results_of}
+use Rattle.pawk_worker.specs.declared.shifts.Shift.{Shift}
+use Rattle.pawk_worker.specs.Shifts.{results_of}
 use Rattle.pawk_par.proofs.gathering.join_shifts.Given as goal
 
 abbrev pub invariant-loop-shift : goal.invariant-loop-shift

@@ -1,6 +1,6 @@
 use Rattle.std.proofs.Common.{rules, nat_lt}
 use Rattle.std.proofs.lemmas.Fn.{filter_same}
-use Rattle.pawk_par.specs.Worker.{Numbered}
+use Rattle.pawk_worker.specs.Worker.{Numbered}
 use Rattle.pawk_par.proofs.gathering.keep_below.Goals as goal
 
 pub returns : goal.returns

@@ -7,15 +7,10 @@ use Rattle.pawk_board.specs.History.{Lawful}
 use Rattle.pawk_board.specs.Views.{SeatView, fresh}
 use Rattle.pawk_board.proofs.Keyed.{kept_below, in_order}
 use Rattle.pawk_board.proofs.Weights.{Weighs}
-use Rattle.pawk_input.specs.Plan.{chunk_items}
-use Rattle.pawk_merge.specs.Results.{result_view}
-use Rattle.pawk_sequence.specs.Chunks.{Ran}
-use Rattle.pawk_sequence.specs.Outcome.{newline}
-use Rattle.pawk_par.specs.Worker.{Numbered, IsResultOf, numbers, stops}
-use Rattle.pawk_par.specs.Shifts.{Worked, results_of, limit_of}
-use Rattle.pawk_merge.specs.declared.chunk.ChunkResult.{ChunkResult}
-use Rattle.pawk_par.specs.declared.job.Task.{Task}
-use Rattle.pawk_par.specs.declared.shifts.Shift.{Shift}
+use Rattle.pawk_worker.specs.Worker.{Numbered, IsResultOf, numbers, stops}
+use Rattle.pawk_worker.specs.Shifts.{Worked, results_of, limit_of}
+use Rattle.pawk_worker.specs.declared.task.Task.{Task}
+use Rattle.pawk_worker.specs.declared.shifts.Shift.{Shift}
 use Rattle.pawk_par.proofs.GatheringLemmas.{number, hands, hands_of_seats, each_once, all_made, past_stop, at_stop, settled, stop_kept, StopsAt}
 use Rattle.pawk_par.proofs.PlanRunLemmas.{Ran-numbered}
 use Rattle.pawk_par.proofs.gathering.run_chunks.Goals as goal
@@ -37,8 +32,6 @@ returns-clause-ran g c =
     let shifts = c.in_ok-shifts.shifts.items in
     let plan = c.args.plan.now in
     let t : Task = record { program = c.args.job.program; input = c.args.job.input; plan = c.args.plan; board = record { ref_ptr = (0, 0); now = board } } in
-    let shape = c.args.job.program.now in
-    let files = c.args.job.input.now in
     let D = limit_of stop C in
     let Q = IsResultOf t in
     let S = λ (r : Numbered). stops r.1.ending ≡ true → r.0 ≡ stop in
@@ -65,5 +58,4 @@ returns-clause-ran g c =
     let last : stop < length plan → StopsAt stop sorted = λ small.
     let less : stop < C = subst (λ (k : ℕ). stop < k) (sym counted) small in
     stop_kept stop C all sorted perm_kept less (at_stop Q board stop counter shifts does met lawful less) in
-    let ran = Ran-numbered t stop sorted (order ∙ ap (λ (k : ℕ). range_with_len 0 (limit_of stop k)) counted) made still last in
-    subst (λ (l : List ChunkResult). Ran shape.field (map (chunk_items newline files) plan) (map result_view l)) (sym c.in_ok-without_numbers.ensures) ran
+    Ran-numbered t stop sorted (order ∙ ap (λ (k : ℕ). range_with_len 0 (limit_of stop k)) counted) made still last

@@ -2,7 +2,7 @@ use Rattle.std.proofs.Common.{◌≡◌, None, List, map, subst, sym, ap, ◌∙
 use Rattle.pawk_input.specs.Input.{Item, items}
 use Rattle.pawk_input.specs.Plan.{chunk_items}
 use Rattle.pawk_merge.specs.Merge.{end_to_end, CanMerge, merged, whole_of}
-use Rattle.pawk_merge.specs.Results.{StoreView, result_view, view_of}
+use Rattle.pawk_merge.specs.Results.{StoreView, views, view_of}
 use Rattle.pawk_sequence.specs.Chunks.{HasNames, state_over}
 use Rattle.pawk_sequence.specs.Meaning.{opening, record_phase}
 use Rattle.pawk_sequence.specs.Outcome.{newline}
@@ -16,7 +16,7 @@ returns-in-Ok-clause-ends g c =
     let k = c.args.job.program.now.field in
     let files = c.args.job.input.now in
     let iss = map (chunk_items newline files) c.args.plan.now in
-    let cs = map result_view c.in_ok-results.results.items in
+    let cs = views c.in_ok-results.results.items in
     let whole : end_to_end iss ≡ items newline files = joined_map (chunk_items newline files) c.args.plan.now ∙ c.requires.plan.whole in
     let tables = tables_of k iss cs c.in_ok-results.ensures.ran in
     let merges = subst (λ (st : StoreView). CanMerge st.value cs tables.0 × (whole_of c.in-Ok.merged ≡ merged st cs tables.0)) c.new.ensures (c.in-Ok.ensures tables.0 tables.1) in
@@ -29,7 +29,7 @@ returns-in-Err-Cell-clause-ends g c =
     let files = c.args.job.input.now in
     let iss = map (chunk_items newline files) c.args.plan.now in
     let whole : end_to_end iss ≡ items newline files = joined_map (chunk_items newline files) c.args.plan.now ∙ c.requires.plan.whole in
-    fault_of_merge c.args.job.program.now.field iss (map result_view c.in_ok-results.results.items) (items newline files) (view_of c.new.result) c.in-Err-Cell.field-0
+    fault_of_merge c.args.job.program.now.field iss (views c.in_ok-results.results.items) (items newline files) (view_of c.new.result) c.in-Err-Cell.field-0
     whole c.new.ensures c.in_ok-results.ensures.ran (λ e. let bad = sym c.in-Err-Cell.field-0-is ∙ e in cc) c.in-Err-Cell.ensures
 
 pub returns-clause-ends : goal.returns-clause-ends
@@ -37,5 +37,5 @@ returns-clause-ends g c =
     let files = c.args.job.input.now in
     let iss = map (chunk_items newline files) c.args.plan.now in
     let whole : end_to_end iss ≡ items newline files = joined_map (chunk_items newline files) c.args.plan.now ∙ c.requires.plan.whole in
-    fault_of_merge c.args.job.program.now.field iss (map result_view c.in_ok-results.results.items) (items newline files) (view_of c.new.result) c.in-Err-Fault.field-0
+    fault_of_merge c.args.job.program.now.field iss (views c.in_ok-results.results.items) (items newline files) (view_of c.new.result) c.in-Err-Fault.field-0
     whole c.new.ensures c.in_ok-results.ensures.ran (λ e. let bad = sym c.in-Err-Fault.field-0-is ∙ e in cc) c.in-Err-Fault.ensures

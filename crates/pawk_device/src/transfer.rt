@@ -1,0 +1,115 @@
+//! All of a source's bytes, and all bytes to a sink.
+
+ghost use Rattle.std.specs.Prelude.{◌≡◌, ◌≤◌, ◌<◌, take, drop, length, Ok, Err, IfOk, IfErr, IfSome, OnOk};
+ghost use Rattle.std.specs.Io.KnownBytes.{Appends};
+
+use crate::device::{Failed, Sink, Source};
+use pawk_input::LIMIT;
+use std::alloc::{AllocError, Global};
+
+/// How many bytes are asked of a source at once.
+const PIECE: usize = 131_072;
+
+/// Why a source was not read to its end.
+#[derive(Clone, Copy)]
+pub enum ReadStop {
+    /// Memory was refused.
+    Memory,
+    /// A read failed.
+    Failed,
+    /// It gave more bytes than an input may have.
+    TooLarge,
+}
+
+impl From<AllocError> for ReadStop {
+    ghost use Rattle.pawk_device.specs.declared.transfer.ReadStop.TheVariants.{Memory};
+
+    ghost from_gives = { λ _ e. e ≡ Memory };
+
+    fn from(_error: AllocError) -> ReadStop {
+        ReadStop::Memory
+    }
+}
+
+/// So many zero bytes.
+fn zeros(alloc: Global, count: usize) -> Result<Vec<u8>, AllocError>
+    ensures { IfOk result (λ v. length v.items ≡ count) }
+{
+    vec![in alloc; 0u8; count]
+}
+
+/// Reads a source to its end, a piece at a time.
+fn read_pieces<S: Source>(
+    alloc: Global,
+    source: &mut S,
+    piece: &mut [u8],
+) -> Result<Vec<u8>, ReadStop>
+    requires { 0 < length piece.old }
+    ensures bytes { IfOk result (λ v. IfSome (S.left source.old) (λ bytes. v.items ≡ bytes)) }
+    ensures small { IfOk result (λ v. length v.items ≤ LIMIT) }
+    ensures failed { result ≡ Err ReadStop.Failed → S.failures source.old < S.failures source.new }
+    ensures large { result ≡ Err ReadStop.TooLarge →
+        IfSome (S.left source.old) (λ bytes. LIMIT < length bytes) }
+{
+    let mut bytes = Vec::new(alloc);
+    loop {
+        let count = match source.read(piece) {
+            Ok(count) => count,
+            Err(Failed) => return Err(ReadStop::Failed),
+        };
+        if count == 0 {
+            return Ok(bytes);
+        }
+        bytes.extend_from_slice(&piece[..count])?;
+        if bytes.len() as u64 > LIMIT {
+            return Err(ReadStop::TooLarge);
+        }
+    }
+}
+
+/// Reads a source to its end, and gives all its bytes, at most as many as an input may have.
+///
+/// `Failed` comes where a read failed, `TooLarge` where the source has more bytes than that, `Memory` where memory was
+/// refused; the source was then read in part.
+pub fn read_all<S: Source>(alloc: Global, source: &mut S) -> Result<Vec<u8>, ReadStop>
+    ensures bytes { IfOk result (λ v. IfSome (S.left source.old) (λ bytes. v.items ≡ bytes)) }
+    ensures small { IfOk result (λ v. length v.items ≤ LIMIT) }
+    ensures failed { result ≡ Err ReadStop.Failed → S.failures source.old < S.failures source.new }
+    ensures large { result ≡ Err ReadStop.TooLarge →
+        IfSome (S.left source.old) (λ bytes. LIMIT < length bytes) }
+{
+    let mut piece = zeros(alloc, PIECE)?;
+    read_pieces(alloc, source, &mut piece)
+}
+
+/// What follows the first `count` bytes.
+fn past(bytes: &[u8], count: usize) -> &[u8]
+    ensures { result.now ≡ drop count bytes.now }
+{
+    if count < bytes.len() {
+        &bytes[count..]
+    } else {
+        &[]
+    }
+}
+
+/// Writes all the bytes, in order. The error is the count of bytes that went out before a write failed, or took nothing.
+pub fn write_all<K: Sink>(sink: &mut K, bytes: &[u8]) -> Result<(), u64>
+    ensures all { OnOk result (Appends (K.taken sink.old) (K.taken sink.new) bytes.now) }
+    ensures failed { IfErr result (λ _. K.failures sink.old < K.failures sink.new) }
+    ensures part { IfErr result (λ n.
+        (n < length bytes.now) × Appends (K.taken sink.old) (K.taken sink.new) (take n bytes.now)) }
+{
+    let mut done = 0;
+    while done < bytes.len() {
+        let count = match sink.write(past(bytes, done)) {
+            Ok(count) => count,
+            Err(Failed) => return Err(done as u64),
+        };
+        if count == 0 {
+            return Err(done as u64);
+        }
+        done += count;
+    }
+    Ok(())
+}

@@ -1,6 +1,0 @@
-use Rattle.std.proofs.Common.{◌≡◌, map}
-use Rattle.pawk_par.specs.Worker.{Numbered}
-use Rattle.pawk_par.proofs.gathering.without_numbers.Given as goal
-
-abbrev pub invariant-loop-result : goal.invariant-loop-result
-invariant-loop-result l = l.results.items ≡ map (λ (r : Numbered). r.1) l.yielded

@@ -1,0 +1,2 @@
+pub mod WorkerLemmas
+pub mod ShiftLemmas
