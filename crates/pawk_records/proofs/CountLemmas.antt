@@ -1,10 +1,10 @@
 -- How many records begin in a part of the bytes.
-use Rattle.std.proofs.Common.{◌≡◌, ◌≢◌, inl, inr, ℕ, zero, suc, ◌+◌, ◌-◌, ◌<◌, ◌≤◌, Bool, true, false, cond, eqb, List, [], ◌∷◌, ◌++◌, length, take, drop, get_or, refl, ap, arith, sym, ◌∙◌}
+use Rattle.std.proofs.Common.{◌≡◌, inl, inr, ℕ, zero, suc, ◌+◌, ◌-◌, ◌<◌, ◌≤◌, Bool, true, false, cond, eqb, List, [], ◌∷◌, length, take, drop, get_or, refl, ap, arith, sym, ◌∙◌}
 use Rattle.std.proofs.lemmas.Bool.Decides.{eqb_tells}
-use Rattle.std.proofs.lemmas.List.{drop_more, length-drop}
+use Rattle.std.proofs.lemmas.List.{drop_more}
 use Rattle.std.proofs.lemmas.List.Sums.{sum_by-cons}
 use Rattle.std.specs.List.{count_by}
-use Rattle.memchr.specs.Find.{is_byte, Nowhere, NoneBefore}
+use Rattle.memchr.specs.Find.{is_byte, Nowhere}
 use Rattle.pawk_records.specs.Begins.{is_after, begins_at, BeginsAt, places_where}
 use Rattle.pawk_records.proofs.PlaceLemmas.{places_where-none, places_where-first}
 use Rattle.pawk_records.proofs.BeginsLemmas.{begins_at-take}

@@ -1,4 +1,4 @@
-use Rattle.std.proofs.Common.{◌≡◌, ◌+◌, ◌-◌, ◌∷◌, [], length, ap, sym, ◌∙◌, arith}
+use Rattle.std.proofs.Common.{◌+◌, ◌∷◌, [], length, ap, sym, ◌∙◌, arith}
 use Rattle.pawk_records.specs.Begins.{begins_within}
 use Rattle.pawk_records.proofs.CountLemmas.{count_from_start, count_from_later}
 use Rattle.pawk_records.proofs.count.count_line_begins.Goals as goal
