@@ -299,7 +299,7 @@ module _ (expr : Bool → ℕ → Parser Tree) (h : (c : Bool) (k : ℕ) → IsA
   unfolding field_step
   sound_field_step c s op is ts =
       on_bind (expr c 14 ts) _ (λ a rest. Derives c 14 ts rest a) _ (h c 14 (inr refl) ts) (λ a rest d.
-      on_low (unary single.Field (unary op a)) rest _ _ (inr (inr refl), a_field_step is d))
+      on_low (unary op a) rest _ _ (on_low (unary single.Field (unary op a)) rest _ _ (inr (inr refl), a_field_step is d)))
 
   sound_field : (c : Bool) (ts : List Tok) → OnFound (ReadsOperand c (t.mark m.Dollar ∷ ts)) (field expr c ts)
   unfolding field after

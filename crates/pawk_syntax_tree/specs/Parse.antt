@@ -188,7 +188,8 @@ module _ (expr : Bool → ℕ → Parser Tree) where
   unfoldable pub field_step : Bool → Single → Parser Operand
   field_step compares op = do
     a ← expr compares 14
-    e ← low (unary single.Field (unary op a))
+    d ← low (unary op a)
+    e ← low (unary single.Field d)
     pure (e, 14)
 
   unfoldable pub field : Bool → Parser Operand
