@@ -1,7 +1,7 @@
 //! Expressions, by levels. Each function takes the reader of nested phrases as a parameter, so that
 //! each is proved by itself.
 
-ghost use Rattle.std.specs.Prelude.{◌≡◌, ◌+◌, ◌≤◌, [], length, IfOk, Option, Some, None, true};
+ghost use Rattle.std.specs.Prelude.{◌≡◌, ◌+◌, ◌≤◌, [], length, IfOk, Option, Some, None, true, false};
 ghost use Rattle.pawk_syntax_tree.specs.Levels as levels;
 ghost use Rattle.pawk_syntax_tree.specs.Parse as spec;
 ghost use Rattle.pawk_syntax_parse.specs.Reads.{input, Gives, nothing, tree_of, trees_of, operand_of};
@@ -442,4 +442,50 @@ pub fn expr(
         expr,
     }
     .phrase(ts, compares, least)
+}
+
+/// One or more expressions with commas between, after those of `front`.
+pub fn list(
+    alloc: Global,
+    ts: &mut Cursor<'_>,
+    compares: bool,
+    front: Phrases,
+) -> Result<Phrases, SyntaxRefusal>
+    ensures { Gives trees_of (spec.list_from (spec.expr spec.greatest_depth) compares None (length (input ts.old)) (trees_of front) (input ts.old)) result (input ts.new) }
+{
+    Grammar {
+        alloc,
+        depth: GREATEST_DEPTH,
+        expr,
+    }
+    .list(ts, compares, None, front)
+}
+
+/// A list of expressions, and the closing bracket.
+pub fn list_up_to(alloc: Global, ts: &mut Cursor<'_>, close: Mark) -> Result<Phrases, SyntaxRefusal>
+    ensures { Gives trees_of (spec.list_up_to (spec.expr spec.greatest_depth) close None (input ts.old)) result (input ts.new) }
+{
+    Grammar {
+        alloc,
+        depth: GREATEST_DEPTH,
+        expr,
+    }
+    .list_up_to(ts, close, None)
+}
+
+/// An expression that begins with an operand of this level, where `>` is no comparison.
+pub fn after_operand(
+    alloc: Global,
+    ts: &mut Cursor<'_>,
+    first: Phrase,
+    level: u8,
+) -> Result<Phrase, SyntaxRefusal>
+    ensures { Gives tree_of (spec.climb (spec.expr spec.greatest_depth) false (length (input ts.old) + 1) 0 level (tree_of first) (input ts.old)) result (input ts.new) }
+{
+    Grammar {
+        alloc,
+        depth: GREATEST_DEPTH,
+        expr,
+    }
+    .climb(ts, false, OF_EXPR, (first, level))
 }

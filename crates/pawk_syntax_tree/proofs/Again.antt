@@ -515,7 +515,7 @@ round_again f bs a h hs n le low' is rest =
     let x = canon a (canon_others bs (closing rest)) in
     rw (list_again f bs a h hs true n (length x) le low' [] is (closing rest) (bracket_closes rest) (omega arith), end_group rest) refl
 
-square_again : (bs : Trees) (a : Tree) → Again a → EachAgain bs → (n : ℕ) → 2 * max (height a) (highest bs) ≤ n → max (height a) (highest bs) ≤ 200 → AreArguments None 0 (more a bs) → (rest : List Tok) → list_up_to (expr n) m.RightBracket None (canon a (canon_others bs (t.mark m.RightBracket ∷ rest))) ≡ Some (a ∷ list_of bs, rest)
+pub square_again : (bs : Trees) (a : Tree) → Again a → EachAgain bs → (n : ℕ) → 2 * max (height a) (highest bs) ≤ n → max (height a) (highest bs) ≤ 200 → AreArguments None 0 (more a bs) → (rest : List Tok) → list_up_to (expr n) m.RightBracket None (canon a (canon_others bs (t.mark m.RightBracket ∷ rest))) ≡ Some (a ∷ list_of bs, rest)
 unfolding list_up_to
 square_again bs a h hs n le low' is rest =
     let x = canon a (canon_others bs (t.mark m.RightBracket ∷ rest)) in
@@ -537,7 +537,7 @@ end_arguments : (rest : List Tok) → sees m.RightParenthesis (closing rest) ≡
 unfolding sees same_mark
 end_arguments rest = refl
 
-begin_arguments : (rest : List Tok) → expect m.LeftParenthesis (opening rest) ≡ Some (tt, rest)
+pub begin_arguments : (rest : List Tok) → expect m.LeftParenthesis (opening rest) ≡ Some (tt, rest)
 unfolding expect sees same_mark
 begin_arguments rest = refl
 
@@ -621,7 +621,7 @@ variable_again : (x : Text) → Again (variable x)
 unfolding operand named after
 variable_again x c n le low' rest free = rw free refl
 
-are_arguments : (f : Option Builtin) (place : ℕ) (bs : Trees) → AreSound f place bs → AreArguments f place bs
+pub are_arguments : (f : Option Builtin) (place : ℕ) (bs : Trees) → AreSound f place bs → AreArguments f place bs
 are_arguments f place none h = tt
 are_arguments f place (more a bs) h = (h.0, are_arguments f (suc place) bs h.2)
 

@@ -201,12 +201,12 @@ pub each_some : {c : Bool} {f : Option Builtin} {place : ℕ} {ts rest : List To
 each_some (one_phrase d) = tt
 each_some (one_more d gap ds) = tt
 
-record IsAlone (ts rest : List Tok) (a : Tree) : Type 0 where
-  inner : Tree
-  same : a ≡ value inner
-  derives : Derives true 0 ts rest inner
+pub record IsAlone (ts rest : List Tok) (a : Tree) : Type 0 where
+  pub inner : Tree
+  pub same : a ≡ value inner
+  pub derives : Derives true 0 ts rest inner
 
-alone : {ts rest : List Tok} {a : Tree} → DerivesEach true None 0 ts rest (more a none) → IsAlone ts rest a
+pub alone : {ts rest : List Tok} {a : Tree} → DerivesEach true None 0 ts rest (more a none) → IsAlone ts rest a
 alone (one_phrase {a = a} d) = record { inner = a; same = refl; derives = d }
 alone (one_more d gap ds) = absurd (each_some ds)
 
@@ -229,7 +229,7 @@ module _ (expr : Bool → ℕ → Parser Tree) (h : (c : Bool) (k : ℕ) → IsA
         | inr e ↦ rw e (record { others = argument f (length front) a ∷ []; all = refl; derives = one_phrase d })
       ])
 
-  sound_list_up_to : (close : Mark) (f : Option Builtin) (ts : List Tok) → OnFound (λ es rest. DerivesEach true f 0 ts (t.mark close ∷ rest) (trees es)) (list_up_to expr close f ts)
+  pub sound_list_up_to : (close : Mark) (f : Option Builtin) (ts : List Tok) → OnFound (λ es rest. DerivesEach true f 0 ts (t.mark close ∷ rest) (trees es)) (list_up_to expr close f ts)
   unfolding list_up_to
   sound_list_up_to close f ts =
       on_bind (list_from expr true f (length ts) [] ts) _ (ReadsEach true f [] ts) _ (sound_list true f (length ts) [] ts) (λ es rest q.
@@ -270,7 +270,7 @@ module _ (expr : Bool → ℕ → Parser Tree) (h : (c : Bool) (k : ℕ) → IsA
     | inr e ↦ rw e (inr (inr refl), a_variable)
   ]
 
-  sound_group_of : (c : Bool) (es : List Tree) (ts rest : List Tok) → DerivesEach true None 0 ts (t.mark m.RightParenthesis ∷ rest) (trees es) → OnFound (ReadsOperand c (t.mark m.LeftParenthesis ∷ ts)) (group_of expr es rest)
+  pub sound_group_of : (c : Bool) (es : List Tree) (ts rest : List Tok) → DerivesEach true None 0 ts (t.mark m.RightParenthesis ∷ rest) (trees es) → OnFound (ReadsOperand c (t.mark m.LeftParenthesis ∷ ts)) (group_of expr es rest)
   sound_group_of c [] ts rest d = tt
   sound_group_of c (a ∷ []) ts rest d = let k = alone d in (inr (inl refl), rw k.same (a_group k.derives))
   sound_group_of c (a ∷ e ∷ es) ts rest d =
