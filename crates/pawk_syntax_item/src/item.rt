@@ -34,12 +34,7 @@ fn action(alloc: Global, ts: &mut Cursor<'_>) -> Result<Body, SyntaxRefusal>
 
 /// An item of this height, if that is not too high.
 #[tactic(auto, using(crate::proofs::Building::low_is, crate::proofs::Building::low_none))]
-fn low(
-    ts: &Cursor<'_>,
-    item: Item,
-    height: usize,
-    closes: bool,
-) -> Result<Part, SyntaxRefusal>
+fn low(ts: &Cursor<'_>, item: Item, height: usize, closes: bool) -> Result<Part, SyntaxRefusal>
     requires { height ≡ height_in item }
     ensures { Gives part_of (spec.low_part closes (part item) (input ts.now)) result (input ts.now) }
 {
@@ -205,7 +200,12 @@ fn function_on(alloc: Global, ts: &mut Cursor<'_>) -> Result<Part, SyntaxRefusal
     ts.skip_lines();
     let body = action(alloc, ts)?;
     let height = body.highest + 1;
-    low(ts, Item::Function(name, parameters, body.list), height, true)
+    low(
+        ts,
+        Item::Function(name, parameters, body.list),
+        height,
+        true,
+    )
 }
 
 fn item_by(alloc: Global, ts: &mut Cursor<'_>, sign: Mark) -> Result<Part, SyntaxRefusal>

@@ -1,6 +1,5 @@
 //! Items with what is known of them.
 
-
 use pawk_syntax_program::item::Item;
 
 /// An item, and whether it ends with an action.

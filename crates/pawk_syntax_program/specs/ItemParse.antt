@@ -5,6 +5,7 @@ use Rattle.pawk_token.specs.declared.token.Mark.TheVariants as m
 use Rattle.pawk_token.specs.Bytes.{Text}
 use Rattle.pawk_token.specs.Tokens.{Tok}
 use Rattle.pawk_token.specs.Tokens as t
+use Rattle.pawk_syntax_tree.specs.Tree.{Tree}
 use Rattle.pawk_syntax_tree.specs.Parse.{Parser, and_then, ◌>>=◌, ◌>>◌, pure, refuse, eat, sees, expect, expect_name, lines, greatest_height, greatest_depth}
 use Rattle.pawk_syntax_program.specs.Statement.{Stmts, stmts}
 use Rattle.pawk_syntax_program.specs.StatementParse.{whole, block, stmt}
@@ -32,14 +33,18 @@ action_or_none make = do
   has_action ← (λ i. Some (sees m.LeftBrace i, i))
   if has_action then with_action make else low_part false (make print_record)
 
+-- the second pattern of a range, after the comma
+abbrev pub range_from : Tree → Parser (Part × Bool)
+range_from p = do
+  lines
+  q ← whole
+  action_or_none (between p q)
+
 unfoldable pub pattern : Parser (Part × Bool)
 pattern = do
   p ← whole
   is_range ← eat m.Comma
-  if is_range then (do
-    lines
-    q ← whole
-    action_or_none (between p q)) else action_or_none (matching p)
+  if is_range then range_from p else action_or_none (matching p)
 
 -- parameters after the first bracket; the number bounds the turns
 unfoldable pub parameters_from : ℕ → List Text → Parser (List Text)
