@@ -1,0 +1,23 @@
+-- What the functions that read items ensure.
+use Rattle.std.specs.Prelude.{Bool, List, map, Vec}
+use Rattle.std.specs.declared.alloc.Global.{Global}
+use Rattle.pawk_token.specs.Bytes.{Text}
+use Rattle.pawk_syntax_tree.specs.declared.tree.Name.{Name}
+use Rattle.pawk_syntax_program.specs.declared.item.Item.{Item}
+use Rattle.pawk_syntax_program.specs.Statement.{Stmts, stmts}
+use Rattle.pawk_syntax_program.specs.Item.{Part as Shape, part, texts}
+use Rattle.pawk_syntax_statement.specs.declared.body.Body.{Body}
+use Rattle.pawk_syntax_statement.specs.Reads.{body_of}
+use Rattle.pawk_syntax_item.specs.declared.part.Part.{Part}
+
+abbrev pub action_of : Body → Stmts
+action_of b = stmts (body_of b)
+
+abbrev pub part_of : Part → Shape × Bool
+part_of p = (part p.item, p.closes)
+
+abbrev pub names_of : Vec Name Global → List Text
+names_of v = texts v.items
+
+abbrev pub items_of : Vec Item Global → List Shape
+items_of v = map part v.items

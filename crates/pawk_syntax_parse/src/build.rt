@@ -1,0 +1,365 @@
+//! The making of trees, one function for each variant.
+
+ghost use Rattle.std.specs.Prelude.{◌≡◌, ◌∷◌, ◌++◌, [], length, IfOk, Option, map};
+ghost use Rattle.pawk_syntax_tree.specs.Tree as tree;
+ghost use Rattle.pawk_syntax_tree.specs.Tree.{view, views, trees};
+ghost use Rattle.pawk_syntax_tree.specs.Parse as spec;
+ghost use Rattle.pawk_syntax_parse.specs.Heights as heights;
+ghost use Rattle.pawk_token.specs.declared.token.Builtin.TheVariants.{Length};
+ghost use Rattle.pawk_syntax_parse.specs.Reads.{input, Gives, tree_of, trees_of};
+
+use crate::cursor::Cursor;
+use crate::phrase::{Phrase, Phrases};
+use pawk_syntax_tree::tree::{Double, Expr, Name, Single};
+use pawk_token::refusal::SyntaxRefusal;
+use pawk_token::token::Builtin;
+use std::alloc::{AllocError, Global};
+
+/// A numeral.
+pub fn number(number: u64) -> Phrase
+    ensures { tree_of result ≡ tree.number number }
+{
+    Phrase {
+        expr: Expr::Number(number),
+        height: 1,
+    }
+}
+
+/// A string.
+pub fn string(alloc: Global, bytes: &Vec<u8>) -> Result<Phrase, AllocError>
+    ensures { IfOk result (λ p. tree_of p ≡ tree.string bytes.now.items) }
+{
+    Ok(Phrase {
+        expr: Expr::String(Vec::from_slice(alloc, bytes.as_slice())?),
+        height: 1,
+    })
+}
+
+/// An expression between slashes.
+pub fn ere(alloc: Global, bytes: &Vec<u8>) -> Result<Phrase, AllocError>
+    ensures { IfOk result (λ p. tree_of p ≡ tree.ere bytes.now.items) }
+{
+    Ok(Phrase {
+        expr: Expr::Ere(Vec::from_slice(alloc, bytes.as_slice())?),
+        height: 1,
+    })
+}
+
+/// A name that begins at this byte.
+pub fn name(alloc: Global, text: &Vec<u8>, start: usize) -> Result<Name, AllocError>
+    ensures { IfOk result (λ x. x.text.items ≡ text.now.items) }
+{
+    Ok(Name {
+        text: Vec::from_slice(alloc, text.as_slice())?,
+        start,
+    })
+}
+
+/// A variable.
+pub fn variable(name: Name) -> Phrase
+    ensures { tree_of result ≡ tree.variable name.text.items }
+{
+    Phrase {
+        expr: Expr::Variable(name),
+        height: 1,
+    }
+}
+
+/// `$0`
+pub fn record(alloc: Global) -> Result<Phrase, AllocError>
+    ensures { IfOk result (λ p. tree_of p ≡ tree.record_tree) }
+{
+    let zero = Box::new(alloc, Expr::Number(0))?;
+    Ok(Phrase {
+        expr: Expr::Unary(Single::Field, zero),
+        height: 2,
+    })
+}
+
+fn is_ere(expr: &Expr) -> bool
+    ensures { result ≡ heights.is_ere (view expr.now) }
+{
+    match expr {
+        Expr::Ere(_) => true,
+        Expr::Number(_) => false,
+        Expr::String(_) => false,
+        Expr::Variable(_) => false,
+        Expr::Element(_, _) => false,
+        Expr::Unary(_, _) => false,
+        Expr::Binary(_, _, _) => false,
+        Expr::Choice(_, _, _) => false,
+        Expr::Member(_, _) => false,
+        Expr::Call(_, _) => false,
+        Expr::Builtin(_, _, _) => false,
+    }
+}
+
+/// What an expression is where its value counts: `/e/` is `$0 ~ /e/`.
+#[tactic(auto, using(crate::proofs::Building::ere_value, crate::proofs::Building::other_value, crate::proofs::Building::ere_height))]
+pub fn value(alloc: Global, phrase: Phrase) -> Result<Phrase, AllocError>
+    ensures { IfOk result (λ p. tree_of p ≡ tree.value (tree_of phrase)) }
+{
+    if !is_ere(&phrase.expr) {
+        return Ok(phrase);
+    }
+    let record = Box::new(alloc, record(alloc)?.expr)?;
+    let ere = Box::new(alloc, phrase.expr)?;
+    Ok(Phrase {
+        expr: Expr::Binary(Double::Match, record, ere),
+        height: 3,
+    })
+}
+
+fn value_unless(alloc: Global, keeps: bool, phrase: Phrase) -> Result<Phrase, AllocError>
+    ensures { IfOk result (λ p. tree_of p ≡ tree.value_unless keeps (tree_of phrase)) }
+{
+    if keeps {
+        Ok(phrase)
+    } else {
+        value(alloc, phrase)
+    }
+}
+
+fn takes_ere(op: Double) -> bool
+    ensures { result ≡ tree.takes_ere op }
+{
+    match op {
+        Double::Match | Double::NotMatch => true,
+        _ => false,
+    }
+}
+
+fn takes_ere_at(function: Option<Builtin>, place: usize) -> bool
+    ensures { result ≡ tree.takes_ere_at function place }
+{
+    match function {
+        Some(Builtin::Sub) | Some(Builtin::Gsub) => place == 0,
+        Some(Builtin::Match) => place == 1,
+        Some(Builtin::Split) => place == 2,
+        _ => false,
+    }
+}
+
+/// The right side of an operator.
+pub fn right_side(alloc: Global, op: Double, phrase: Phrase) -> Result<Phrase, AllocError>
+    ensures { IfOk result (λ p. tree_of p ≡ tree.right_side op (tree_of phrase)) }
+{
+    value_unless(alloc, takes_ere(op), phrase)
+}
+
+/// The argument in this place, counted from 0, of a built-in function, or of none.
+pub fn argument(
+    alloc: Global,
+    function: Option<Builtin>,
+    place: usize,
+    phrase: Phrase,
+) -> Result<Phrase, AllocError>
+    ensures { IfOk result (λ p. tree_of p ≡ tree.argument function place (tree_of phrase)) }
+{
+    value_unless(alloc, takes_ere_at(function, place), phrase)
+}
+
+/// A tree of this height, if that is not too high.
+#[tactic(auto, using(crate::proofs::Building::low_is, crate::proofs::Building::low_none))]
+fn low(ts: &Cursor<'_>, expr: Expr, height: usize) -> Result<Phrase, SyntaxRefusal>
+    requires { height ≡ heights.height_of expr }
+    ensures { Gives tree_of (spec.low (view expr) (input ts.now)) result (input ts.now) }
+{
+    ts.low(height)?;
+    Ok(Phrase { expr, height })
+}
+
+fn unary_expr(alloc: Global, op: Single, a: Expr) -> Result<Expr, AllocError>
+    ensures { IfOk result (λ e. view e ≡ tree.unary op (view a)) }
+{
+    Ok(Expr::Unary(op, Box::new(alloc, a)?))
+}
+
+fn binary_expr(alloc: Global, op: Double, a: Expr, b: Expr) -> Result<Expr, AllocError>
+    ensures { IfOk result (λ e. view e ≡ tree.binary op (view a) (view b)) }
+{
+    Ok(Expr::Binary(op, Box::new(alloc, a)?, Box::new(alloc, b)?))
+}
+
+fn choice_expr(alloc: Global, c: Expr, a: Expr, b: Expr) -> Result<Expr, AllocError>
+    ensures { IfOk result (λ e. view e ≡ tree.choice (view c) (view a) (view b)) }
+{
+    let condition = Box::new(alloc, c)?;
+    Ok(Expr::Choice(condition, Box::new(alloc, a)?, Box::new(alloc, b)?))
+}
+
+fn element_expr(name: Name, keys: Vec<Expr>) -> Expr
+    ensures { view result ≡ tree.element name.text.items (trees (views keys.items)) }
+{
+    Expr::Element(name, keys)
+}
+
+fn member_expr(keys: Vec<Expr>, name: Name) -> Expr
+    ensures { view result ≡ tree.member (trees (views keys.items)) name.text.items }
+{
+    Expr::Member(keys, name)
+}
+
+fn call_expr(name: Name, arguments: Vec<Expr>) -> Expr
+    ensures { view result ≡ tree.call name.text.items (trees (views arguments.items)) }
+{
+    Expr::Call(name, arguments)
+}
+
+fn builtin_expr(function: Builtin, start: usize, arguments: Vec<Expr>) -> Expr
+    ensures { view result ≡ tree.builtin function (trees (views arguments.items)) }
+{
+    Expr::Builtin(function, start, arguments)
+}
+
+/// An operator with one operand.
+pub fn unary(alloc: Global, ts: &Cursor<'_>, op: Single, a: Phrase) -> Result<Phrase, SyntaxRefusal>
+    ensures { Gives tree_of (spec.low (tree.unary op (tree_of a)) (input ts.now)) result (input ts.now) }
+{
+    let height = a.height + 1;
+    let expr = unary_expr(alloc, op, a.expr)?;
+    low(ts, expr, height)
+}
+
+/// An operator with two operands.
+pub fn binary(
+    alloc: Global,
+    ts: &Cursor<'_>,
+    op: Double,
+    a: Phrase,
+    b: Phrase,
+) -> Result<Phrase, SyntaxRefusal>
+    ensures { Gives tree_of (spec.low (tree.binary op (tree_of a) (tree_of b)) (input ts.now)) result (input ts.now) }
+{
+    let height = a.height.max(b.height) + 1;
+    let expr = binary_expr(alloc, op, a.expr, b.expr)?;
+    low(ts, expr, height)
+}
+
+/// `c ? a : b`
+pub fn choice(
+    alloc: Global,
+    ts: &Cursor<'_>,
+    c: Phrase,
+    a: Phrase,
+    b: Phrase,
+) -> Result<Phrase, SyntaxRefusal>
+    ensures { Gives tree_of (spec.low (tree.choice (tree_of c) (tree_of a) (tree_of b)) (input ts.now)) result (input ts.now) }
+{
+    let height = c.height.max(a.height.max(b.height)) + 1;
+    let expr = choice_expr(alloc, c.expr, a.expr, b.expr)?;
+    low(ts, expr, height)
+}
+
+/// No expressions.
+pub fn no_phrases(alloc: Global) -> Phrases
+    ensures { trees_of result ≡ [] }
+{
+    Phrases {
+        list: Vec::new(alloc),
+        highest: 0,
+    }
+}
+
+/// How many expressions there are.
+#[tactic(auto, using(crate::proofs::Building::count_is))]
+pub fn count(phrases: &Phrases) -> usize
+    ensures { result ≡ length (trees_of phrases.now) }
+{
+    phrases.list.len()
+}
+
+/// One more expression at the end of a list.
+#[tactic(auto, using(crate::proofs::Building::highest_more))]
+pub fn push(mut phrases: Phrases, phrase: Phrase) -> Result<Phrases, AllocError>
+    ensures { IfOk result (λ ps. trees_of ps ≡ trees_of phrases ++ tree_of phrase ∷ []) }
+{
+    let highest = phrases.highest.max(phrase.height);
+    let mut list = phrases.list;
+    list.push(phrase.expr)?;
+    Ok(Phrases { list, highest })
+}
+
+/// `a[k, l]`
+pub fn element(ts: &Cursor<'_>, name: Name, keys: Phrases) -> Result<Phrase, SyntaxRefusal>
+    ensures { Gives tree_of (spec.low (tree.element name.text.items (trees (trees_of keys))) (input ts.now)) result (input ts.now) }
+{
+    let height = keys.highest + 1;
+    let expr = element_expr(name, keys.list);
+    low(ts, expr, height)
+}
+
+/// `k in a` and `(k, l) in a`
+pub fn member(ts: &Cursor<'_>, keys: Phrases, name: Name) -> Result<Phrase, SyntaxRefusal>
+    ensures { Gives tree_of (spec.low (tree.member (trees (trees_of keys)) name.text.items) (input ts.now)) result (input ts.now) }
+{
+    let height = keys.highest + 1;
+    let expr = member_expr(keys.list, name);
+    low(ts, expr, height)
+}
+
+/// `f(a, b)`
+pub fn call(ts: &Cursor<'_>, name: Name, arguments: Phrases) -> Result<Phrase, SyntaxRefusal>
+    ensures { Gives tree_of (spec.low (tree.call name.text.items (trees (trees_of arguments))) (input ts.now)) result (input ts.now) }
+{
+    let height = arguments.highest + 1;
+    let expr = call_expr(name, arguments.list);
+    low(ts, expr, height)
+}
+
+/// A call of a built-in function that begins at this byte.
+pub fn builtin(
+    ts: &Cursor<'_>,
+    function: Builtin,
+    start: usize,
+    arguments: Phrases,
+) -> Result<Phrase, SyntaxRefusal>
+    ensures { Gives tree_of (spec.low (tree.builtin function (trees (trees_of arguments))) (input ts.now)) result (input ts.now) }
+{
+    let height = arguments.highest + 1;
+    let expr = builtin_expr(function, start, arguments.list);
+    low(ts, expr, height)
+}
+
+/// `length` without arguments, which begins at this byte.
+pub fn length(alloc: Global, start: usize) -> Result<Phrase, AllocError>
+    ensures { IfOk result (λ p. tree_of p ≡ tree.builtin Length (tree.more tree.record_tree tree.none)) }
+{
+    let arguments = push(no_phrases(alloc), record(alloc)?)?;
+    let height = 3;
+    let expr = builtin_expr(Builtin::Length, start, arguments.list);
+    Ok(Phrase { expr, height })
+}
+
+/// The one expression of a list.
+pub fn only(phrases: Phrases) -> Phrase
+    requires { length phrases.list.items ≡ 1 }
+    ensures { trees_of phrases ≡ tree_of result ∷ [] }
+{
+    let height = phrases.highest;
+    let mut list = phrases.list;
+    let expr = list.remove(0);
+    Phrase { expr, height }
+}
+
+fn lacks_record(function: Builtin, count: usize) -> bool
+    ensures { result ≡ heights.lacks_record function count }
+{
+    match function {
+        Builtin::Length => count == 0,
+        Builtin::Sub | Builtin::Gsub => count == 2,
+        _ => false,
+    }
+}
+
+/// The arguments that a call without all of them stands for.
+#[tactic(auto, using(crate::proofs::Building::complete_more, crate::proofs::Building::complete_same))]
+pub fn complete(alloc: Global, function: Builtin, arguments: Phrases) -> Result<Phrases, AllocError>
+    ensures { IfOk result (λ ps. trees (trees_of ps) ≡ tree.complete function (trees (trees_of arguments))) }
+{
+    if lacks_record(function, arguments.list.len()) {
+        push(arguments, record(alloc)?)
+    } else {
+        Ok(arguments)
+    }
+}

@@ -1,0 +1,7 @@
+//! Reads the tokens of an awk program as its syntax tree.
+#![tactic(auto)]
+
+pub mod build;
+pub mod cursor;
+pub mod expression;
+pub mod phrase;

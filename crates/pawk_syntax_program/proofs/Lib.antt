@@ -1,0 +1,7 @@
+pub mod StatementSound
+pub mod StatementKept
+pub mod StatementAgain
+pub mod ItemSound
+pub mod ItemAgain
+pub mod ItemKept
+pub mod ProgramLaws

@@ -1,0 +1,21 @@
+//! The laws of reading programs. Each is the contract of a function that does nothing.
+
+ghost use Rattle.std.specs.Prelude.{◌≡◌, List, [], Some};
+ghost use Rattle.pawk_token.specs.Tokens.{Tok};
+ghost use Rattle.pawk_syntax_program.specs.Item.{Part, AreLow};
+ghost use Rattle.pawk_syntax_program.specs.ItemGrammar.{Programs};
+ghost use Rattle.pawk_syntax_program.specs.ItemCanonical.{canon_program};
+ghost use Rattle.pawk_syntax_program.specs.ItemParse.{program};
+
+/// A program that is read is derived by all of the tokens.
+pub fn reading_is_sound()
+    ensures { (ts rest : List Tok) (xs : List Part) →
+        program ts ≡ Some (xs, rest) → Programs ts xs × (rest ≡ []) }
+{}
+
+/// The canonical tokens of a program that some tokens derive, and of which no item is too high, are
+/// read as that program.
+pub fn canonical_is_read_again()
+    ensures { (ts : List Tok) (xs : List Part) →
+        Programs ts xs → AreLow xs → program (canon_program xs) ≡ Some (xs, []) }
+{}

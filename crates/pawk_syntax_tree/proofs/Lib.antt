@@ -1,0 +1,5 @@
+pub mod Tokens
+pub mod Sound
+pub mod Kept
+pub mod Again
+pub mod ExprLaws

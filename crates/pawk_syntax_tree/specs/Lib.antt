@@ -1,0 +1,5 @@
+pub mod Tree
+pub mod Levels
+pub mod Grammar
+pub mod Canonical
+pub mod Parse
