@@ -16,8 +16,8 @@ pub use cutting::{Chunk, CutRefusal, MOST_CHUNKS};
 pub use files::{Input, LIMIT, TooLarge};
 pub use item::Item;
 pub use pawk_fields::{
-    BlankFields, FieldSeparator, SplitFields, append_ranges, blanks_law, count_fields,
-    count_split, field, fields, fields_law, pieces_law, split,
+    BlankFields, FieldSeparator, SplitFields, append_ranges, blanks_law, count_fields, count_split,
+    field, fields, fields_law, pieces_law, split,
 };
 pub use pawk_records::{begins_law, records_law};
 pub use plan::Plan;
