@@ -298,3 +298,12 @@ fn items(alloc: Global, ts: &mut Cursor<'_>) -> Result<Vec<Item>, SyntaxRefusal>
     }
     Err(ts.refuse(true))
 }
+
+/// A program: its items, up to the end of the tokens, with newlines before the first.
+#[tactic(auto, unfolding(pawk_syntax_program::specs::ItemParse::program))]
+pub fn program(alloc: Global, ts: &mut Cursor<'_>) -> Result<Vec<Item>, SyntaxRefusal>
+    ensures { Gives items_of (spec.program (input ts.old)) result (input ts.new) }
+{
+    ts.skip_lines();
+    items(alloc, ts)
+}
