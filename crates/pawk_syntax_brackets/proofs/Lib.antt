@@ -1,0 +1,2 @@
+pub mod TreeBrackets
+pub mod ProgramBrackets
