@@ -1,0 +1,4 @@
+pub mod DerivedTrees
+pub mod DerivedPrograms
+pub mod CanonicalTokens
+pub mod Readings
