@@ -4,4 +4,5 @@ pub mod StatementAgain
 pub mod ItemSound
 pub mod ItemAgain
 pub mod ItemKept
+pub mod ItemLow
 pub mod ProgramLaws

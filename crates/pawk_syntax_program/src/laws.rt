@@ -7,10 +7,12 @@ ghost use Rattle.pawk_syntax_program.specs.ItemGrammar.{Programs};
 ghost use Rattle.pawk_syntax_program.specs.ItemCanonical.{canon_program};
 ghost use Rattle.pawk_syntax_program.specs.ItemParse.{program};
 
-/// A program that is read is derived by all of the tokens.
+/// A program that is read is derived by all of the tokens, and no item of it is too high.
 pub fn reading_is_sound()
-    ensures { (ts rest : List Tok) (xs : List Part) →
+    ensures derived { (ts rest : List Tok) (xs : List Part) →
         program ts ≡ Some (xs, rest) → Programs ts xs × (rest ≡ []) }
+    ensures low { (ts rest : List Tok) (xs : List Part) →
+        program ts ≡ Some (xs, rest) → AreLow xs }
 {}
 
 /// The canonical tokens of a program that some tokens derive, and of which no item is too high, are
