@@ -1,0 +1,73 @@
+-- What the reading of a program text needs.
+use Rattle.std.proofs.Common.{◌≡◌, List, [], ◌∷◌, Option, Some, None, refl, sym, ap, subst, ◌∙◌}
+use Rattle.pawk_token.specs.declared.refusal.SyntaxRefusal.{SyntaxRefusal}
+use Rattle.pawk_token.specs.declared.refusal.SyntaxRefusal.TheVariants as refusal
+use Rattle.pawk_token.specs.Bytes.{Text}
+use Rattle.pawk_token.specs.Tokens.{Tok}
+use Rattle.pawk_lex.specs.TokenLists.{EndsBy}
+use Rattle.pawk_pattern.specs.Pattern.{Pattern}
+use Rattle.pawk_syntax_program.specs.Item.{Part}
+use Rattle.pawk_syntax_program.specs.ItemCanonical.{canon_program}
+use Rattle.pawk_syntax_program.specs.ItemParse.{program}
+use Rattle.pawk_syntax_program.proofs.ProgramLaws.{read_is_derived, derived_is_read}
+use Rattle.pawk_syntax_program.proofs.ItemLow.{read_is_low}
+use Rattle.pawk_syntax_brackets.proofs.ProgramBrackets.{few_program}
+use Rattle.pawk_syntax_expressions.specs.Expressions.{eres, eres_of_program}
+use Rattle.pawk_syntax_expressions.specs.Reads.{AreSpelled, AreExpressions, Denies}
+use Rattle.pawk_syntax_expressions.proofs.DerivedPrograms.{derived_program}
+use Rattle.pawk_syntax_expressions.proofs.CanonicalTokens.{of_program}
+use Rattle.pawk_syntax.specs.Spells.{Spells}
+use Rattle.pawk_syntax.specs.Items.{AreRead}
+
+-- a program is read of all tokens
+pub whole_program : (ts rest : List Tok) (xs : List Part) → program ts ≡ Some (xs, rest) → program ts ≡ Some (xs, [])
+whole_program ts rest xs e = let none : rest ≡ [] = (read_is_derived ts rest xs e).1 in subst (λ z. program ts ≡ Some (xs, z)) none e
+
+-- what is spelled one by one is expressions
+expressions : (xs : List Text) (es : List Pattern) → AreSpelled xs es → AreExpressions xs
+expressions [] es h = tt
+expressions (x ∷ xs) [] h = absurd h
+expressions (x ∷ xs) (e ∷ es) h = ((e, h.0), expressions xs es h.1)
+
+-- the expressions of the tokens are those of the program
+pub same_expressions : (ts : List Tok) (r : Option SyntaxRefusal) (xs : List Part) → AreRead ts r xs → eres ts ≡ eres_of_program xs
+same_expressions ts r xs h = derived_program ts xs (read_is_derived ts [] xs h.items).0
+
+pub spells : (text : Text) (ts : List Tok) (r : Option SyntaxRefusal) (xs : List Part) (es : List Pattern) →
+    EndsBy text ts r → AreRead ts r xs → AreSpelled (eres ts) es → Spells text xs
+spells text ts r xs es cut h q = record {
+  tokens = ts;
+  cut = subst (EndsBy text ts) h.whole cut;
+  derived = (read_is_derived ts [] xs h.items).0;
+  expressions = subst AreExpressions (same_expressions ts r xs h) (expressions (eres ts) es q);
+  low = read_is_low ts [] xs h.items;
+  few = h.few;
+}
+
+-- the canonical tokens of a program that some text spells are read as that program
+pub read_again : (other : Text) (xs : List Part) (ts : List Tok) (r : Option SyntaxRefusal) → Spells other xs →
+    (ts ≡ canon_program xs) × (r ≡ None) → AreRead ts r xs
+read_again other xs ts r s e = record {
+  whole = e.1;
+  few = rw (e.0) (few_program xs s.low);
+  items = rw (e.0) (derived_is_read s.tokens xs s.derived s.low);
+}
+
+-- and what stands between slashes are expressions
+pub expressions_again : (other : Text) (xs : List Part) (ts : List Tok) (r : Option SyntaxRefusal) → Spells other xs →
+    (ts ≡ canon_program xs) × (r ≡ None) → AreExpressions (eres ts)
+expressions_again other xs ts r s e = rw (e.0, of_program xs) s.expressions
+
+found_or : List Part → Option (List Part × List Tok) → List Part
+found_or xs (Some p) = p.0
+found_or xs None = xs
+
+-- tokens are read as one program
+pub same_parts : (ts : List Tok) (r : Option SyntaxRefusal) (xs ys : List Part) → AreRead ts r xs → AreRead ts r ys → xs ≡ ys
+unfolding found_or
+same_parts ts r xs ys h k = ap (found_or xs) (sym h.items ∙ k.items)
+
+-- nothing but memory denies what holds
+pub memory : (why : SyntaxRefusal) (P : Type 0) → Denies why P → P → why ≡ refusal.Memory
+memory (refusal.At cause place) P h p = absurd (h p)
+memory refusal.Memory P h p = refl

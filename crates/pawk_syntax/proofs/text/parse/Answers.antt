@@ -1,0 +1,48 @@
+use Rattle.std.proofs.Common.{rules, map, subst, rules}
+use Rattle.pawk_lex.specs.TokenLists.{values}
+use Rattle.pawk_syntax_program.specs.Item.{part}
+use Rattle.pawk_syntax_program.specs.ItemCanonical.{canon_program}
+use Rattle.pawk_syntax_expressions.specs.Expressions.{eres}
+use Rattle.pawk_syntax_expressions.specs.Reads.{AreSpelled, AreExpressions, Denies, patterns}
+use Rattle.pawk_syntax.specs.Spells.{Spells}
+use Rattle.pawk_syntax.specs.Items.{AreRead}
+use Rattle.pawk_syntax.proofs.Readings.{spells, same_expressions, read_again, expressions_again, same_parts, memory}
+use Rattle.pawk_syntax.proofs.text.parse.Goals as goal
+
+pub returns-in-Ok-clause-found : goal.returns-in-Ok-clause-found
+returns-in-Ok-clause-found c =
+    spells c.args.text.now (values c.in_ok-list.list.tokens.items) c.in_ok-list.list.refusal (map part c.in-Ok.items.items) (patterns c.in_ok-expressions-in-Ok.expressions)
+    c.in_ok-list.ensures.tokens c.in-Ok.ensures.found
+    (subst (λ z. AreSpelled (eres (values z)) (patterns c.in_ok-expressions-in-Ok.expressions)) c.deref.ensures.value c.in_ok-expressions-in-Ok.ensures.found)
+
+pub returns-in-Ok-clause-canonical : goal.returns-in-Ok-clause-canonical
+returns-in-Ok-clause-canonical c other xs s cut =
+    same_parts (values c.in_ok-list.list.tokens.items) c.in_ok-list.list.refusal (map part c.in-Ok.items.items) xs c.in-Ok.ensures.found
+    (read_again other xs (values c.in_ok-list.list.tokens.items) c.in_ok-list.list.refusal s (c.in_ok-list.ensures.whole (canon_program xs) cut))
+
+pub returns-clause-canonical : goal.returns-clause-canonical
+returns-clause-canonical c other xs s cut =
+    c.first_refusal.ensures
+    (memory c.in-Err.why (AreRead (values c.in_ok-list.list.tokens.items) c.in_ok-list.list.refusal xs) (c.in-Err.ensures.refused xs)
+    (read_again other xs (values c.in_ok-list.list.tokens.items) c.in_ok-list.list.refusal s (c.in_ok-list.ensures.whole (canon_program xs) cut)))
+
+pub returns-in_err-expressions-in-Ok-clause-canonical : goal.returns-in_err-expressions-in-Ok-clause-canonical
+returns-in_err-expressions-in-Ok-clause-canonical c other xs s cut =
+    let why = c.in_err-expressions-in-Ok.field-0.0 in
+    let ts = values c.in_ok-list.list.tokens.items in
+    let denied : Denies why (AreExpressions (eres ts)) = subst (λ z. Denies why (AreExpressions (eres (values z)))) c.deref.ensures.value c.in_err-expressions-in-Ok.ensures.refused in
+    let no_memory = memory why (AreExpressions (eres ts)) denied (expressions_again other xs ts c.in_ok-list.list.refusal s (c.in_ok-list.ensures.whole (canon_program xs) cut)) in
+    search rules
+
+pub invariant_of-result : goal.invariant_of-result
+invariant_of-result c =
+    let found : Spells c.args.text.now (map part c.in-Ok.items.items) =
+    spells c.args.text.now (values c.in_ok-list.list.tokens.items) c.in_ok-list.list.refusal (map part c.in-Ok.items.items) (patterns c.in_ok-expressions-in-Ok.expressions)
+    c.in_ok-list.ensures.tokens c.in-Ok.ensures.found
+    (subst (λ z. AreSpelled (eres (values z)) (patterns c.in_ok-expressions-in-Ok.expressions)) c.deref.ensures.value c.in_ok-expressions-in-Ok.ensures.found) in
+    record {
+      spelled = ∣ (c.args.text.now, found) ∣₁;
+      expressed = ∣ subst (λ z. AreSpelled z (patterns c.in_ok-expressions-in-Ok.expressions))
+          (same_expressions (values c.in_ok-list.list.tokens.items) c.in_ok-list.list.refusal (map part c.in-Ok.items.items) c.in-Ok.ensures.found)
+          (subst (λ z. AreSpelled (eres (values z)) (patterns c.in_ok-expressions-in-Ok.expressions)) c.deref.ensures.value c.in_ok-expressions-in-Ok.ensures.found) ∣₁;
+    }

@@ -1,0 +1,4 @@
+pub mod Spells
+pub mod Programs
+pub mod Items
+pub mod Reads

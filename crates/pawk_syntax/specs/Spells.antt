@@ -1,0 +1,24 @@
+-- What an awk program's text means (POSIX.1-2017, awk, "Grammar" and "Lexical Conventions").
+use Rattle.std.specs.Prelude.{◌≡◌, List, true}
+use Rattle.pawk_token.specs.Bytes.{Text}
+use Rattle.pawk_token.specs.Tokens.{Tok}
+use Rattle.pawk_lex.specs.Cut.{Cut}
+use Rattle.pawk_syntax_program.specs.Item.{Part, AreLow}
+use Rattle.pawk_syntax_program.specs.ItemGrammar.{Programs}
+use Rattle.pawk_syntax_brackets.specs.Brackets.{are_few}
+use Rattle.pawk_syntax_expressions.specs.Expressions.{eres_of_program}
+use Rattle.pawk_syntax_expressions.specs.Reads.{AreExpressions}
+
+-- The text is cut into tokens, which derive the program; what stands between slashes are regular
+-- expressions; no item is too high, and never are too many brackets open.
+pub record Spells (text : Text) (xs : List Part) : Type 0 where
+  pub tokens : List Tok
+  pub cut : Cut text tokens
+  pub derived : Programs tokens xs
+  pub expressions : AreExpressions (eres_of_program xs)
+  pub low : AreLow xs
+  pub few : are_few 0 tokens ≡ true
+
+-- some text spells the program
+abbrev pub IsSpelled : List Part → Type 0
+IsSpelled xs = (text : Text) × Spells text xs
