@@ -1,0 +1,7 @@
+//! The canonical text of a program.
+#![tactic(auto)]
+
+mod expression;
+pub mod item;
+mod statement;
+mod writing;
