@@ -1,1 +1,5 @@
 pub mod Keys
+pub mod WritableTree
+pub mod WritableProgram
+pub mod TreeCut
+pub mod ProgramCut

@@ -3,5 +3,6 @@
 
 mod expression;
 pub mod item;
+pub mod laws;
 mod statement;
 mod writing;
