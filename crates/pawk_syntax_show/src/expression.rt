@@ -92,20 +92,15 @@ pub fn append_expr(out: &mut Vec<u8>, expr: &Expr) -> Result<(), AllocError>
             append_name(out, name)?;
             append_between(out, b"[", keys, b"]")
         }
-        Expr::Unary(op, operand) => {
-            append_after(out, prefix(*op), operand)?;
-            append(out, suffix(*op))
-        }
+        Expr::Unary(op, operand) => append_around(out, prefix(*op), operand, suffix(*op)),
         Expr::Binary(op, left, right) => {
             append_after(out, b"(", left)?;
-            append_after(out, sign(*op), right)?;
-            append(out, b")")
+            append_around(out, sign(*op), right, b")")
         }
         Expr::Choice(condition, yes, no) => {
             append_after(out, b"(", condition)?;
             append_after(out, b" ? ", yes)?;
-            append_after(out, b" : ", no)?;
-            append(out, b")")
+            append_around(out, b" : ", no, b")")
         }
         Expr::Member(keys, name) => {
             append_keys(out, keys)?;
@@ -132,6 +127,21 @@ pub fn append_after(out: &mut Vec<u8>, before: &[u8], expr: &Expr) -> Result<(),
 {
     append(out, before)?;
     append_expr(out, expr)
+}
+
+/// Appends an expression, and a text on each side of it.
+#[cycle(expr)]
+pub fn append_around(
+    out: &mut Vec<u8>,
+    before: &[u8],
+    expr: &Expr,
+    after: &[u8],
+) -> Result<(), AllocError>
+    ensures { OnOk result (Lengthens out.old.items out.new.items
+        (λ rest. before.now ++ tree_text (view expr.now) (after.now ++ rest))) }
+{
+    append_after(out, before, expr)?;
+    append(out, after)
 }
 
 /// Appends an opening bracket and the keys of `in`: several stand in brackets of their own.

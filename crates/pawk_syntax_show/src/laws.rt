@@ -10,7 +10,8 @@ ghost use Rattle.pawk_syntax_program.specs.ItemGrammar.{Programs};
 ghost use Rattle.pawk_syntax_program.specs.ItemCanonical.{canon_program};
 ghost use Rattle.pawk_syntax_show.specs.ProgramText.{program_text};
 
-/// The canonical text of a program that some text spells is cut into the program's canonical tokens.
+/// The canonical text of a program that some text spells is cut into the program's canonical
+/// tokens.
 pub fn canonical_text_is_cut()
     ensures { (text : Text) (ts : List Tok) (xs : List Part) → AreBytes text → Cut text ts →
         Programs ts xs → Cut (program_text xs) (canon_program xs) }

@@ -8,7 +8,7 @@ ghost use Rattle.pawk_syntax_show.specs.TreeText.{with_mark, with_name};
 ghost use Rattle.pawk_syntax_show.specs.ProgramText.{body_text, maybe_text, operand_text};
 ghost use Rattle.pawk_syntax_show.specs.ProgramText.{stmt_text, lines_text};
 
-use crate::expression::{append_after, append_between, append_expr, append_name};
+use crate::expression::{append_after, append_around, append_between, append_expr, append_name};
 use crate::writing::append;
 use pawk_syntax_program::statement::{Leave, Statement};
 use pawk_syntax_tree::tree::{Expr, Name};
@@ -83,8 +83,7 @@ pub fn append_statement(out: &mut Vec<u8>, statement: &Statement) -> Result<(), 
         }
         Statement::DoWhile(body, condition) => {
             append_body(out, b"do ", body)?;
-            append_after(out, b" while (", condition)?;
-            append(out, b")")
+            append_around(out, b" while (", condition, b")")
         }
         Statement::For(first, condition, step, body) => {
             append_part(out, b"for (", first)?;
