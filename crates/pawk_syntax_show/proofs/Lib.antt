@@ -1,4 +1,5 @@
 pub mod Keys
+pub mod Operators
 pub mod WritableTree
 pub mod WritableProgram
 pub mod TreeCut
