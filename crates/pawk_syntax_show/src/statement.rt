@@ -1,0 +1,133 @@
+//! The canonical text of statements.
+
+ghost use Rattle.std.specs.Prelude.{◌++◌, OnOk, map};
+ghost use Rattle.pawk_syntax_program.specs.Statement.{option_view, stmt_view, word_of};
+ghost use Rattle.pawk_syntax_program.specs.Item.{seen};
+ghost use Rattle.pawk_syntax_show.specs.Lengthening.{IsTextOf, Lengthens};
+ghost use Rattle.pawk_syntax_show.specs.TreeText.{with_mark, with_name};
+ghost use Rattle.pawk_syntax_show.specs.ProgramText.{body_text, maybe_text, operand_text};
+ghost use Rattle.pawk_syntax_show.specs.ProgramText.{stmt_text, lines_text};
+
+use crate::expression::{append_after, append_around, append_between, append_expr, append_name};
+use crate::writing::append;
+use pawk_syntax_program::statement::{Leave, Statement};
+use pawk_syntax_tree::tree::{Expr, Name};
+use std::alloc::AllocError;
+
+/// The word of a statement that leaves.
+fn word(leave: Leave) -> &'static [u8]
+    ensures { IsTextOf (with_mark (word_of leave)) result.now }
+{
+    match leave {
+        Leave::Next => b"next",
+        Leave::NextFile => b"nextfile",
+        Leave::Break => b"break",
+        Leave::Continue => b"continue",
+    }
+}
+
+/// Appends a text, and a name after it.
+pub fn append_name_after(out: &mut Vec<u8>, before: &[u8], name: &Name) -> Result<(), AllocError>
+    ensures { OnOk result (Lengthens out.old.items out.new.items
+        (λ rest. before.now ++ with_name name.now.text.items rest)) }
+{
+    append(out, before)?;
+    append_name(out, name)
+}
+
+/// Appends a text, and a part of a `for` after it, which may be missing.
+fn append_part(out: &mut Vec<u8>, before: &[u8], part: &Option<Expr>) -> Result<(), AllocError>
+    ensures { OnOk result (Lengthens out.old.items out.new.items
+        (λ rest. before.now ++ maybe_text (option_view part.now) rest)) }
+{
+    match part {
+        None => append(out, before),
+        Some(expr) => append_after(out, before, expr),
+    }
+}
+
+/// Appends a word, and its expression after a space, which may be missing.
+fn append_operand(out: &mut Vec<u8>, word: &[u8], operand: &Option<Expr>) -> Result<(), AllocError>
+    ensures { OnOk result (Lengthens out.old.items out.new.items
+        (λ rest. word.now ++ operand_text (option_view operand.now) rest)) }
+{
+    append(out, word)?;
+    match operand {
+        None => Ok(()),
+        Some(expr) => append_after(out, b" ", expr),
+    }
+}
+
+/// Appends a statement.
+#[cycle(statement)]
+pub fn append_statement(out: &mut Vec<u8>, statement: &Statement) -> Result<(), AllocError>
+    ensures { OnOk result
+        (Lengthens out.old.items out.new.items (stmt_text (stmt_view statement.now))) }
+{
+    match statement {
+        Statement::Expression(expr) => append_expr(out, expr),
+        Statement::Print(list) => append_between(out, b"print ", list, b""),
+        Statement::Printf(list) => append_between(out, b"printf ", list, b""),
+        Statement::If(condition, yes) => {
+            append_after(out, b"if (", condition)?;
+            append_body(out, b") ", yes)
+        }
+        Statement::IfElse(condition, yes, no) => {
+            append_after(out, b"if (", condition)?;
+            append_body(out, b") ", yes)?;
+            append_body(out, b" else ", no)
+        }
+        Statement::While(condition, body) => {
+            append_after(out, b"while (", condition)?;
+            append_body(out, b") ", body)
+        }
+        Statement::DoWhile(body, condition) => {
+            append_body(out, b"do ", body)?;
+            append_around(out, b" while (", condition, b")")
+        }
+        Statement::For(first, condition, step, body) => {
+            append_part(out, b"for (", first)?;
+            append_part(out, b"; ", condition)?;
+            append_part(out, b"; ", step)?;
+            append_body(out, b") ", body)
+        }
+        Statement::ForIn(key, array, body) => {
+            append_name_after(out, b"for (", key)?;
+            append_name_after(out, b" in ", array)?;
+            append_body(out, b") ", body)
+        }
+        Statement::Leave(leave, _) => append(out, word(*leave)),
+        Statement::Exit(status) => append_operand(out, b"exit", status),
+        Statement::Return(value, _) => append_operand(out, b"return", value),
+        Statement::Delete(array, keys) => {
+            append_name_after(out, b"delete ", array)?;
+            append_between(out, b"[", keys, b"]")
+        }
+        Statement::DeleteArray(array) => append_name_after(out, b"delete ", array),
+    }
+}
+
+/// Appends a text, and a body after it: its statements, each with a newline, in braces.
+#[cycle(statement)]
+pub fn append_body(out: &mut Vec<u8>, before: &[u8], body: &[Statement]) -> Result<(), AllocError>
+    ensures { OnOk result (Lengthens out.old.items out.new.items
+        (λ rest. before.now ++ body_text (lines_text (seen body.now)) rest)) }
+{
+    append(out, before)?;
+    append(out, b"{\n")?;
+    append_lines(out, body)?;
+    append(out, b"}")
+}
+
+/// Appends statements, each with a newline.
+#[cycle(statement)]
+fn append_lines(out: &mut Vec<u8>, statements: &[Statement]) -> Result<(), AllocError>
+    ensures { OnOk result
+        (Lengthens out.old.items out.new.items (lines_text (seen statements.now))) }
+{
+    for statement in statements {
+        append_statement(out, statement)?;
+        append(out, b"\n")?;
+    }
+    Ok(())
+}
