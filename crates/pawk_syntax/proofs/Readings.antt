@@ -16,6 +16,12 @@ use Rattle.pawk_syntax_expressions.specs.Expressions.{eres, eres_of_program}
 use Rattle.pawk_syntax_expressions.specs.Reads.{AreSpelled, AreExpressions, Denies}
 use Rattle.pawk_syntax_expressions.proofs.DerivedPrograms.{derived_program}
 use Rattle.pawk_syntax_expressions.proofs.CanonicalTokens.{of_program}
+use Rattle.pawk_lex.specs.Canonical.{AreBytes}
+use Rattle.pawk_lex.proofs.CutLaws.{cut_writable}
+use Rattle.pawk_syntax_program.proofs.ItemKept.{program_kept}
+use Rattle.pawk_syntax_show.specs.ProgramText.{program_text}
+use Rattle.pawk_syntax_show.proofs.WritableProgram.{program_writable}
+use Rattle.pawk_syntax_show.proofs.ProgramCut.{program_cut}
 use Rattle.pawk_syntax.specs.Spells.{Spells}
 use Rattle.pawk_syntax.specs.Items.{AreRead}
 
@@ -71,3 +77,14 @@ same_parts ts r xs ys h k = ap (found_or xs) (sym h.items ∙ k.items)
 pub memory : (why : SyntaxRefusal) (P : Type 0) → Denies why P → P → why ≡ refusal.Memory
 memory (refusal.At cause place) P h p = absurd (h p)
 memory refusal.Memory P h p = refl
+
+-- the canonical text of a program spells it
+pub spells_again : (text : Text) (xs : List Part) → AreBytes text → Spells text xs → Spells (program_text xs) xs
+spells_again text xs bytes s = record {
+  tokens = canon_program xs;
+  cut = program_cut xs (program_kept s.derived) (program_writable s.derived (cut_writable bytes s.cut));
+  derived = (read_is_derived (canon_program xs) [] xs (derived_is_read s.tokens xs s.derived s.low)).0;
+  expressions = s.expressions;
+  low = s.low;
+  few = few_program xs s.low;
+}
