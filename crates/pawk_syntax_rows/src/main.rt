@@ -1,0 +1,90 @@
+//! Reads program texts, one a row. A row's cells stand between tabs: what is asked, and then the parts of
+//! the text, each as how often it stands and its bytes, in which a backslash with three octal digits is
+//! the byte of that value.
+//!
+//! - `text`: the canonical text of the program, its bytes written in the same way; `again` is added
+//!   where that text is not read as a program with the same canonical text;
+//! - `size`: how many bytes the canonical text has.
+//!
+//! A text that is refused is answered with the number of its refusal, and its place.
+#![tactic(auto)]
+
+use pawk_rows::{cell, decode, number, push_encoded};
+use pawk_syntax::{SyntaxRefusal, parse, show};
+use std::alloc::{AllocError, Global};
+use std::io;
+
+/// The text of a row.
+fn text(alloc: Global, row: &[u8]) -> Result<Vec<u8>, AllocError> {
+    let mut text = Vec::new(alloc);
+    let mut count = None;
+    for part in row.split(|byte| *byte == b'\t').skip(1) {
+        count = match count {
+            None => Some(number(part)),
+            Some(count) => {
+                push_repeated(alloc, part, count, &mut text)?;
+                None
+            }
+        };
+    }
+    Ok(text)
+}
+
+/// Adds the bytes of a cell, so often.
+fn push_repeated(
+    alloc: Global,
+    part: &[u8],
+    count: u64,
+    text: &mut Vec<u8>,
+) -> Result<(), AllocError> {
+    let bytes = decode(alloc, part)?;
+    for _ in 0..count {
+        text.extend_from_slice(bytes.as_slice())?;
+    }
+    Ok(())
+}
+
+/// The canonical text of a text, or its refusal.
+fn canonical(alloc: Global, text: &[u8]) -> Result<Vec<u8>, SyntaxRefusal> {
+    let program = parse(alloc, text)?;
+    Ok(show(alloc, &program)?)
+}
+
+/// Whether this text is its own canonical text.
+fn is_canonical(alloc: Global, text: &[u8]) -> bool {
+    match canonical(alloc, text) {
+        Ok(again) => again.as_slice() == text,
+        Err(_) => false,
+    }
+}
+
+/// A canonical text as it is shown.
+fn shown(alloc: Global, asked: &[u8], text: &[u8]) -> Result<String, AllocError> {
+    if asked == b"size".as_slice() {
+        let size = text.len();
+        return format!(in alloc; "{size}");
+    }
+    let mut bytes = Vec::new(alloc);
+    push_encoded(text, &mut bytes)?;
+    if !is_canonical(alloc, text) {
+        bytes.extend_from_slice(b" again")?;
+    }
+    String::from_str(alloc, str::from_utf8(bytes.as_slice()).unwrap_or(""))
+}
+
+/// The answer to a row.
+fn answer(alloc: Global, row: &[u8]) -> Result<String, AllocError> {
+    let text = text(alloc, row)?;
+    match canonical(alloc, text.as_slice()) {
+        Ok(canonical) => shown(alloc, cell(row, 0), canonical.as_slice()),
+        Err(refusal) => format!(in alloc; "{refusal}"),
+    }
+}
+
+fn main(rt: HostRuntime) -> io::Result<()> {
+    for row in rt.lines(rt.alloc()) {
+        let line = answer(rt.alloc(), row?.as_str().as_bytes())?;
+        println!(rt; "{line}")?;
+    }
+    Ok(())
+}
