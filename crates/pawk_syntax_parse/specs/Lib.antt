@@ -1,3 +1,4 @@
 pub mod Reads
 pub mod Heights
 pub mod Nests
+pub mod Starts

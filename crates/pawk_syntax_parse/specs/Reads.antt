@@ -1,5 +1,5 @@
 -- What a function that reads ensures: the outcome that the definitions compute, unless memory fails.
-use Rattle.std.specs.Prelude.{◌≡◌, ◌≢◌, ℕ, List, map, Some, None, Result, Ok, Err}
+use Rattle.std.specs.Prelude.{◌≡◌, ◌≢◌, ◌<◌, ℕ, List, map, Some, None, Result, Ok, Err}
 use Rattle.pawk_token.specs.declared.refusal.SyntaxRefusal.{SyntaxRefusal}
 use Rattle.pawk_token.specs.declared.refusal.SyntaxRefusal.TheVariants.{Memory}
 use Rattle.pawk_token.specs.Tokens.{Tok, tok}
@@ -29,3 +29,13 @@ trees_of ps = views ps.list.items
 -- an operand with its level
 abbrev pub operand_of : Phrase × ℕ → Tree × ℕ
 operand_of o = (tree_of o.0, o.1)
+
+-- an operand that was found has a level below this
+abbrev pub IsBelow : ℕ → Outcome (Tree × ℕ) → Type 0
+IsBelow least (Some p) = p.0.1 < least
+IsBelow least None = Unit {0}
+
+-- an operand; or none of this level or a tighter one, unless memory fails
+abbrev pub GivesFrom : ℕ → Outcome (Tree × ℕ) → Result (Phrase × ℕ) SyntaxRefusal → List Tok → Type 0
+GivesFrom least outcome (Ok o) new = outcome ≡ Some (operand_of o, new)
+GivesFrom least outcome (Err e) new = e ≢ Memory → IsBelow least outcome

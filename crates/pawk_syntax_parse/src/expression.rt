@@ -1,10 +1,12 @@
 //! Expressions, by levels. Each function takes the reader of nested phrases as a parameter, so that
 //! each is proved by itself.
 
-ghost use Rattle.std.specs.Prelude.{◌≡◌, ◌+◌, ◌≤◌, [], length, IfOk, Option, Some, None, true, false};
+ghost use Rattle.std.specs.Prelude.{◌≡◌, ◌+◌, ◌≤◌, ◌<◌, [], length, IfOk, Option, Some, None, true, false};
 ghost use Rattle.pawk_syntax_tree.specs.Levels as levels;
 ghost use Rattle.pawk_syntax_tree.specs.Parse as spec;
-ghost use Rattle.pawk_syntax_parse.specs.Reads.{input, Gives, nothing, tree_of, trees_of, operand_of};
+ghost use Rattle.pawk_token.specs.Tokens.{tok};
+ghost use Rattle.pawk_syntax_parse.specs.Starts as starts;
+ghost use Rattle.pawk_syntax_parse.specs.Reads.{input, Gives, GivesFrom, nothing, tree_of, trees_of, operand_of};
 ghost use Rattle.pawk_syntax_parse.specs.Nests.{Nests};
 ghost use Rattle.pawk_syntax_parse.specs.Reads as reads;
 
@@ -34,6 +36,30 @@ fn row_at(ts: &Cursor<'_>, compares: bool, top: u8) -> Option<Row>
             Value::Mark(sign) => row_of_sign(compares, top, *sign),
             _ => beside(),
         },
+    }
+}
+
+/// The tightest level of an operand that begins with this token.
+fn tightest(value: &Value) -> u8
+    ensures { result ≡ starts.tightest (tok value.now) }
+{
+    match value {
+        Value::Name(_) | Value::Mark(Mark::Dollar) => OF_LVALUE,
+        Value::Mark(Mark::LeftParenthesis) => OF_VALUE,
+        Value::Mark(Mark::PlusPlus | Mark::MinusMinus) => OF_INCREMENT,
+        Value::Mark(Mark::Not | Mark::Plus | Mark::Minus) => OF_PREFIXED,
+        Value::Mark(_) => OF_EXPR,
+        _ => OF_VALUE,
+    }
+}
+
+/// The tightest level of an operand that comes next.
+fn tightest_next(ts: &Cursor<'_>) -> u8
+    ensures { result ≡ starts.tightest_next (input ts.now) }
+{
+    match ts.rest {
+        [] => OF_EXPR,
+        [next, ..] => tightest(&next.value),
     }
 }
 
@@ -204,13 +230,37 @@ impl<F: Fn(Global, &mut Cursor<'_>, usize, bool, u8) -> Result<Phrase, SyntaxRef
         Ok((build::member(ts, inner, name)?, OF_MEMBER))
     }
 
+    /// After a bracket where no list of several may stand: one expression. A comma is refused there.
+    #[tactic(auto, using(crate::proofs::Starts::no_group, crate::proofs::Starts::closed, crate::proofs::Starts::unclosed))]
+    fn only_group(&self, ts: &mut Cursor<'_>, least: u8) -> Result<(Phrase, u8), SyntaxRefusal>
+        requires nests { Nests self.now.depth (F.pre self.now.expr) (F.post self.now.expr) }
+        requires tight { 3 < least }
+        ensures { GivesFrom least (spec.group (spec.expr self.now.depth) (input ts.old)) result (input ts.new) }
+    {
+        let inner = self.expr(ts, true, OF_EXPR)?;
+        ts.expect(Mark::RightParenthesis, true)?;
+        Ok((build::value(self.alloc, inner)?, OF_VALUE))
+    }
+
     #[tactic(auto, unfolding(pawk_syntax_tree::specs::Parse::group))]
-    fn group(&self, ts: &mut Cursor<'_>) -> Result<(Phrase, u8), SyntaxRefusal>
+    fn any_group(&self, ts: &mut Cursor<'_>) -> Result<(Phrase, u8), SyntaxRefusal>
         requires { Nests self.now.depth (F.pre self.now.expr) (F.post self.now.expr) }
         ensures { Gives operand_of (spec.group (spec.expr self.now.depth) (input ts.old)) result (input ts.new) }
     {
         let inner = self.list_up_to(ts, Mark::RightParenthesis, None)?;
         self.group_of(ts, inner)
+    }
+
+    /// After a bracket, for an operand of the level `least`.
+    fn group(&self, ts: &mut Cursor<'_>, least: u8) -> Result<(Phrase, u8), SyntaxRefusal>
+        requires { Nests self.now.depth (F.pre self.now.expr) (F.post self.now.expr) }
+        ensures { GivesFrom least (spec.group (spec.expr self.now.depth) (input ts.old)) result (input ts.new) }
+    {
+        if OF_MEMBER < least {
+            self.only_group(ts, least)
+        } else {
+            self.any_group(ts)
+        }
     }
 
     #[tactic(auto, unfolding(pawk_syntax_tree::specs::Parse::signed))]
@@ -280,14 +330,15 @@ impl<F: Fn(Global, &mut Cursor<'_>, usize, bool, u8) -> Result<Phrase, SyntaxRef
         &self,
         ts: &mut Cursor<'_>,
         compares: bool,
+        least: u8,
         sign: Mark,
         refusal: SyntaxRefusal,
     ) -> Result<(Phrase, u8), SyntaxRefusal>
         requires { Nests self.now.depth (F.pre self.now.expr) (F.post self.now.expr) }
-        ensures { Gives operand_of (spec.operand_by_mark (spec.expr self.now.depth) compares sign (input ts.old)) result (input ts.new) }
+        ensures { GivesFrom least (spec.operand_by_mark (spec.expr self.now.depth) compares sign (input ts.old)) result (input ts.new) }
     {
         match sign {
-            Mark::LeftParenthesis => self.group(ts),
+            Mark::LeftParenthesis => self.group(ts, least),
             Mark::Not => self.signed(ts, compares, Single::Not),
             Mark::Plus => self.signed(ts, compares, Single::Plus),
             Mark::Minus => self.signed(ts, compares, Single::Minus),
@@ -298,12 +349,21 @@ impl<F: Fn(Global, &mut Cursor<'_>, usize, bool, u8) -> Result<Phrase, SyntaxRef
         }
     }
 
-    #[tactic(auto, unfolding(pawk_syntax_tree::specs::Parse::operand))]
-    fn operand(&self, ts: &mut Cursor<'_>, compares: bool) -> Result<(Phrase, u8), SyntaxRefusal>
+    /// An operand of the level `least` or a tighter one. A token that begins none is refused.
+    #[tactic(auto, unfolding(pawk_syntax_tree::specs::Parse::operand), using(crate::proofs::Starts::too_loose))]
+    fn operand(
+        &self,
+        ts: &mut Cursor<'_>,
+        compares: bool,
+        least: u8,
+    ) -> Result<(Phrase, u8), SyntaxRefusal>
         requires { Nests self.now.depth (F.pre self.now.expr) (F.post self.now.expr) }
-        ensures { Gives operand_of (spec.operand (spec.expr self.now.depth) compares (input ts.old)) result (input ts.new) }
+        ensures { GivesFrom least (spec.operand (spec.expr self.now.depth) compares (input ts.old)) result (input ts.new) }
     {
         let refusal = ts.refuse(compares);
+        if tightest_next(ts) < least {
+            return Err(refusal);
+        }
         match ts.rest {
             [] => Err(refusal),
             [next, ..] => {
@@ -322,7 +382,9 @@ impl<F: Fn(Global, &mut Cursor<'_>, usize, bool, u8) -> Result<Phrase, SyntaxRef
                         self.called(ts, name)
                     }
                     Value::Builtin(function) => self.built_in(ts, compares, *function, start),
-                    Value::Mark(sign) => self.operand_by_mark(ts, compares, *sign, refusal),
+                    Value::Mark(sign) => {
+                        self.operand_by_mark(ts, compares, least, *sign, refusal)
+                    }
                 }
             }
         }
@@ -403,7 +465,7 @@ impl<F: Fn(Global, &mut Cursor<'_>, usize, bool, u8) -> Result<Phrase, SyntaxRef
         Err(ts.refuse(compares))
     }
 
-    #[tactic(auto, unfolding(pawk_syntax_tree::specs::Parse::phrase))]
+    #[tactic(auto, unfolding(pawk_syntax_tree::specs::Parse::phrase), using(crate::proofs::Starts::no_phrase_of))]
     fn phrase(
         &self,
         ts: &mut Cursor<'_>,
@@ -414,7 +476,7 @@ impl<F: Fn(Global, &mut Cursor<'_>, usize, bool, u8) -> Result<Phrase, SyntaxRef
         ensures { Gives tree_of (spec.phrase (spec.expr self.now.depth) compares least (input ts.old)) result (input ts.new) }
     {
         let refusal = ts.refuse(compares);
-        let first = self.operand(ts, compares)?;
+        let first = self.operand(ts, compares, least)?;
         if least <= first.1 {
             self.climb(ts, compares, least, first)
         } else {

@@ -8,8 +8,8 @@ use Rattle.pawk_token.specs.Bytes.{Text}
 use Rattle.pawk_token.specs.Tokens.{Tok}
 use Rattle.pawk_token.specs.Tokens as t
 use Rattle.pawk_syntax_tree.specs.Tree.{Tree}
-use Rattle.pawk_syntax_tree.specs.Parse.{Outcome, expect, sees, skip_lines, after, greatest_height}
-use Rattle.pawk_syntax_tree.proofs.Tokens.{OnFound, on_bind, on_found}
+use Rattle.pawk_syntax_tree.specs.Parse.{expect, sees, skip_lines, after, greatest_height}
+use Rattle.pawk_syntax_tree.proofs.Tokens.{OnFound, on_bind, anything}
 use Rattle.pawk_syntax_program.specs.Statement.{Stmts}
 use Rattle.pawk_syntax_program.specs.StatementParse.{whole}
 use Rattle.pawk_syntax_program.specs.Item.{Part, begin, end, always, matching, between, define, print_record, height_of_part, AreLow}
@@ -17,11 +17,6 @@ use Rattle.pawk_syntax_program.specs.ItemParse.{action, low_part, with_action, a
 
 abbrev IsLow : Part × Bool → List Tok → Type 0
 IsLow p rest = height_of_part p.0 ≤ greatest_height
-
--- whatever is found, nothing is asked of it
-anything : {A : Type 0} (o : Outcome A) → OnFound (λ _ _. Unit {0}) o
-anything (Some p) = tt
-anything None = tt
 
 low_is : (closes : Bool) (x : Part) (ts : List Tok) → OnFound IsLow (low_part closes x ts)
 unfolding low_part

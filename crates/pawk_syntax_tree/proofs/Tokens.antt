@@ -21,6 +21,11 @@ pub on_bind : {A B : Type 0} (r : Outcome A) (f : A → Parser B) (P : A → Lis
 on_bind (Some p) f P Q h k = k p.0 p.1 h
 on_bind None f P Q h k = tt
 
+-- whatever is found, nothing is asked of it
+pub anything : {A : Type 0} (r : Outcome A) → OnFound (λ _ _. Unit {0}) r
+anything (Some p) = tt
+anything None = tt
+
 pub on_found : {A : Type 0} {P Q : A → List Tok → Type 0} (r : Outcome A) → OnFound P r → ((a : A) (rest : List Tok) → P a rest → Q a rest) → OnFound Q r
 on_found (Some p) h k = k p.0 p.1 h
 on_found None h k = tt
