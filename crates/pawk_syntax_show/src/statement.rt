@@ -1,10 +1,12 @@
 //! The canonical text of statements.
 
 ghost use Rattle.std.specs.Prelude.{◌++◌, OnOk, map};
+ghost use Rattle.pawk_syntax_tree.specs.Tree.{view};
 ghost use Rattle.pawk_syntax_program.specs.Statement.{option_view, stmt_view, word_of};
 ghost use Rattle.pawk_syntax_program.specs.Item.{seen};
 ghost use Rattle.pawk_syntax_show.specs.Lengthening.{IsTextOf, Lengthens};
-ghost use Rattle.pawk_syntax_show.specs.TreeText.{with_mark, with_name};
+ghost use Rattle.pawk_syntax_show.specs.TreeText.{closing_text, tree_text, with_mark, with_name};
+ghost use Rattle.pawk_syntax_show.specs.TreeText.{with_space};
 ghost use Rattle.pawk_syntax_show.specs.ProgramText.{body_text, maybe_text, operand_text};
 ghost use Rattle.pawk_syntax_show.specs.ProgramText.{stmt_text, lines_text};
 
@@ -68,19 +70,12 @@ pub fn append_statement(out: &mut Vec<u8>, statement: &Statement) -> Result<(), 
         Statement::Expression(expr) => append_expr(out, expr),
         Statement::Print(list) => append_between(out, b"print ", list, b""),
         Statement::Printf(list) => append_between(out, b"printf ", list, b""),
-        Statement::If(condition, yes) => {
-            append_after(out, b"if (", condition)?;
-            append_body(out, b") ", yes)
-        }
+        Statement::If(condition, yes) => append_body_under(out, yes, b"if (", condition),
         Statement::IfElse(condition, yes, no) => {
-            append_after(out, b"if (", condition)?;
-            append_body(out, b") ", yes)?;
+            append_body_under(out, yes, b"if (", condition)?;
             append_body(out, b" else ", no)
         }
-        Statement::While(condition, body) => {
-            append_after(out, b"while (", condition)?;
-            append_body(out, b") ", body)
-        }
+        Statement::While(condition, body) => append_body_under(out, body, b"while (", condition),
         Statement::DoWhile(body, condition) => {
             append_body(out, b"do ", body)?;
             append_around(out, b" while (", condition, b")")
@@ -105,6 +100,22 @@ pub fn append_statement(out: &mut Vec<u8>, statement: &Statement) -> Result<(), 
         }
         Statement::DeleteArray(array) => append_name_after(out, b"delete ", array),
     }
+}
+
+/// Appends a body under a condition: a word with an opening bracket, the condition, and the body.
+#[cycle(statement)]
+fn append_body_under(
+    out: &mut Vec<u8>,
+    body: &[Statement],
+    word: &[u8],
+    condition: &Expr,
+) -> Result<(), AllocError>
+    ensures { OnOk result (Lengthens out.old.items out.new.items
+        (λ rest. word.now ++ tree_text (view condition.now)
+        (closing_text (with_space (body_text (lines_text (seen body.now)) rest))))) }
+{
+    append_after(out, word, condition)?;
+    append_body(out, b") ", body)
 }
 
 /// Appends a text, and a body after it: its statements, each with a newline, in braces.
