@@ -2,6 +2,7 @@
 #![tactic(auto)]
 
 pub mod expression;
+pub mod functions;
 pub mod item;
 pub mod mention;
 pub mod role;
