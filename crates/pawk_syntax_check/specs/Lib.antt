@@ -1,0 +1,4 @@
+pub mod Targets
+pub mod Calls
+pub mod Words
+pub mod Fits
