@@ -3,4 +3,5 @@
 
 pub mod check;
 pub mod fault;
+pub mod heads;
 pub mod rules;

@@ -1,7 +1,8 @@
 //! What each mention has to meet.
 
-ghost use Rattle.std.specs.Prelude.{◌≡◌, length};
+ghost use Rattle.std.specs.Prelude.{◌≡◌, length, not};
 ghost use Rattle.std.specs.Option.{is_none};
+ghost use Rattle.pawk_token.specs.Vocabulary as vocabulary;
 ghost use Rattle.pawk_syntax_tree.specs.Tree.{view, views, trees};
 ghost use Rattle.pawk_syntax_program.specs.Item.{part};
 ghost use Rattle.pawk_syntax_uses.specs.Views.{mention_view};
@@ -11,7 +12,7 @@ ghost use Rattle.pawk_syntax_check.specs.Calls as calls;
 ghost use Rattle.pawk_syntax_check.specs.Words as words;
 ghost use Rattle.pawk_syntax_check.specs.Fits.{fits};
 
-use crate::fault::Fault;
+use crate::fault::{Fault, first_of};
 use pawk_syntax_program::item::Item;
 use pawk_syntax_program::statement::Leave;
 use pawk_syntax_tree::tree::{Expr, Name, Single};
@@ -128,7 +129,7 @@ fn may_leave(item: &Item, word: Leave, in_loop: bool) -> bool
 }
 
 /// A fault unless the rule is met.
-fn unless(is_met: bool, cause: Cause, start: usize) -> Option<Fault>
+pub fn unless(is_met: bool, cause: Cause, start: usize) -> Option<Fault>
     ensures { is_none result ≡ is_met }
 {
     if is_met {
@@ -148,16 +149,41 @@ fn is_call(functions: &Functions<'_>, name: &Name, count: usize) -> bool
     }
 }
 
+/// A name that is no function's stands here.
+fn other_than_function(functions: &Functions<'_>, name: &Name) -> Option<Fault>
+    ensures { is_none result ≡ is_none (found functions.now name.now.text.items) }
+{
+    unless(
+        functions.get(name.text.as_slice()).is_none(),
+        Cause::Uses,
+        name.start,
+    )
+}
+
+/// A variable that the run sets is not assigned here.
+fn other_than_run_variable(name: &Name) -> Option<Fault>
+    ensures { is_none result ≡ not (vocabulary.is_run_variable name.now.text.items) }
+{
+    unless(
+        !is_run_variable(name.text.as_slice()),
+        Cause::Assigned,
+        name.start,
+    )
+}
+
 /// What is at fault with a mention of an item.
 pub fn fault(functions: &Functions<'_>, item: &Item, mention: Mention<'_>) -> Option<Fault>
     ensures { is_none result ≡ fits (found functions.now) (part item.now) (mention_view mention.entry) }
 {
     match mention {
-        Mention::Target(name) => unless(
-            !is_run_variable(name.text.as_slice()),
-            Cause::Assigned,
-            name.start,
+        Mention::Array(name) => other_than_function(functions, name),
+        Mention::Scalar(name) => other_than_function(functions, name),
+        Mention::Argument(name, _, _) => other_than_function(functions, name),
+        Mention::Target(name) => first_of(
+            other_than_run_variable(name),
+            other_than_function(functions, name),
         ),
+        Mention::Value(_, _) => None,
         Mention::Call(name, count) => unless(
             is_call(functions, name, count),
             Cause::Call,
@@ -174,9 +200,5 @@ pub fn fault(functions: &Functions<'_>, item: &Item, mention: Mention<'_>) -> Op
             start,
         ),
         Mention::Return(start) => unless(is_function(item), Cause::Misplaced, start),
-        Mention::Array(_)
-        | Mention::Scalar(_)
-        | Mention::Argument(_, _, _)
-        | Mention::Value(_, _) => None,
     }
 }
