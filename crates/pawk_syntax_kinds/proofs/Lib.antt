@@ -1,0 +1,4 @@
+pub mod Numbering
+pub mod Lists
+pub mod Marking
+pub mod Agreement

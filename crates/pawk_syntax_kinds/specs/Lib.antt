@@ -1,0 +1,5 @@
+pub mod Tables
+pub mod Demands
+pub mod DemandViews
+pub mod Marks
+pub mod Found

@@ -1,0 +1,80 @@
+//! Whether every name of a program has one kind.
+
+ghost use Rattle.std.specs.Prelude.{◌≡◌, ◌<◌, IfOk, IsTrue, map, length, true, false};
+ghost use Rattle.std.specs.List.{list_all, All};
+ghost use Rattle.pawk_token.specs.Bytes.{Text};
+ghost use Rattle.pawk_syntax_program.specs.Item.{part};
+ghost use Rattle.pawk_syntax_uses.specs.Functions.{function_of};
+ghost use Rattle.pawk_syntax_uses.specs.FunctionViews.{found};
+ghost use Rattle.pawk_syntax_kinds.specs.Demands.{KindsFit};
+ghost use Rattle.pawk_syntax_kinds.specs.DemandViews.{AreNumbered};
+ghost use Rattle.pawk_syntax_kinds.specs.Marks as marking;
+ghost use Rattle.pawk_syntax_kinds.specs.Found as spec;
+
+use crate::demand::Demand;
+use crate::demands::Demands;
+use crate::marks::marks;
+use crate::variables::Variable;
+use pawk_syntax_program::item::Item;
+use pawk_syntax_uses::functions::Functions;
+use pawk_token::vocabulary::is_variable;
+use std::alloc::{AllocError, Global};
+
+/// Whether a variable is an array by its mark; a variable of the language is none.
+fn is_array(marks: &[bool], variable: Variable<'_>) -> bool
+    requires { variable.number < length marks.now }
+    ensures { result ≡ spec.is_array marks.now variable.entry }
+{
+    if variable.key.scope == 0 && is_variable(variable.key.name) {
+        false
+    } else {
+        marks[variable.number]
+    }
+}
+
+/// Whether the marks meet a demand.
+fn meets(marks: &[bool], demand: Demand<'_>) -> bool
+    requires { marking.IsBelow (length marks.now) demand }
+    ensures { result ≡ spec.meets_marks marks.now demand.entry }
+{
+    match demand {
+        Demand::Array(v) => is_array(marks, v),
+        Demand::Scalar(v) => !is_array(marks, v),
+        Demand::Alike(v, w) => {
+            if is_array(marks, v) {
+                is_array(marks, w)
+            } else {
+                !is_array(marks, w)
+            }
+        }
+    }
+}
+
+/// Whether the marks meet all demands.
+fn meets_all(marks: &[bool], demands: &[Demand<'_>]) -> bool
+    requires { marking.AreBelow (length marks.now) demands.now }
+    ensures { result ≡ list_all (spec.meets_marks marks.now) demands.now }
+{
+    for demand in demands {
+        if !meets(marks, *demand) {
+            return false;
+        }
+    }
+    true
+}
+
+/// Whether every name of the program has one kind: some names are arrays and the others scalars, so
+/// that every use of a name agrees (POSIX.1-2017, awk, "Variables and Special Variables").
+pub fn have_kinds<'t>(
+    alloc: Global,
+    functions: &Functions<'t>,
+    items: &'t [Item],
+) -> Result<bool, AllocError>
+    requires { (x : Text) → found functions.now x ≡ function_of (map part items.now) x }
+    ensures fit { IfOk result (λ b. b ≡ true → KindsFit (map part items.now)) }
+    ensures unfit { IfOk result (λ b. b ≡ false → KindsFit (map part items.now) → ⊥) }
+{
+    let demands = Demands::new(alloc, functions, items)?;
+    let marks = marks(alloc, demands.list.as_slice(), demands.variables.keys.len())?;
+    Ok(meets_all(marks.as_slice(), demands.list.as_slice()))
+}

@@ -1,0 +1,80 @@
+//! Which variables are arrays.
+
+ghost use Rattle.std.specs.Prelude.{◌≡◌, ◌<◌, length, IfOk, not, ℕ, Bool, true};
+ghost use Rattle.std.specs.List.{list_all};
+ghost use Rattle.pawk_syntax_kinds.specs.Marks as spec;
+
+use crate::demand::Demand;
+use std::alloc::{AllocError, Global};
+
+/// Marks a number; answers whether it was not marked.
+fn mark(marks: &mut [bool], number: usize) -> bool
+    requires { number < length marks.old }
+    ensures marks { marks.new ≡ spec.mark marks.old number }
+    ensures change { result ≡ not (spec.is_marked marks.old number) }
+{
+    if marks[number] {
+        false
+    } else {
+        marks[number] = true;
+        true
+    }
+}
+
+/// Marks what a demand shows to be an array; answers whether it was not marked.
+fn step(marks: &mut [bool], demand: Demand<'_>) -> bool
+    requires { spec.IsBelow (length marks.old) demand }
+    ensures marks { marks.new ≡ spec.step demand.entry marks.old }
+    ensures change { result ≡ not (spec.is_settled marks.old demand.entry) }
+{
+    match demand {
+        Demand::Array(v) => mark(marks, v.number),
+        Demand::Scalar(_) => false,
+        Demand::Alike(v, w) => {
+            if marks[v.number] {
+                mark(marks, w.number)
+            } else if marks[w.number] {
+                mark(marks, v.number)
+            } else {
+                false
+            }
+        }
+    }
+}
+
+/// Marks what the demands show to be arrays, in turn; answers whether one of it was not marked.
+fn steps(marks: &mut [bool], demands: &[Demand<'_>]) -> bool
+    requires { spec.AreBelow (length marks.old) demands.now }
+    ensures marks { marks.new ≡ spec.steps demands.now marks.old }
+    ensures change { result ≡ spec.changes demands.now marks.old }
+{
+    let mut changes = false;
+    for demand in demands {
+        if step(marks, *demand) {
+            changes = true;
+        }
+    }
+    changes
+}
+
+/// Marks what the demands show to be arrays, until they show no more.
+fn spread(marks: &mut [bool], demands: &[Demand<'_>])
+    requires { spec.AreBelow (length marks.old) demands.now }
+    ensures settled { list_all (spec.is_settled marks.new) demands.now ≡ true }
+    ensures forced { (k : ℕ → Bool) → list_all (spec.meets_numbers k) demands.now ≡ true → spec.IsForced k marks.old → spec.IsForced k marks.new }
+{
+    while steps(marks, demands) {}
+}
+
+/// Which of so many numbers the demands show to be arrays: what is marked is an array in all kinds
+/// that meet the demands, and no demand shows more.
+pub fn marks(alloc: Global, demands: &[Demand<'_>], count: usize) -> Result<Vec<bool>, AllocError>
+    requires { spec.AreBelow count demands.now }
+    ensures settled { IfOk result (λ m. list_all (spec.is_settled m.items) demands.now ≡ true) }
+    ensures forced { IfOk result (λ m. (k : ℕ → Bool) → list_all (spec.meets_numbers k) demands.now ≡ true → spec.IsForced k m.items) }
+    ensures length { IfOk result (λ m. length m.items ≡ count) }
+{
+    let mut marks = vec![in alloc; false; count]?;
+    spread(&mut marks, demands);
+    Ok(marks)
+}

@@ -1,0 +1,70 @@
+//! The variables of a program, by numbers.
+
+ghost use Rattle.std.specs.Prelude.{◌≡◌, OnOk, IfOk, None};
+ghost use Rattle.pawk_syntax_kinds.specs.Tables.{key_view, IsTable, Names, Extends, number_of};
+
+use std::alloc::{AllocError, Global};
+use std::collections::BTreeMap;
+
+/// A name in a scope: the number of the item that is the function, counted from 1, or 0 outside of
+/// functions.
+#[derive(Clone, Copy, PartialEq, Eq, PartialOrd, Ord)]
+pub struct Key<'t> {
+    pub scope: usize,
+    pub name: &'t [u8],
+}
+
+/// A name in a scope, and its number.
+#[derive(Clone, Copy)]
+pub struct Variable<'t> {
+    pub key: Key<'t>,
+    pub number: usize,
+}
+
+/// Names in scopes, numbered from 0 in the order in which they come.
+#[derive(Drop)]
+pub struct Variables<'t> {
+    pub keys: Vec<Key<'t>>,
+    pub map: BTreeMap<Key<'t>, usize>,
+}
+
+impl<'t> Variables<'t> {
+    /// No variables.
+    pub fn new(alloc: Global) -> Variables<'t>
+        ensures { IsTable result }
+    {
+        Variables {
+            keys: Vec::new(alloc),
+            map: BTreeMap::new(alloc),
+        }
+    }
+
+    /// The variable of this name in this scope; a new one gets the next number.
+    pub fn variable(&mut self, key: Key<'t>) -> Result<Variable<'t>, AllocError>
+        requires { IsTable self.old }
+        ensures key { IfOk result (λ v. v.key ≡ key.entry) }
+        ensures number { IfOk result (Names self.new) }
+        ensures table { OnOk result (IsTable self.new) }
+        ensures more { OnOk result (Extends self.old self.new) }
+    {
+        match self.map.get(&key).copied() {
+            Some(number) => Ok(Variable { key, number }),
+            None => self.add(key),
+        }
+    }
+
+    /// A new variable, with the next number.
+    fn add(&mut self, key: Key<'t>) -> Result<Variable<'t>, AllocError>
+        requires table { IsTable self.old }
+        requires new { number_of self.old (key_view key) ≡ None }
+        ensures key { IfOk result (λ v. v.key ≡ key.entry) }
+        ensures number { IfOk result (Names self.new) }
+        ensures table { OnOk result (IsTable self.new) }
+        ensures more { OnOk result (Extends self.old self.new) }
+    {
+        let number = self.keys.len();
+        self.keys.push(key)?;
+        self.map.insert(key, number)?;
+        Ok(Variable { key, number })
+    }
+}

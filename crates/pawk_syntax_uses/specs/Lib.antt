@@ -1,0 +1,4 @@
+pub mod Mentions
+pub mod Views
+pub mod Functions
+pub mod FunctionViews
