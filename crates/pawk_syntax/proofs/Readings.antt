@@ -1,5 +1,6 @@
 -- What the reading of a program text needs.
-use Rattle.std.proofs.Common.{◌≡◌, List, [], ◌∷◌, Option, Some, None, refl, sym, ap, subst, ◌∙◌}
+use Rattle.std.proofs.Common.{◌≡◌, ◌≢◌, rules, List, [], ◌∷◌, Option, Some, None, refl, sym, ap, subst, ◌∙◌}
+use Rattle.pawk_syntax_check.specs.Fits.{Fits}
 use Rattle.pawk_token.specs.declared.refusal.SyntaxRefusal.{SyntaxRefusal}
 use Rattle.pawk_token.specs.declared.refusal.SyntaxRefusal.TheVariants as refusal
 use Rattle.pawk_token.specs.Bytes.{Text}
@@ -40,12 +41,13 @@ pub same_expressions : (ts : List Tok) (r : Option SyntaxRefusal) (xs : List Par
 same_expressions ts r xs h = derived_program ts xs (read_is_derived ts [] xs h.items).0
 
 pub spells : (text : Text) (ts : List Tok) (r : Option SyntaxRefusal) (xs : List Part) (es : List Pattern) →
-    EndsBy text ts r → AreRead ts r xs → AreSpelled (eres ts) es → Spells text xs
-spells text ts r xs es cut h q = record {
+    EndsBy text ts r → AreRead ts r xs → AreSpelled (eres ts) es → Fits xs → Spells text xs
+spells text ts r xs es cut h q fits' = record {
   tokens = ts;
   cut = subst (EndsBy text ts) h.whole cut;
   derived = (read_is_derived ts [] xs h.items).0;
   expressions = subst AreExpressions (same_expressions ts r xs h) (expressions (eres ts) es q);
+  fits = fits';
   low = read_is_low ts [] xs h.items;
   few = h.few;
 }
@@ -85,6 +87,12 @@ spells_again text xs bytes s = record {
   cut = program_cut xs (program_kept s.derived) (program_writable s.derived (cut_writable bytes s.cut));
   derived = (read_is_derived (canon_program xs) [] xs (derived_is_read s.tokens xs s.derived s.low)).0;
   expressions = s.expressions;
+  fits = s.fits;
   low = s.low;
   few = few_program xs s.low;
 }
+
+-- what a check tells of what holds is memory alone
+pub no_fault : (why : SyntaxRefusal) (P : Type 0) → (why ≢ refusal.Memory → P → ⊥) → P → why ≡ refusal.Memory
+no_fault (refusal.At cause place) P h p = absurd (h (λ e. search rules) p)
+no_fault refusal.Memory P h p = refl

@@ -5,17 +5,20 @@ use Rattle.pawk_token.specs.Tokens.{Tok}
 use Rattle.pawk_lex.specs.Cut.{Cut}
 use Rattle.pawk_syntax_program.specs.Item.{Part, AreLow}
 use Rattle.pawk_syntax_program.specs.ItemGrammar.{Programs}
+use Rattle.pawk_syntax_check.specs.Fits.{Fits}
 use Rattle.pawk_syntax_brackets.specs.Brackets.{are_few}
 use Rattle.pawk_syntax_expressions.specs.Expressions.{eres_of_program}
 use Rattle.pawk_syntax_expressions.specs.Reads.{AreExpressions}
 
 -- The text is cut into tokens, which derive the program; what stands between slashes are regular
--- expressions; no item is too high, and never are too many brackets open.
+-- expressions; the names, calls and words of the program fit; no item is too high, and never are too
+-- many brackets open.
 pub record Spells (text : Text) (xs : List Part) : Type 0 where
   pub tokens : List Tok
   pub cut : Cut text tokens
   pub derived : Programs tokens xs
   pub expressions : AreExpressions (eres_of_program xs)
+  pub fits : Fits xs
   pub low : AreLow xs
   pub few : are_few 0 tokens ≡ true
 

@@ -12,6 +12,7 @@ ghost use Rattle.pawk_syntax.specs.Reads.{ReadsAs};
 use crate::program::Program;
 use crate::reading::{first_refusal, read_items};
 use pawk_lex::token_list::TokenList;
+use pawk_syntax_check::check::check;
 use pawk_syntax_expressions::expressions::read_expressions;
 use pawk_token::refusal::SyntaxRefusal;
 use std::alloc::Global;
@@ -29,6 +30,7 @@ pub fn parse(alloc: Global, text: &[u8]) -> Result<Program, SyntaxRefusal>
     match read_items(alloc, &list, text.len()) {
         Ok(items) => {
             let expressions = read_expressions(alloc, &list.tokens)?;
+            check(alloc, &items)?;
             Ok(Program { items, expressions })
         }
         Err(why) => Err(first_refusal(alloc, &list.tokens, why)),

@@ -1,12 +1,13 @@
-use Rattle.std.proofs.Common.{rules, map, subst, rules}
+use Rattle.std.proofs.Common.{sym, ◌≡◌, rules, map, subst, rules}
 use Rattle.pawk_lex.specs.TokenLists.{values}
 use Rattle.pawk_syntax_program.specs.Item.{part}
 use Rattle.pawk_syntax_program.specs.ItemCanonical.{canon_program}
 use Rattle.pawk_syntax_expressions.specs.Expressions.{eres}
 use Rattle.pawk_syntax_expressions.specs.Reads.{AreSpelled, AreExpressions, Denies, patterns}
+use Rattle.pawk_syntax_check.specs.Fits.{Fits}
 use Rattle.pawk_syntax.specs.Spells.{Spells}
 use Rattle.pawk_syntax.specs.Items.{AreRead}
-use Rattle.pawk_syntax.proofs.Readings.{spells, same_expressions, read_again, expressions_again, same_parts, memory}
+use Rattle.pawk_syntax.proofs.Readings.{spells, same_expressions, read_again, expressions_again, same_parts, memory, no_fault}
 use Rattle.pawk_syntax.proofs.text.parse.Goals as goal
 
 pub returns-in-Ok-clause-found : goal.returns-in-Ok-clause-found
@@ -14,6 +15,7 @@ returns-in-Ok-clause-found c =
     spells c.args.text.now (values c.in_ok-list.list.tokens.items) c.in_ok-list.list.refusal (map part c.in-Ok.items.items) (patterns c.in_ok-expressions-in-Ok.expressions)
     c.in_ok-list.ensures.tokens c.in-Ok.ensures.found
     (subst (λ z. AreSpelled (eres (values z)) (patterns c.in_ok-expressions-in-Ok.expressions)) c.deref.ensures.value c.in_ok-expressions-in-Ok.ensures.found)
+    (subst (λ z. Fits (map part z)) c.deref-in-Ok.ensures.value c.in_ok-check-in-Ok.ensures.fit)
 
 pub returns-in-Ok-clause-canonical : goal.returns-in-Ok-clause-canonical
 returns-in-Ok-clause-canonical c other xs s cut =
@@ -39,10 +41,21 @@ invariant_of-result c =
     let found : Spells c.args.text.now (map part c.in-Ok.items.items) =
     spells c.args.text.now (values c.in_ok-list.list.tokens.items) c.in_ok-list.list.refusal (map part c.in-Ok.items.items) (patterns c.in_ok-expressions-in-Ok.expressions)
     c.in_ok-list.ensures.tokens c.in-Ok.ensures.found
-    (subst (λ z. AreSpelled (eres (values z)) (patterns c.in_ok-expressions-in-Ok.expressions)) c.deref.ensures.value c.in_ok-expressions-in-Ok.ensures.found) in
+    (subst (λ z. AreSpelled (eres (values z)) (patterns c.in_ok-expressions-in-Ok.expressions)) c.deref.ensures.value c.in_ok-expressions-in-Ok.ensures.found)
+    (subst (λ z. Fits (map part z)) c.deref-in-Ok.ensures.value c.in_ok-check-in-Ok.ensures.fit) in
     record {
       spelled = ∣ (c.args.text.now, found) ∣₁;
       expressed = ∣ subst (λ z. AreSpelled z (patterns c.in_ok-expressions-in-Ok.expressions))
           (same_expressions (values c.in_ok-list.list.tokens.items) c.in_ok-list.list.refusal (map part c.in-Ok.items.items) c.in-Ok.ensures.found)
           (subst (λ z. AreSpelled (eres (values z)) (patterns c.in_ok-expressions-in-Ok.expressions)) c.deref.ensures.value c.in_ok-expressions-in-Ok.ensures.found) ∣₁;
     }
+
+pub returns-in_err-check-in-Ok-clause-canonical : goal.returns-in_err-check-in-Ok-clause-canonical
+returns-in_err-check-in-Ok-clause-canonical c other xs s cut =
+    let why = c.in_err-check-in-Ok.field-0.0 in
+    let ts = values c.in_ok-list.list.tokens.items in
+    let same : map part c.in-Ok.items.items ≡ xs = same_parts ts c.in_ok-list.list.refusal (map part c.in-Ok.items.items) xs c.in-Ok.ensures.found
+    (read_again other xs ts c.in_ok-list.list.refusal s (c.in_ok-list.ensures.whole (canon_program xs) cut)) in
+    let fits : Fits (map part c.deref-in-Ok.result.now) = subst (λ z. Fits (map part z)) (sym c.deref-in-Ok.ensures.value) (subst Fits (sym same) s.fits) in
+    let no_memory = no_fault why (Fits (map part c.deref-in-Ok.result.now)) c.in_err-check-in-Ok.ensures.unfit fits in
+    search rules
