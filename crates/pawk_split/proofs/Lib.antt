@@ -1,0 +1,4 @@
+pub mod BetweenLemmas
+pub mod NewlineLemmas
+pub mod WalkLemmas
+pub mod FieldsOfLemmas

@@ -1,0 +1,28 @@
+use Rattle.std.proofs.Common.{rules, arith}
+use Rattle.pawk_split.proofs.WalkLemmas.{counts_none, counts_one}
+use Rattle.pawk_split.proofs.count.count_left.Goals as goal
+
+pub loop-count-init : goal.loop-count-init
+loop-count-init g c = record {
+  counts = counts_none c.args.fields;
+  few = omega arith;
+  pattern = search rules;
+  ready = λ p h. h;
+}
+
+pub overflow_add-count : goal.overflow_add-count
+overflow_add-count g c =
+    let nearer = rw c.in-Some.is at c.in_ok-next_range.ensures.nearer in
+    omega (arith, nearer, c.loop-count.invariant.few, c.requires.few)
+
+pub loop-count-preserved : goal.loop-count-preserved
+loop-count-preserved g c =
+    let i = c.loop-count.invariant in
+    let nearer = rw c.in-Some.is at c.in_ok-next_range.ensures.nearer in
+    let step = rw c.in-Some.is at c.in_ok-next_range.ensures.field in
+    record {
+      counts = counts_one c.args.fields c.loop-count.fields c.next_range.new.self c.loop-count.count (c.in-Some.field-0.start, c.in-Some.field-0.end) i.counts step;
+      few = omega (arith, nearer, i.few);
+      pattern = search rules;
+      ready = λ p h. c.in_ok-next_range.ensures.ready p (i.ready p h);
+    }

@@ -1,0 +1,3 @@
+pub mod Between
+pub mod FieldsOf
+pub mod Cut

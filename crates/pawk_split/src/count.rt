@@ -1,0 +1,39 @@
+//! Counting the fields between the matches of an expression.
+
+ghost use Rattle.std.specs.Prelude.{◌<◌, ◌^◌, ℕ, List, IfErr, IfOk};
+ghost use Rattle.pawk_split.specs.Between.{most_left};
+ghost use Rattle.pawk_split.specs.FieldsOf.{CountsBetween, CountsLeft, TellsNone};
+
+use crate::finder::Finder;
+use crate::walk::ExpressionFields;
+use pawk_value::Stop;
+
+/// How many fields are left of a walk.
+fn count_left<F: Finder>(finder: &mut F, mut fields: ExpressionFields<'_>) -> Result<usize, Stop>
+    requires ready { F.answers_for finder.old fields.pattern }
+    requires few { most_left fields.next fields.text < 2 ^ 64 }
+    ensures count { IfOk result (CountsLeft fields.entry) }
+    ensures fault { IfErr result (TellsNone fields.entry.pattern) }
+    ensures ready { (p : List ℕ) → F.answers_for finder.old p → F.answers_for finder.new p }
+{
+    let mut count = 0;
+    while let Some(_) = fields.next_range(finder)? {
+        count += 1;
+    }
+    Ok(count)
+}
+
+/// How many fields [`append_between`](crate::append_between) appends; with its faults.
+pub fn count_between<F: Finder>(
+    finder: &mut F,
+    pattern: &[u8],
+    paragraph: bool,
+    text: &[u8],
+) -> Result<usize, Stop>
+    requires ready { F.answers_for finder.old pattern.now }
+    ensures count { IfOk result (CountsBetween pattern.now paragraph text.now) }
+    ensures fault { IfErr result (TellsNone pattern.now) }
+    ensures ready { (p : List ℕ) → F.answers_for finder.old p → F.answers_for finder.new p }
+{
+    count_left(finder, ExpressionFields::new(pattern, paragraph, text))
+}

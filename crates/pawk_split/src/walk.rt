@@ -1,0 +1,114 @@
+//! Walks over the fields between the matches of an expression.
+
+ghost use Rattle.std.specs.Prelude.{◌≡◌, ◌<◌, ◌≤◌, ◌^◌, ℕ, [], ◌∷◌, List, length, IfErr, IfOk, IfSome};
+ghost use Rattle.std.specs.Prelude.{MatchOption};
+ghost use Rattle.std.specs.Option.{ForSome};
+ghost use Rattle.pawk_split.specs.Between.{AreFieldsBetween, AreLeft, IsNextMatch, most_left};
+ghost use Rattle.pawk_split.specs.Cut.{IsAhead};
+ghost use Rattle.pawk_split.specs.FieldsOf.{TellsNone};
+
+use crate::cut::{Ahead, cut_at};
+use crate::finder::{Finder, next_match};
+use pawk_value::Stop;
+use std::marker::Model;
+use std::ops::Range;
+
+/// The next match that is not empty, looked for where it is not known.
+fn match_ahead<F: Finder>(
+    finder: &mut F,
+    pattern: &[u8],
+    text: &[u8],
+    from: usize,
+    ahead: Ahead,
+) -> Result<Option<(usize, usize)>, Stop>
+    requires ready { F.answers_for finder.old pattern.now }
+    requires within { from ≤ length text.now }
+    requires ahead { IsAhead pattern.now text.now (Some from) ahead }
+    ensures found { IfOk result (IsNextMatch pattern.now text.now from) }
+    ensures fault { IfErr result (TellsNone pattern.now) }
+    ensures ready { (p : List ℕ) → F.answers_for finder.old p → F.answers_for finder.new p }
+{
+    match ahead {
+        Ahead::Known(found) => Ok(found),
+        Ahead::Unknown => next_match(finder, pattern, text, from),
+    }
+}
+
+/// The fields that are left of a record, between the matches of an expression.
+#[derive(Drop)]
+pub struct ExpressionFields<'a> {
+    pattern: &'a [u8],
+    paragraph: bool,
+    text: &'a [u8],
+    next: Option<usize>,
+    ahead: Ahead,
+}
+
+impl<'a> Model for ExpressionFields<'a> {
+    ghost use Rattle.std.specs.Prelude.{◌≤◌, length};
+    ghost use Rattle.std.specs.Option.{ForSome};
+    ghost use Rattle.pawk_split.specs.Between.{Rest};
+    ghost use Rattle.pawk_split.specs.Cut.{IsAhead};
+
+    ghost Value = { Rest };
+
+    ghost view = { λ w. record {
+      pattern = w.pattern.now;
+      paragraph = w.paragraph;
+      text = w.text.now;
+      next = w.next;
+    } };
+
+    ghost invariant = { λ w. ForSome w.next (λ p. p ≤ length w.text.now)
+        × IsAhead w.pattern.now w.text.now w.next w.ahead };
+}
+
+impl<'a> ExpressionFields<'a> {
+    /// The fields of a record between the matches of the expression that `pattern` spells and that
+    /// are not empty, and in paragraph mode between newlines too. An empty record has none.
+    #[inline]
+    pub fn new(pattern: &'a [u8], paragraph: bool, text: &'a [u8]) -> Self
+        ensures fields { (fields : List (ℕ × ℕ)) → AreLeft result fields
+            → AreFieldsBetween pattern.entry.now paragraph text.entry.now fields }
+        ensures pattern { result.pattern ≡ pattern.entry.now }
+        ensures text { result.text ≡ text.entry.now }
+        ensures few { most_left result.next result.text < 2 ^ 64 }
+    {
+        ExpressionFields {
+            pattern,
+            paragraph,
+            text,
+            next: if text.is_empty() { None } else { Some(0) },
+            ahead: Ahead::Unknown,
+        }
+    }
+
+    /// The range of the next field, in bytes counted from 0, or `None` behind the last one. The
+    /// finder answers for the expression. Takes no memory but what the finder takes.
+    ///
+    /// Fault `ere` where the pattern spells no expression. After an `Err` the walk is as before.
+    pub fn next_range<F: Finder>(&mut self, finder: &mut F) -> Result<Option<Range<usize>>, Stop>
+        requires ready { F.answers_for finder.old self.old.pattern }
+        ensures field { IfOk result (λ field. MatchOption field (AreLeft self.old [])
+            (λ f. (rest : List (ℕ × ℕ)) → AreLeft self.new rest
+            → AreLeft self.old ((f.start, f.end) ∷ rest))) }
+        ensures within { IfOk result (λ field. IfSome field
+            (λ f. (f.start ≤ f.end) × (f.end ≤ length self.old.text))) }
+        ensures nearer { IfOk result (λ field. IfSome field
+            (λ _. most_left self.new.next self.new.text < most_left self.old.next self.old.text)) }
+        ensures refused { IfErr result (λ _. self.new ≡ self.old) }
+        ensures fault { IfErr result (TellsNone self.old.pattern) }
+        ensures pattern { self.new.pattern ≡ self.old.pattern }
+        ensures text { self.new.text ≡ self.old.text }
+        ensures ready { (p : List ℕ) → F.answers_for finder.old p → F.answers_for finder.new p }
+    {
+        let Some(from) = self.next else {
+            return Ok(None);
+        };
+        let found = match_ahead(finder, self.pattern, self.text, from, self.ahead)?;
+        let cut = cut_at(self.text, self.paragraph, from, found);
+        self.next = cut.next;
+        self.ahead = cut.ahead;
+        Ok(Some(from..cut.end))
+    }
+}
