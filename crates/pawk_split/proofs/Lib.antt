@@ -2,3 +2,4 @@ pub mod BetweenLemmas
 pub mod NewlineLemmas
 pub mod WalkLemmas
 pub mod FieldsOfLemmas
+pub mod LawLemmas

@@ -1,3 +1,4 @@
 pub mod Between
 pub mod FieldsOf
 pub mod Cut
+pub mod Law
