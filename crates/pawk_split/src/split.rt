@@ -29,21 +29,21 @@ fn byte_separator(byte: u8, paragraph: bool) -> FieldSeparator
 /// Appends the ranges of a record's fields by an FS that is no expression, or of an empty record.
 fn append_plain(
     ranges: &mut Vec<Range<usize>>,
-    record: &[u8],
+    text: &[u8],
     fs: &[u8],
     paragraph: bool,
 ) -> Result<(), Stop>
-    requires plain { (length fs.now ≤ 1) ⊎ (record.now ≡ []) }
+    requires plain { (length fs.now ≤ 1) ⊎ (text.now ≡ []) }
     ensures added { OnOk result
-        (AddsFields fs.now paragraph record.now ranges.old.items ranges.new.items) }
+        (AddsFields fs.now paragraph text.now ranges.old.items ranges.new.items) }
     ensures refused { OnErr result (ranges.new.items ≡ ranges.old.items) }
-    ensures fault { IfErr result (λ stop. IfFault stop (IsFaultOf fs.now record.now)) }
+    ensures fault { IfErr result (λ stop. IfFault stop (IsFaultOf fs.now text.now)) }
 {
-    if record.is_empty() {
+    if text.is_empty() {
         return Ok(());
     }
     match fs {
-        [byte, ..] => Ok(append_ranges(ranges, byte_separator(*byte, paragraph), record)?),
+        [byte, ..] => Ok(append_ranges(ranges, byte_separator(*byte, paragraph), text)?),
         [] => Err(Stop::Fault(Fault::Fs)),
     }
 }
@@ -61,40 +61,40 @@ fn append_plain(
 pub fn append_fields<F: Finder>(
     finder: &mut F,
     ranges: &mut Vec<Range<usize>>,
-    record: &[u8],
+    text: &[u8],
     fs: &[u8],
     paragraph: bool,
 ) -> Result<(), Stop>
     requires ready { 2 ≤ length fs.now → F.answers_for finder.old fs.now }
     ensures added { OnOk result
-        (AddsFields fs.now paragraph record.now ranges.old.items ranges.new.items) }
+        (AddsFields fs.now paragraph text.now ranges.old.items ranges.new.items) }
     ensures refused { OnErr result (ranges.new.items ≡ ranges.old.items) }
-    ensures fault { IfErr result (λ stop. IfFault stop (IsFaultOf fs.now record.now)) }
+    ensures fault { IfErr result (λ stop. IfFault stop (IsFaultOf fs.now text.now)) }
     ensures ready { (p : List ℕ) → F.answers_for finder.old p → F.answers_for finder.new p }
 {
-    if fs.len() < 2 || record.is_empty() {
-        return append_plain(ranges, record, fs, paragraph);
+    if fs.len() < 2 || text.is_empty() {
+        return append_plain(ranges, text, fs, paragraph);
     }
-    append_between(finder, ranges, fs, paragraph, record)
+    append_between(finder, ranges, fs, paragraph, text)
 }
 
 /// Appends as [`append_fields`] does, with a matcher made for this call alone.
 fn append_alone(
     alloc: Global,
     ranges: &mut Vec<Range<usize>>,
-    record: &[u8],
+    text: &[u8],
     fs: &[u8],
     paragraph: bool,
 ) -> Result<(), Stop>
     ensures added { OnOk result
-        (AddsFields fs.now paragraph record.now ranges.old.items ranges.new.items) }
-    ensures fault { IfErr result (λ stop. IfFault stop (IsFaultOf fs.now record.now)) }
+        (AddsFields fs.now paragraph text.now ranges.old.items ranges.new.items) }
+    ensures fault { IfErr result (λ stop. IfFault stop (IsFaultOf fs.now text.now)) }
 {
-    if fs.len() < 2 || record.is_empty() {
-        return append_plain(ranges, record, fs, paragraph);
+    if fs.len() < 2 || text.is_empty() {
+        return append_plain(ranges, text, fs, paragraph);
     }
     let mut matcher = expression_matcher(alloc, fs)?;
-    append_between(&mut matcher, ranges, fs, paragraph, record)
+    append_between(&mut matcher, ranges, fs, paragraph, text)
 }
 
 /// The ranges of a record's fields by any FS, as [`append_fields`] appends them, with its faults.
@@ -102,16 +102,16 @@ fn append_alone(
 /// POSIX.1-2017, awk, "Variables and Special Variables" (`FS`, `RS`).
 pub fn split_fields(
     alloc: Global,
-    record: &[u8],
+    text: &[u8],
     fs: &[u8],
     paragraph: bool,
 ) -> Result<Vec<Range<usize>>, Stop>
     ensures fields { IfOk result
-        (λ ranges. AddsFields fs.now paragraph record.now [] ranges.items) }
-    ensures fault { IfErr result (λ stop. IfFault stop (IsFaultOf fs.now record.now)) }
+        (λ ranges. AddsFields fs.now paragraph text.now [] ranges.items) }
+    ensures fault { IfErr result (λ stop. IfFault stop (IsFaultOf fs.now text.now)) }
 {
     let mut ranges = Vec::new(alloc);
-    append_alone(alloc, &mut ranges, record, fs, paragraph)?;
+    append_alone(alloc, &mut ranges, text, fs, paragraph)?;
     Ok(ranges)
 }
 
@@ -120,16 +120,16 @@ pub fn split_fields(
 pub fn split_fields_with(
     alloc: Global,
     cache: &mut Cache,
-    record: &[u8],
+    text: &[u8],
     fs: &[u8],
     paragraph: bool,
 ) -> Result<Vec<Range<usize>>, Stop>
     ensures fields { IfOk result
-        (λ ranges. AddsFields fs.now paragraph record.now [] ranges.items) }
-    ensures fault { IfErr result (λ stop. IfFault stop (IsFaultOf fs.now record.now)) }
+        (λ ranges. AddsFields fs.now paragraph text.now [] ranges.items) }
+    ensures fault { IfErr result (λ stop. IfFault stop (IsFaultOf fs.now text.now)) }
 {
     let mut ranges = Vec::new(alloc);
-    append_fields(cache, &mut ranges, record, fs, paragraph)?;
+    append_fields(cache, &mut ranges, text, fs, paragraph)?;
     Ok(ranges)
 }
 
@@ -137,21 +137,21 @@ pub fn split_fields_with(
 /// faults. Takes no memory but what the finder takes.
 pub fn count_fields_by<F: Finder>(
     finder: &mut F,
-    record: &[u8],
+    text: &[u8],
     fs: &[u8],
     paragraph: bool,
 ) -> Result<usize, Stop>
     requires ready { 2 ≤ length fs.now → F.answers_for finder.old fs.now }
-    ensures count { IfOk result (CountsFields fs.now paragraph record.now) }
-    ensures fault { IfErr result (λ stop. IfFault stop (IsFaultOf fs.now record.now)) }
+    ensures count { IfOk result (CountsFields fs.now paragraph text.now) }
+    ensures fault { IfErr result (λ stop. IfFault stop (IsFaultOf fs.now text.now)) }
     ensures ready { (p : List ℕ) → F.answers_for finder.old p → F.answers_for finder.new p }
 {
-    if record.is_empty() {
+    if text.is_empty() {
         return Ok(0);
     }
     match fs {
         [] => Err(Stop::Fault(Fault::Fs)),
-        [byte] => Ok(count_split(byte_separator(*byte, paragraph), record)),
-        _ => count_between(finder, fs, paragraph, record),
+        [byte] => Ok(count_split(byte_separator(*byte, paragraph), text)),
+        _ => count_between(finder, fs, paragraph, text),
     }
 }
