@@ -123,29 +123,83 @@ module _ (pattern s : List ℕ) (from place : ℕ) (after : from ≤ place) (non
 
 -- ---- a field, and those behind its separator
 
+-- the next separator from a place on
+pub record IsSeparator (pattern : List ℕ) (paragraph : Bool) (s : List ℕ) (from i j : ℕ) : Type 0 where
+  pub expression : Pattern
+  pub spelled : SpellsEre pattern expression
+  pub leftmost : Leftmost (MaySeparate expression paragraph s) from i j
+
+-- from a place on there is none
+pub record SeparatesNone (pattern : List ℕ) (paragraph : Bool) (s : List ℕ) (from : ℕ) : Type 0 where
+  pub expression : Pattern
+  pub spelled : SpellsEre pattern expression
+  pub none : NoneFrom (MaySeparate expression paragraph s) from
+
+-- there is one leftmost and longest
+same_leftmost : (R : ℕ → ℕ → Type 0) (from i j k l : ℕ) → Leftmost R from i j → Leftmost R from k l → (k ≡ i) × (l ≡ j)
+same_leftmost R from i j k l a b =
+    let start : k ≡ i = ⊎_elim
+    (λ less. absurd (a.first k l b.after less b.matches))
+    (λ more. ⊎_elim (λ less. absurd (b.first i j a.after less a.matches)) (λ same. omega arith) (cases_lt i k))
+    (cases_lt k i) in
+    let long = b.longest j (subst (λ p. R p j) (sym start) a.matches) in
+    let far = a.longest l (subst (λ p. R p l) start b.matches) in
+    (start, omega arith)
+
+-- a list of fields begins with the one up to the next separator
+field_of : (R : ℕ → ℕ → Type 0) (s : List ℕ) (from i j : ℕ) → Leftmost R from i j → (fields : List (ℕ × ℕ)) → AreFields R s from fields → (rest : List (ℕ × ℕ)) × (fields ≡ (from, i) ∷ rest) × AreFields R s j rest
+field_of R s from i j l [] h = absurd h
+field_of R s from i j l (f ∷ fs) h = elim h.1 [
+  | inl last ↦ absurd (last.0 i l.after j l.matches)
+  | inr more ↦ (let same = same_leftmost R from i j f.1 more.0 l more.1 in
+      (fs, ap (λ p. (p, f.1) ∷ fs) h.0 ∙ ap (λ p. (from, p) ∷ fs) same.0, subst (λ p. AreFields R s p fs) same.1 more.2))
+]
+
+last_of : (R : ℕ → ℕ → Type 0) (s : List ℕ) (from : ℕ) → NoneFrom R from → (fields : List (ℕ × ℕ)) → AreFields R s from fields → fields ≡ (from, length s) ∷ []
+last_of R s from none [] h = absurd h
+last_of R s from none (f ∷ fs) h = elim h.1 [
+  | inl last ↦ ap (λ p. (p, f.1) ∷ fs) h.0 ∙ ap (λ p. (from, p) ∷ fs) last.1 ∙ ap (λ l. (from, length s) ∷ l) last.2
+  | inr more ↦ absurd (none f.1 more.1.after more.0 more.1.matches)
+]
+
 module _ (pattern s : List ℕ) (paragraph : Bool) (from : ℕ) where
-  -- up to a match
-  pub field_to_match : (i j : ℕ) → IsNextMatch pattern s from (Some (i, j)) → Nowhere (IsNewline paragraph s) from i
-      → (fields : List (ℕ × ℕ)) → AreBetween pattern paragraph s j fields → AreBetween pattern paragraph s from ((from, i) ∷ fields)
-  field_to_match i j n none fields b =
+  -- up to a separator
+  pub field_before : (i j : ℕ) → IsSeparator pattern paragraph s from i j → (fields : List (ℕ × ℕ)) → AreBetween pattern paragraph s j fields → AreBetween pattern paragraph s from ((from, i) ∷ fields)
+  field_before i j n fields b =
       let same : b.expression ≡ n.expression = spells_one pattern b.expression n.expression b.spelled n.spelled in
       record {
         expression = n.expression;
         spelled = n.spelled;
-        in_order = (
-          refl,
-          inr (
-            j,
-            record {
-              matches = inl n.is_next.matches;
-              after = n.is_next.after;
-              first = λ k l low high m. ⊎_elim (λ x. n.is_next.first k l low high x) (λ x. none k low high x.0) m;
-              longest = λ l m. ⊎_elim (λ x. n.is_next.longest l x) (λ x. omega (arith, x.1, n.is_next.matches.0)) m;
-            },
-            subst (λ (e : Pattern). AreFields (MaySeparate e paragraph s) s j fields) same b.in_order,
-          ),
-        );
+        in_order = (refl, inr (j, n.leftmost, subst (λ (e : Pattern). AreFields (MaySeparate e paragraph s) s j fields) same b.in_order));
       }
+
+  pub only_before : (i j : ℕ) → IsSeparator pattern paragraph s from i j → (fields : List (ℕ × ℕ)) → AreBetween pattern paragraph s from fields → (rest : List (ℕ × ℕ)) × (fields ≡ (from, i) ∷ rest) × AreBetween pattern paragraph s j rest
+  only_before i j n fields b =
+      let same : b.expression ≡ n.expression = spells_one pattern b.expression n.expression b.spelled n.spelled in
+      let parts = field_of (MaySeparate n.expression paragraph s) s from i j n.leftmost fields (subst (λ (e : Pattern). AreFields (MaySeparate e paragraph s) s from fields) same b.in_order) in
+      (parts.0, parts.1, record { expression = n.expression; spelled = n.spelled; in_order = parts.2 })
+
+  -- up to the end
+  pub field_last : SeparatesNone pattern paragraph s from → AreBetween pattern paragraph s from ((from, length s) ∷ [])
+  field_last n = record { expression = n.expression; spelled = n.spelled; in_order = (refl, inl (n.none, refl, refl)) }
+
+  pub only_last : SeparatesNone pattern paragraph s from → (fields : List (ℕ × ℕ)) → AreBetween pattern paragraph s from fields → fields ≡ (from, length s) ∷ []
+  only_last n fields b =
+      let same : b.expression ≡ n.expression = spells_one pattern b.expression n.expression b.spelled n.spelled in
+      last_of (MaySeparate n.expression paragraph s) s from n.none fields (subst (λ (e : Pattern). AreFields (MaySeparate e paragraph s) s from fields) same b.in_order)
+
+  -- a match before which no newline separates
+  pub match_separates : (i j : ℕ) → IsNextMatch pattern s from (Some (i, j)) → Nowhere (IsNewline paragraph s) from i → IsSeparator pattern paragraph s from i j
+  match_separates i j n none = record {
+    expression = n.expression;
+    spelled = n.spelled;
+    leftmost = record {
+      matches = inl n.is_next.matches;
+      after = n.is_next.after;
+      first = λ k l low high m. ⊎_elim (λ x. n.is_next.first k l low high x) (λ x. none k low high x.0) m;
+      longest = λ l m. ⊎_elim (λ x. n.is_next.longest l x) (λ x. omega (arith, x.1, n.is_next.matches.0)) m;
+    };
+  }
 
   -- before the place where the next match begins, or the end, there is none
   abbrev Stops : Option (ℕ × ℕ) → ℕ → Type 0
@@ -155,28 +209,18 @@ module _ (pattern s : List ℕ) (paragraph : Bool) (from : ℕ) where
   none_before None stop n is k l low high m = n.is_next k low l m
   none_before (Some x) stop n is k l low high m = n.is_next.first k l low (omega (arith, is, high)) m
 
-  -- up to a newline before it
-  pub field_to_newline : (found : Option (ℕ × ℕ)) (stop i : ℕ) → IsNextMatch pattern s from found → Stops found stop → NoneBefore (IsNewline paragraph s) from stop i → IsNewline paragraph s i
-      → (fields : List (ℕ × ℕ)) → AreBetween pattern paragraph s (i + 1) fields → AreBetween pattern paragraph s from ((from, i) ∷ fields)
-  field_to_newline found stop i n is first newline fields b =
-      let same : b.expression ≡ n.expression = spells_one pattern b.expression n.expression b.spelled n.spelled in
-      record {
-        expression = n.expression;
-        spelled = n.spelled;
-        in_order = (
-          refl,
-          inr (
-            i + 1,
-            record {
-              matches = inr (newline, refl);
-              after = first.low;
-              first = λ k l low high m. ⊎_elim (λ x. none_before found stop n is k l low (omega (arith, first.high)) x) (λ x. first.before k low high x.0) m;
-              longest = λ l m. ⊎_elim (λ x. absurd (none_before found stop n is i l first.low first.high x)) (λ x. omega (arith, x.1)) m;
-            },
-            subst (λ (e : Pattern). AreFields (MaySeparate e paragraph s) s (i + 1) fields) same b.in_order,
-          ),
-        );
-      }
+  -- a newline before it
+  pub newline_separates : (found : Option (ℕ × ℕ)) (stop i : ℕ) → IsNextMatch pattern s from found → Stops found stop → NoneBefore (IsNewline paragraph s) from stop i → IsNewline paragraph s i → IsSeparator pattern paragraph s from i (i + 1)
+  newline_separates found stop i n is first newline = record {
+    expression = n.expression;
+    spelled = n.spelled;
+    leftmost = record {
+      matches = inr (newline, refl);
+      after = first.low;
+      first = λ k l low high m. ⊎_elim (λ x. none_before found stop n is k l low (omega (arith, first.high)) x) (λ x. first.before k low high x.0) m;
+      longest = λ l m. ⊎_elim (λ x. absurd (none_before found stop n is i l first.low first.high x)) (λ x. omega (arith, x.1)) m;
+    };
+  }
 
   -- the next match is the same behind it
   pub next_behind : (found : Option (ℕ × ℕ)) (stop i : ℕ) → IsNextMatch pattern s from found → Stops found stop → from ≤ i → i < stop → IsNextMatch pattern s (i + 1) found
@@ -201,10 +245,10 @@ module _ (pattern s : List ℕ) (paragraph : Bool) (from : ℕ) where
   within_next None n = tt
   within_next (Some x) n = (n.is_next.after, n.is_next.matches.0, some_inside n.expression s x.0 x.1 n.is_next.matches)
 
-  -- up to the end
-  pub field_to_end : IsNextMatch pattern s from None → Nowhere (IsNewline paragraph s) from (length s) → AreBetween pattern paragraph s from ((from, length s) ∷ [])
-  field_to_end n none = record {
+  -- neither up to the end
+  pub end_separates : IsNextMatch pattern s from None → Nowhere (IsNewline paragraph s) from (length s) → SeparatesNone pattern paragraph s from
+  end_separates n none = record {
     expression = n.expression;
     spelled = n.spelled;
-    in_order = (refl, inl (λ k low l m. ⊎_elim (λ x. n.is_next k low l x) (λ x. none k low (x.0).1 x.0) m, refl, refl));
+    none = λ k low l m. ⊎_elim (λ x. n.is_next k low l x) (λ x. none k low (x.0).1 x.0) m;
   }

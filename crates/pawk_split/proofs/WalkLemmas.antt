@@ -3,63 +3,63 @@ use Rattle.std.proofs.Common.{◌≡◌, ℕ, ◌+◌, List, [], ◌∷◌, ◌+
 use Rattle.std.proofs.lemmas.List.{append-nil, map-append}
 use Rattle.std.specs.declared.ops.Range.{Range}
 use Rattle.pawk_fields.specs.FieldSeparator.{range_of}
-use Rattle.pawk_split.specs.Between.{AreLeft, Rest}
+use Rattle.pawk_split.specs.Between.{AreLeft, HandsOut, Rest}
 use Rattle.pawk_split.specs.FieldsOf.{AddsLeft, CountsLeft}
 
 -- these fields were handed out
-pub record HandsOut (first now : Rest) : Type 0 where
+pub record Passes (first now : Rest) : Type 0 where
   pub fields : List (ℕ × ℕ)
   pub left : (rest : List (ℕ × ℕ)) → AreLeft now rest → AreLeft first (fields ++ rest)
 
-pub hands_none : (first : Rest) → HandsOut first first
-hands_none first = record { fields = []; left = λ rest h. h }
+pub passes_none : (first : Rest) → Passes first first
+passes_none first = record { fields = []; left = λ rest h. h }
 
-pub hands_one : (first now later : Rest) (f : ℕ × ℕ) → HandsOut first now → ((rest : List (ℕ × ℕ)) → AreLeft later rest → AreLeft now (f ∷ rest)) → HandsOut first later
-hands_one first now later f h step = record {
+pub passes_one : (first now later : Rest) (f : ℕ × ℕ) → Passes first now → HandsOut now later f → Passes first later
+passes_one first now later f h step = record {
   fields = h.fields ++ f ∷ [];
-  left = λ rest l. subst (AreLeft first) (sym (append_assoc h.fields (f ∷ []) rest)) (h.left (f ∷ rest) (step rest l));
+  left = λ rest l. subst (AreLeft first) (sym (append_assoc h.fields (f ∷ []) rest)) (h.left (f ∷ rest) (step.onto rest l));
 }
 
-pub hands_all : (first now : Rest) (h : HandsOut first now) → AreLeft now [] → AreLeft first h.fields
-hands_all first now h l = subst (AreLeft first) (append-nil h.fields) (h.left [] l)
+pub passes_all : (first now : Rest) (h : Passes first now) → AreLeft now [] → AreLeft first h.fields
+passes_all first now h l = subst (AreLeft first) (append-nil h.fields) (h.left [] l)
 
 -- ---- their ranges were added to a list
 
 pub record Adds (first now : Rest) (old new : List (Range ℕ)) : Type 0 where
-  pub out : HandsOut first now
+  pub out : Passes first now
   pub added : new ≡ old ++ map range_of out.fields
 
 pub adds_none : (first : Rest) (old : List (Range ℕ)) → Adds first first old old
-unfolding hands_none
-adds_none first old = record { out = hands_none first; added = sym (append-nil old) }
+unfolding passes_none
+adds_none first old = record { out = passes_none first; added = sym (append-nil old) }
 
-pub adds_one : (first now later : Rest) (old new longer : List (Range ℕ)) (f : Range ℕ) → Adds first now old new → ((rest : List (ℕ × ℕ)) → AreLeft later rest → AreLeft now ((f.start, f.end) ∷ rest)) → longer ≡ new ++ f ∷ [] → Adds first later old longer
-unfolding hands_one
+pub adds_one : (first now later : Rest) (old new longer : List (Range ℕ)) (f : Range ℕ) → Adds first now old new → HandsOut now later (f.start, f.end) → longer ≡ new ++ f ∷ [] → Adds first later old longer
+unfolding passes_one
 adds_one first now later old new longer f a step more = record {
-  out = hands_one first now later (f.start, f.end) a.out step;
+  out = passes_one first now later (f.start, f.end) a.out step;
   added = more ∙ ap (λ l. l ++ f ∷ []) a.added ∙ append_assoc old (map range_of a.out.fields) (f ∷ [])
       ∙ ap (λ l. old ++ l) (sym (map-append range_of a.out.fields ((f.start, f.end) ∷ [])));
 }
 
 pub adds_all : (first now : Rest) (old new : List (Range ℕ)) → Adds first now old new → AreLeft now [] → AddsLeft first old new
-adds_all first now old new a l = record { fields = a.out.fields; left = hands_all first now a.out l; added = a.added }
+adds_all first now old new a l = record { fields = a.out.fields; left = passes_all first now a.out l; added = a.added }
 
 -- ---- they were counted
 
 pub record Counts (first now : Rest) (count : ℕ) : Type 0 where
-  pub out : HandsOut first now
+  pub out : Passes first now
   pub counted : count ≡ length out.fields
 
 pub counts_none : (first : Rest) → Counts first first 0
-unfolding hands_none
-counts_none first = record { out = hands_none first; counted = refl }
+unfolding passes_none
+counts_none first = record { out = passes_none first; counted = refl }
 
-pub counts_one : (first now later : Rest) (count : ℕ) (f : ℕ × ℕ) → Counts first now count → ((rest : List (ℕ × ℕ)) → AreLeft later rest → AreLeft now (f ∷ rest)) → Counts first later (count + 1)
-unfolding hands_one
+pub counts_one : (first now later : Rest) (count : ℕ) (f : ℕ × ℕ) → Counts first now count → HandsOut now later f → Counts first later (count + 1)
+unfolding passes_one
 counts_one first now later count f a step = record {
-  out = hands_one first now later f a.out step;
+  out = passes_one first now later f a.out step;
   counted = ap (λ n. n + 1) a.counted ∙ sym (length-append a.out.fields (f ∷ []));
 }
 
 pub counts_all : (first now : Rest) (count : ℕ) → Counts first now count → AreLeft now [] → CountsLeft first count
-counts_all first now count a l = record { fields = a.out.fields; left = hands_all first now a.out l; counted = a.counted }
+counts_all first now count a l = record { fields = a.out.fields; left = passes_all first now a.out l; counted = a.counted }

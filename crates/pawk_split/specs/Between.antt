@@ -61,6 +61,11 @@ pub record Rest : Type 0 where
 abbrev pub AreLeft : Rest → List (ℕ × ℕ) → Type 0
 AreLeft r fields = AreFrom r.pattern r.paragraph r.text r.next fields
 
+-- of the fields that were left of a walk this one is the first, and the others are left
+pub record HandsOut (old new : Rest) (f : ℕ × ℕ) : Type 0 where
+  pub onto : (rest : List (ℕ × ℕ)) → AreLeft new rest → AreLeft old (f ∷ rest)
+  pub only : (fields : List (ℕ × ℕ)) → AreLeft old fields → (rest : List (ℕ × ℕ)) × (fields ≡ f ∷ rest) × AreLeft new rest
+
 -- how many fields are left at most
 abbrev pub most_left : Option ℕ → List ℕ → ℕ
 most_left None s = 0

@@ -1,5 +1,5 @@
 -- What is known behind a field.
-use Rattle.std.specs.Prelude.{ℕ, ◌+◌, ◌<◌, ◌≤◌, Bool, List, ◌∷◌, Option, None, Some, length, IfSome}
+use Rattle.std.specs.Prelude.{◌≡◌, ℕ, ◌+◌, ◌<◌, ◌≤◌, Bool, List, ◌∷◌, Option, None, Some, length, IfSome}
 use Rattle.pawk_split.specs.Between.{AreBetween, AreFrom, IsNextMatch}
 use Rattle.pawk_split.specs.declared.cut.Ahead.{Ahead}
 use Rattle.pawk_split.specs.declared.cut.Ahead.TheVariants.{Unknown, Known}
@@ -18,4 +18,5 @@ IsWithin s from found = IfSome found (λ m. (from ≤ m.0) × (m.0 < m.1) × (m.
 -- the field from a place on ends there, and so much is known of what follows it
 pub record IsCut (pattern : List ℕ) (paragraph : Bool) (s : List ℕ) (from : ℕ) (cut : Cut) : Type 0 where
   pub field : (fields : List (ℕ × ℕ)) → AreFrom pattern paragraph s cut.next fields → AreBetween pattern paragraph s from ((from, cut.end) ∷ fields)
+  pub only : (fields : List (ℕ × ℕ)) → AreBetween pattern paragraph s from fields → (rest : List (ℕ × ℕ)) × (fields ≡ (from, cut.end) ∷ rest) × AreFrom pattern paragraph s cut.next rest
   pub known : IsAhead pattern s cut.next cut.ahead

@@ -3,7 +3,7 @@
 ghost use Rattle.std.specs.Prelude.{◌≡◌, ◌<◌, ◌≤◌, ◌^◌, ℕ, [], ◌∷◌, List, length, IfErr, IfOk, IfSome};
 ghost use Rattle.std.specs.Prelude.{MatchOption};
 ghost use Rattle.std.specs.Option.{ForSome};
-ghost use Rattle.pawk_split.specs.Between.{AreFieldsBetween, AreLeft, IsNextMatch, most_left};
+ghost use Rattle.pawk_split.specs.Between.{AreFieldsBetween, AreLeft, HandsOut, IsNextMatch, most_left};
 ghost use Rattle.pawk_split.specs.Cut.{IsAhead};
 ghost use Rattle.pawk_split.specs.FieldsOf.{TellsNone};
 
@@ -90,8 +90,7 @@ impl<'a> ExpressionFields<'a> {
     pub fn next_range<F: Finder>(&mut self, finder: &mut F) -> Result<Option<Range<usize>>, Stop>
         requires ready { F.answers_for finder.old self.old.pattern }
         ensures field { IfOk result (λ field. MatchOption field (AreLeft self.old [])
-            (λ f. (rest : List (ℕ × ℕ)) → AreLeft self.new rest
-            → AreLeft self.old ((f.start, f.end) ∷ rest))) }
+            (λ f. HandsOut self.old self.new (f.start, f.end))) }
         ensures within { IfOk result (λ field. IfSome field
             (λ f. (f.start ≤ f.end) × (f.end ≤ length self.old.text))) }
         ensures nearer { IfOk result (λ field. IfSome field
