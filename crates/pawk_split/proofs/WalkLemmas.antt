@@ -1,9 +1,9 @@
 -- What a walk has handed out, and what is left.
-use Rattle.std.proofs.Common.{◌≡◌, ℕ, ◌+◌, List, [], ◌∷◌, ◌++◌, length, map, refl, ap, sym, ◌∙◌, subst, append_assoc, length-append}
+use Rattle.std.proofs.Common.{◌≡◌, ℕ, ◌+◌, List, [], ◌∷◌, ◌++◌, length, map, refl, ap, sym, ◌∙◌, subst, append_assoc, length-append, ◌<◌, Option, None, Some, IsNone, IsSome, arith, rules}
 use Rattle.std.proofs.lemmas.List.{append-nil, map-append}
 use Rattle.std.specs.declared.ops.Range.{Range}
 use Rattle.pawk_fields.specs.FieldSeparator.{range_of}
-use Rattle.pawk_split.specs.Between.{AreLeft, HandsOut, Rest}
+use Rattle.pawk_split.specs.Between.{AreLeft, HandsOut, NeedsFinder, Rest, most_left}
 use Rattle.pawk_split.specs.FieldsOf.{AddsLeft, CountsLeft}
 
 -- these fields were handed out
@@ -22,6 +22,15 @@ passes_one first now later f h step = record {
 
 pub passes_all : (first now : Rest) (h : Passes first now) → AreLeft now [] → AreLeft first h.fields
 passes_all first now h l = subst (AreLeft first) (append-nil h.fields) (h.left [] l)
+
+-- what is near the end has a place to go on from
+goes_on : (next : Option ℕ) (s : List ℕ) (n : ℕ) → n < most_left next s → IsSome next
+goes_on None s n lt = absurd (omega arith)
+goes_on (Some p) s n lt = search rules
+
+-- a walk that needs a finder needed one before it handed out a field
+pub needed_before : (old new : Rest) → new ≡ record old { next = new.next } → most_left new.next new.text < most_left old.next old.text → NeedsFinder new → NeedsFinder old
+needed_before old new same nearer needs = (subst IsNone (ap (λ (r : Rest). r.plain) same) needs.0, goes_on old.next old.text (most_left new.next new.text) nearer)
 
 -- ---- their ranges were added to a list
 

@@ -1,8 +1,10 @@
 -- The fields of a record between the matches of an expression, as ranges of it, each a begin and an end counted from 0.
 -- POSIX.1-2017, awk, "Variables and Special Variables" (FS, RS) and "Regular Expressions".
-use Rattle.std.specs.Prelude.{◌≡◌, ◌⊎◌, ℕ, ◌+◌, ◌-◌, ◌<◌, ◌≤◌, ◌++◌, Bool, true, List, [], ◌∷◌, Option, None, Some, MatchOption, length, slice_index}
+use Rattle.std.specs.Prelude.{◌≡◌, ◌⊎◌, ℕ, ◌+◌, ◌-◌, ◌<◌, ◌≤◌, ◌++◌, Bool, true, List, [], ◌∷◌, Option, None, Some, MatchOption, IsNone, IsSome, length, slice_index}
 use Rattle.pawk_pattern.specs.Pattern.{Pattern, Matches, Leftmost, NoneFrom}
 use Rattle.pawk_pattern.specs.Tokens.{SpellsEre}
+use Rattle.pawk_fields.specs.FieldSeparator.{ranges_from}
+use Rattle.pawk_fields.specs.declared.separator.FieldSeparator.{FieldSeparator}
 
 -- a match from i to j that is not empty
 abbrev pub MatchesSome : Pattern → List ℕ → ℕ → ℕ → Type 0
@@ -50,16 +52,22 @@ abbrev pub AreFrom : List ℕ → Bool → List ℕ → Option ℕ → List (ℕ
 AreFrom pattern paragraph s None fields = fields ≡ []
 AreFrom pattern paragraph s (Some from) fields = AreBetween pattern paragraph s from fields
 
--- where a walk over the fields stands: the expression's text, the record, the begin of the next field
+-- where a walk over the fields stands: what separates, if it is no expression, else the expression's text; the record; the
+-- place from which on the next field is looked for
 pub record Rest : Type 0 where
+  pub plain : Option FieldSeparator
   pub pattern : List ℕ
   pub paragraph : Bool
   pub text : List ℕ
   pub next : Option ℕ
 
--- these are the fields that a walk has left
+-- these are the fields that are left of a walk
 abbrev pub AreLeft : Rest → List (ℕ × ℕ) → Type 0
-AreLeft r fields = AreFrom r.pattern r.paragraph r.text r.next fields
+AreLeft r fields = MatchOption r.plain (AreFrom r.pattern r.paragraph r.text r.next fields) (λ separator. fields ≡ ranges_from separator r.text r.next)
+
+-- a walk goes on between the matches of an expression
+abbrev pub NeedsFinder : Rest → Type 0
+NeedsFinder r = IsNone r.plain × IsSome r.next
 
 -- of the fields that were left of a walk this one is the first, and the others are left
 pub record HandsOut (old new : Rest) (f : ℕ × ℕ) : Type 0 where

@@ -1,10 +1,11 @@
 //! Lists of the ranges of fields between the matches of an expression.
 
 ghost use Rattle.std.specs.Prelude.{◌≡◌, ◌≤◌, ℕ, List, take, vec_len, IfErr, OnErr, OnOk};
+ghost use Rattle.pawk_split.specs.Between.{NeedsFinder};
 ghost use Rattle.pawk_split.specs.FieldsOf.{AddsBetween, AddsLeft, TellsNone};
 
 use crate::finder::Finder;
-use crate::walk::ExpressionFields;
+use crate::walk::FieldWalk;
 use pawk_value::Stop;
 use std::ops::Range;
 
@@ -13,9 +14,9 @@ use std::ops::Range;
 fn push_ranges<F: Finder>(
     finder: &mut F,
     ranges: &mut Vec<Range<usize>>,
-    mut fields: ExpressionFields<'_>,
+    mut fields: FieldWalk<'_>,
 ) -> Result<(), Stop>
-    requires ready { F.answers_for finder.old fields.pattern }
+    requires ready { NeedsFinder fields → F.answers_for finder.old fields.pattern }
     ensures added { OnOk result (AddsLeft fields.entry ranges.old.items ranges.new.items) }
     ensures front { take (vec_len ranges.old) ranges.new.items ≡ ranges.old.items }
     ensures long { vec_len ranges.old ≤ vec_len ranges.new }
@@ -50,7 +51,7 @@ pub fn append_between<F: Finder>(
     ensures ready { (p : List ℕ) → F.answers_for finder.old p → F.answers_for finder.new p }
 {
     let length = ranges.len();
-    let fields = ExpressionFields::new(pattern, paragraph, text);
+    let fields = FieldWalk::between(pattern, paragraph, text);
     let told = push_ranges(finder, ranges, fields);
     if told.is_err() {
         ranges.truncate(length);

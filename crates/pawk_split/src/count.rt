@@ -1,16 +1,16 @@
 //! Counting the fields between the matches of an expression.
 
 ghost use Rattle.std.specs.Prelude.{◌<◌, ◌^◌, ℕ, List, IfErr, IfOk};
-ghost use Rattle.pawk_split.specs.Between.{most_left};
+ghost use Rattle.pawk_split.specs.Between.{NeedsFinder, most_left};
 ghost use Rattle.pawk_split.specs.FieldsOf.{CountsBetween, CountsLeft, TellsNone};
 
 use crate::finder::Finder;
-use crate::walk::ExpressionFields;
+use crate::walk::FieldWalk;
 use pawk_value::Stop;
 
 /// How many fields are left of a walk.
-fn count_left<F: Finder>(finder: &mut F, mut fields: ExpressionFields<'_>) -> Result<usize, Stop>
-    requires ready { F.answers_for finder.old fields.pattern }
+fn count_left<F: Finder>(finder: &mut F, mut fields: FieldWalk<'_>) -> Result<usize, Stop>
+    requires ready { NeedsFinder fields → F.answers_for finder.old fields.pattern }
     requires few { most_left fields.next fields.text < 2 ^ 64 }
     ensures count { IfOk result (CountsLeft fields.entry) }
     ensures fault { IfErr result (TellsNone fields.entry.pattern) }
@@ -35,5 +35,5 @@ pub fn count_between<F: Finder>(
     ensures fault { IfErr result (TellsNone pattern.now) }
     ensures ready { (p : List ℕ) → F.answers_for finder.old p → F.answers_for finder.new p }
 {
-    count_left(finder, ExpressionFields::new(pattern, paragraph, text))
+    count_left(finder, FieldWalk::between(pattern, paragraph, text))
 }

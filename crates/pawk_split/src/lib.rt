@@ -14,4 +14,4 @@ pub use count::count_between;
 pub use finder::{Finder, expression_matcher};
 pub use laws::split_law;
 pub use split::{append_fields, count_fields_by, split_fields, split_fields_with};
-pub use walk::ExpressionFields;
+pub use walk::FieldWalk;

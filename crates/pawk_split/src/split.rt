@@ -1,30 +1,17 @@
 //! The fields of a record by any FS.
 
 ghost use Rattle.std.specs.Prelude.{◌≡◌, ◌⊎◌, ◌≤◌, [], ℕ, List, length, IfErr, IfOk, OnErr, OnOk};
-ghost use Rattle.pawk_split.specs.FieldsOf.{AddsFields, CountsFields, IfFault, IsFaultOf, separator_of};
+ghost use Rattle.pawk_split.specs.FieldsOf.{AddsFields, CountsFields, IfFault, IsFaultOf};
 
 use crate::append::append_between;
 use crate::count::count_between;
 use crate::finder::{Finder, expression_matcher};
+use crate::walk::byte_separator;
 use pawk_ere::Cache;
-use pawk_fields::{FieldSeparator, append_ranges, count_split};
+use pawk_fields::{append_ranges, count_split};
 use pawk_value::{Fault, Stop};
 use std::alloc::Global;
 use std::ops::Range;
-
-/// What an FS of one byte separates by.
-#[inline]
-fn byte_separator(byte: u8, paragraph: bool) -> FieldSeparator
-    ensures { result ≡ separator_of byte paragraph }
-{
-    if byte == b' ' {
-        FieldSeparator::Blanks
-    } else if paragraph {
-        FieldSeparator::ByteOrNewline(byte)
-    } else {
-        FieldSeparator::Byte(byte)
-    }
-}
 
 /// Appends the ranges of a record's fields by an FS that is no expression, or of an empty record.
 fn append_plain(

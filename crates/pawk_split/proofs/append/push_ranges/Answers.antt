@@ -1,6 +1,6 @@
-use Rattle.std.proofs.Common.{rules, arith}
+use Rattle.std.proofs.Common.{rules, arith, subst, sym}
 use Rattle.std.proofs.lemmas.Grind.{common_steps}
-use Rattle.pawk_split.proofs.WalkLemmas.{adds_none, adds_one}
+use Rattle.pawk_split.proofs.WalkLemmas.{adds_none, adds_one, needed_before}
 use Rattle.pawk_split.proofs.append.push_ranges.Goals as goal
 
 pub loop-field-init : goal.loop-field-init
@@ -8,6 +8,7 @@ loop-field-init g c = record {
   adds = adds_none c.args.fields c.args.ranges.now.items;
   front = grind (arith, common_steps);
   long = search rules;
+  needs = λ h. h;
   pattern = search rules;
   ready = λ p h. h;
 }
@@ -15,11 +16,18 @@ loop-field-init g c = record {
 pub loop-field-preserved : goal.loop-field-preserved
 loop-field-preserved g c =
     let i = c.loop-field.invariant in
+    let nearer = rw c.in-Some.is at c.in_ok-field.ensures.nearer in
     let step = rw c.in-Some.is at c.in_ok-field.ensures.field in
     record {
       adds = adds_one c.args.fields c.loop-field.fields c.next_range.new.self c.args.ranges.now.items c.loop-field.ranges.items c.push.new.self.items c.in-Some.field i.adds step c.in_ok-push.ensures.items;
       front = grind (arith, common_steps, i.front, i.long, c.in_ok-push.ensures.items);
       long = omega (arith, i.long, c.in_ok-push.ensures.len);
+      needs = λ h. i.needs (needed_before c.loop-field.fields c.next_range.new.self c.in_ok-field.ensures.same nearer h);
       pattern = search rules;
       ready = λ p h. c.in_ok-field.ensures.ready p (i.ready p h);
     }
+
+pub next_range-requires : goal.next_range-requires
+next_range-requires g c =
+    let i = c.loop-field.invariant in
+    record { ready = λ needs. subst (g.F.Finder.answers_for c.loop-field.finder) (sym i.pattern) (i.ready c.args.fields.pattern (c.requires.ready (i.needs needs))) }

@@ -1,5 +1,5 @@
 use Rattle.std.proofs.Common.{◌≡◌, ◌≤◌, ℕ, List, take, vec_len}
-use Rattle.pawk_split.specs.Between.{most_left}
+use Rattle.pawk_split.specs.Between.{NeedsFinder, most_left}
 use Rattle.pawk_split.proofs.WalkLemmas.{Adds}
 use Rattle.pawk_split.proofs.append.push_ranges.Given as goal
 
@@ -8,6 +8,7 @@ invariant-loop-field g l = record {
   adds : Adds l.initial.fields l.fields l.initial.ranges.items l.ranges.items;
   front : take (vec_len l.initial.ranges) l.ranges.items ≡ l.initial.ranges.items;
   long : vec_len l.initial.ranges ≤ vec_len l.ranges;
+  needs : NeedsFinder l.fields → NeedsFinder l.initial.fields;
   pattern : l.fields.pattern ≡ l.initial.fields.pattern;
   ready : (p : List ℕ) → g.F.Finder.answers_for l.initial.finder p → g.F.Finder.answers_for l.finder p;
 }

@@ -1,11 +1,12 @@
-use Rattle.std.proofs.Common.{rules, arith}
-use Rattle.pawk_split.proofs.WalkLemmas.{counts_none, counts_one}
+use Rattle.std.proofs.Common.{rules, arith, subst, sym}
+use Rattle.pawk_split.proofs.WalkLemmas.{counts_none, counts_one, needed_before}
 use Rattle.pawk_split.proofs.count.count_left.Goals as goal
 
 pub loop-count-init : goal.loop-count-init
 loop-count-init g c = record {
   counts = counts_none c.args.fields;
   few = omega arith;
+  needs = λ h. h;
   pattern = search rules;
   ready = λ p h. h;
 }
@@ -23,6 +24,12 @@ loop-count-preserved g c =
     record {
       counts = counts_one c.args.fields c.loop-count.fields c.next_range.new.self c.loop-count.count (c.in-Some.field-0.start, c.in-Some.field-0.end) i.counts step;
       few = omega (arith, nearer, i.few);
+      needs = λ h. i.needs (needed_before c.loop-count.fields c.next_range.new.self c.in_ok-next_range.ensures.same nearer h);
       pattern = search rules;
       ready = λ p h. c.in_ok-next_range.ensures.ready p (i.ready p h);
     }
+
+pub next_range-requires : goal.next_range-requires
+next_range-requires g c =
+    let i = c.loop-count.invariant in
+    record { ready = λ needs. subst (g.F.Finder.answers_for c.loop-count.finder) (sym i.pattern) (i.ready c.args.fields.pattern (c.requires.ready (i.needs needs))) }

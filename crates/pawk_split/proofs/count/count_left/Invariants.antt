@@ -1,5 +1,5 @@
 use Rattle.std.proofs.Common.{◌≡◌, ◌+◌, ◌≤◌, ℕ, List, length}
-use Rattle.pawk_split.specs.Between.{most_left}
+use Rattle.pawk_split.specs.Between.{NeedsFinder, most_left}
 use Rattle.pawk_split.proofs.WalkLemmas.{Counts}
 use Rattle.pawk_split.proofs.count.count_left.Given as goal
 
@@ -7,6 +7,7 @@ abbrev pub invariant-loop-count : goal.invariant-loop-count
 invariant-loop-count g l = record {
   counts : Counts l.initial.fields l.fields l.count;
   few : l.count + most_left l.fields.next l.fields.text ≤ most_left l.initial.fields.next l.initial.fields.text;
+  needs : NeedsFinder l.fields → NeedsFinder l.initial.fields;
   pattern : l.fields.pattern ≡ l.initial.fields.pattern;
   ready : (p : List ℕ) → g.F.Finder.answers_for l.initial.finder p → g.F.Finder.answers_for l.finder p;
 }
