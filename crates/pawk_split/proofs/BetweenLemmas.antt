@@ -1,8 +1,8 @@
 -- How the next separator is found.
-use Rattle.std.proofs.Common.{◌≡◌, ℕ, ◌+◌, ◌-◌, ◌<◌, ◌≤◌, Bool, true, List, [], ◌∷◌, Option, Some, None, length, refl, ap, ◌∙◌, sym, subst, inl, inr, ⊎_elim, arith, slice_index, MatchOption, IfSome}
+use Rattle.std.proofs.Common.{◌≡◌, ℕ, ◌+◌, ◌<◌, ◌≤◌, Bool, List, [], ◌∷◌, Option, Some, None, length, refl, ap, ◌∙◌, sym, subst, inl, inr, ⊎_elim, arith, MatchOption, IfSome}
 use Rattle.std.proofs.lemmas.Bool.{cases_lt}
 use Rattle.memchr.specs.Find.{Nowhere, NoneBefore}
-use Rattle.pawk_pattern.specs.Pattern.{Pattern, Empty, Start, End, Bytes, Group, Repeat, Sequence, Either, Matches, Leads, Leftmost, NoneFrom, IsFound}
+use Rattle.pawk_pattern.specs.Pattern.{Pattern, Empty, Start, End, Bytes, Group, Repeat, Sequence, Either, Matches, Leads, Leftmost, NoneFrom}
 use Rattle.pawk_pattern.specs.Tokens.{SpellsEre}
 use Rattle.pawk_pattern.proofs.Progress.{spells_one}
 use Rattle.pawk_ere.specs.Kept.{IsAnswerOfText}

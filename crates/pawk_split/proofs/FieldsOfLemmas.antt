@@ -1,5 +1,5 @@
 -- Fields by an expression are fields by an FS.
-use Rattle.std.proofs.Common.{◌≡◌, ℕ, ◌<◌, ◌≤◌, Bool, List, [], ◌∷◌, Result, Ok, Err, OnOk, length, arith}
+use Rattle.std.proofs.Common.{ℕ, ◌≤◌, Bool, List, [], ◌∷◌, Result, Ok, Err, OnOk, length, arith}
 use Rattle.std.specs.declared.ops.Range.{Range}
 use Rattle.pawk_value.specs.Stop.{Stop}
 use Rattle.pawk_split.specs.Between.{AreFieldsBetween}

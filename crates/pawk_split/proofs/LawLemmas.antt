@@ -1,7 +1,6 @@
 -- The law of fields.
-use Rattle.std.proofs.Common.{◌≡◌, ◌⊎◌, inl, inr, ℕ, suc, ◌+◌, ◌-◌, ◌<◌, ◌≤◌, Bool, true, false, cond, List, [], ◌∷◌, ◌++◌, Option, Some, None, length, take, drop, refl, ap, sym, ◌∙◌, subst, ⊎_elim, arith}
+use Rattle.std.proofs.Common.{◌≡◌, ◌⊎◌, inl, inr, ℕ, ◌+◌, ◌<◌, ◌≤◌, Bool, true, false, cond, List, [], ◌∷◌, ◌++◌, Some, None, length, drop, refl, ap, sym, ◌∙◌, subst, ⊎_elim, arith}
 use Rattle.std.proofs.lemmas.Bool.{cases_lt}
-use Rattle.std.proofs.lemmas.List.{drop_all}
 use Rattle.std.proofs.lemmas.List.Folds.{drop_split}
 use Rattle.std.specs.List.{slice_range}
 use Rattle.pawk_value.specs.Bytes.{is_blank}
@@ -12,7 +11,7 @@ use Rattle.pawk_fields.specs.Splits.{pieces_from, words_from, separates}
 use Rattle.pawk_fields.specs.FieldSeparator.{ranges_by}
 use Rattle.pawk_fields.specs.declared.separator.FieldSeparator.{FieldSeparator}
 use Rattle.pawk_fields.specs.declared.separator.FieldSeparator.TheVariants.{Blanks, Byte, ByteOrNewline}
-use Rattle.pawk_split.specs.Between.{AreFields, AreBetween, MaySeparate}
+use Rattle.pawk_split.specs.Between.{AreFields, MaySeparate}
 use Rattle.pawk_split.specs.FieldsOf.{AreFieldsOf, IsFaultOf, separator_of}
 use Rattle.pawk_split.specs.Law.{AreInOrder, laid, IsLawful, SplitLaw}
 use Rattle.pawk_split.proofs.BetweenLemmas.{some_inside}

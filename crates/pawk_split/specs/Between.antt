@@ -1,6 +1,6 @@
 -- The fields of a record between the matches of an expression, as ranges of it, each a begin and an end counted from 0.
 -- POSIX.1-2017, awk, "Variables and Special Variables" (FS, RS) and "Regular Expressions".
-use Rattle.std.specs.Prelude.{◌≡◌, ◌⊎◌, ℕ, ◌+◌, ◌-◌, ◌<◌, ◌≤◌, ◌++◌, Bool, true, List, [], ◌∷◌, Option, None, Some, MatchOption, IsNone, IsSome, length, slice_index}
+use Rattle.std.specs.Prelude.{◌≡◌, ◌⊎◌, ℕ, ◌+◌, ◌-◌, ◌<◌, Bool, true, List, [], ◌∷◌, Option, None, Some, MatchOption, IsNone, IsSome, length, slice_index}
 use Rattle.pawk_pattern.specs.Pattern.{Pattern, Matches, Leftmost, NoneFrom}
 use Rattle.pawk_pattern.specs.Tokens.{SpellsEre}
 use Rattle.pawk_fields.specs.FieldSeparator.{ranges_from}

@@ -1,5 +1,5 @@
 -- What is known behind a field.
-use Rattle.std.specs.Prelude.{◌≡◌, ℕ, ◌+◌, ◌<◌, ◌≤◌, Bool, List, ◌∷◌, Option, None, Some, length, IfSome}
+use Rattle.std.specs.Prelude.{◌≡◌, ℕ, ◌<◌, ◌≤◌, Bool, List, ◌∷◌, Option, None, Some, length, IfSome}
 use Rattle.pawk_split.specs.Between.{AreBetween, AreFrom, IsNextMatch}
 use Rattle.pawk_split.specs.declared.cut.Ahead.{Ahead}
 use Rattle.pawk_split.specs.declared.cut.Ahead.TheVariants.{Unknown, Known}

@@ -21,7 +21,7 @@ fn push_ranges<F: Finder>(
     ensures front { take (vec_len ranges.old) ranges.new.items ≡ ranges.old.items }
     ensures long { vec_len ranges.old ≤ vec_len ranges.new }
     ensures fault { IfErr result (TellsNone fields.entry.pattern) }
-    ensures ready { (p : List ℕ) → F.answers_for finder.old p → F.answers_for finder.new p }
+    ensures finder { finder.new ≡ finder.old }
 {
     while let Some(field) = fields.next_range(finder)? {
         ranges.push(field)?;
@@ -48,7 +48,7 @@ pub fn append_between<F: Finder>(
         (AddsBetween pattern.now paragraph text.now ranges.old.items ranges.new.items) }
     ensures refused { OnErr result (ranges.new.items ≡ ranges.old.items) }
     ensures fault { IfErr result (TellsNone pattern.now) }
-    ensures ready { (p : List ℕ) → F.answers_for finder.old p → F.answers_for finder.new p }
+    ensures finder { finder.new ≡ finder.old }
 {
     let length = ranges.len();
     let fields = FieldWalk::between(pattern, paragraph, text);

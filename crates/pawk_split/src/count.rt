@@ -1,6 +1,6 @@
 //! Counting the fields between the matches of an expression.
 
-ghost use Rattle.std.specs.Prelude.{◌<◌, ◌^◌, ℕ, List, IfErr, IfOk};
+ghost use Rattle.std.specs.Prelude.{◌≡◌, ◌<◌, ◌^◌, IfErr, IfOk};
 ghost use Rattle.pawk_split.specs.Between.{NeedsFinder, most_left};
 ghost use Rattle.pawk_split.specs.FieldsOf.{CountsBetween, CountsLeft, TellsNone};
 
@@ -14,7 +14,7 @@ fn count_left<F: Finder>(finder: &mut F, mut fields: FieldWalk<'_>) -> Result<us
     requires few { most_left fields.next fields.text < 2 ^ 64 }
     ensures count { IfOk result (CountsLeft fields.entry) }
     ensures fault { IfErr result (TellsNone fields.entry.pattern) }
-    ensures ready { (p : List ℕ) → F.answers_for finder.old p → F.answers_for finder.new p }
+    ensures finder { finder.new ≡ finder.old }
 {
     let mut count = 0;
     while let Some(_) = fields.next_range(finder)? {
@@ -33,7 +33,7 @@ pub fn count_between<F: Finder>(
     requires ready { F.answers_for finder.old pattern.now }
     ensures count { IfOk result (CountsBetween pattern.now paragraph text.now) }
     ensures fault { IfErr result (TellsNone pattern.now) }
-    ensures ready { (p : List ℕ) → F.answers_for finder.old p → F.answers_for finder.new p }
+    ensures finder { finder.new ≡ finder.old }
 {
     count_left(finder, FieldWalk::between(pattern, paragraph, text))
 }

@@ -30,7 +30,7 @@ pub trait Finder {
         requires within { from ≤ length text.now }
         ensures answer { IfOk result (IsAnswerOfText pattern.now text.now from) }
         ensures fault { IfErr result (TellsNone pattern.now) }
-        ensures ready { (p : List ℕ) → answers_for self.old p → answers_for self.new p };
+        ensures same { self.new ≡ self.old };
 }
 
 /// Why an expression was not read, as a stop of a run.
@@ -94,7 +94,7 @@ pub(crate) fn next_match<F: Finder>(
     requires within { from ≤ length text.now }
     ensures found { IfOk result (IsNextMatch pattern.now text.now from) }
     ensures fault { IfErr result (TellsNone pattern.now) }
-    ensures ready { (p : List ℕ) → F.answers_for finder.old p → F.answers_for finder.new p }
+    ensures finder { finder.new ≡ finder.old }
 {
     let mut place = from;
     loop {

@@ -57,7 +57,7 @@ pub fn append_fields<F: Finder>(
         (AddsFields fs.now paragraph text.now ranges.old.items ranges.new.items) }
     ensures refused { OnErr result (ranges.new.items ≡ ranges.old.items) }
     ensures fault { IfErr result (λ stop. IfFault stop (IsFaultOf fs.now text.now)) }
-    ensures ready { (p : List ℕ) → F.answers_for finder.old p → F.answers_for finder.new p }
+    ensures finder { finder.new ≡ finder.old }
 {
     if fs.len() < 2 || text.is_empty() {
         return append_plain(ranges, text, fs, paragraph);
@@ -114,6 +114,7 @@ pub fn split_fields_with(
     ensures fields { IfOk result
         (λ ranges. AddsFields fs.now paragraph text.now [] ranges.items) }
     ensures fault { IfErr result (λ stop. IfFault stop (IsFaultOf fs.now text.now)) }
+    ensures capacity { cache.new ≡ cache.old }
 {
     let mut ranges = Vec::new(alloc);
     append_fields(cache, &mut ranges, text, fs, paragraph)?;
@@ -131,7 +132,7 @@ pub fn count_fields_by<F: Finder>(
     requires ready { 2 ≤ length fs.now → F.answers_for finder.old fs.now }
     ensures count { IfOk result (CountsFields fs.now paragraph text.now) }
     ensures fault { IfErr result (λ stop. IfFault stop (IsFaultOf fs.now text.now)) }
-    ensures ready { (p : List ℕ) → F.answers_for finder.old p → F.answers_for finder.new p }
+    ensures finder { finder.new ≡ finder.old }
 {
     if text.is_empty() {
         return Ok(0);

@@ -41,7 +41,7 @@ fn match_ahead<F: Finder>(
     requires ahead { IsAhead pattern.now text.now (Some from) ahead }
     ensures found { IfOk result (IsNextMatch pattern.now text.now from) }
     ensures fault { IfErr result (TellsNone pattern.now) }
-    ensures ready { (p : List ℕ) → F.answers_for finder.old p → F.answers_for finder.new p }
+    ensures finder { finder.new ≡ finder.old }
 {
     match ahead {
         Ahead::Known(found) => Ok(found),
@@ -171,7 +171,7 @@ impl<'a> FieldWalk<'a> {
         ensures same { self.new ≡ record self.old { next = self.new.next } }
         ensures refused { IfErr result (λ _. self.new ≡ self.old) }
         ensures fault { IfErr result (λ stop. NeedsFinder self.old × TellsNone self.old.pattern stop) }
-        ensures ready { (p : List ℕ) → F.answers_for finder.old p → F.answers_for finder.new p }
+        ensures finder { finder.new ≡ finder.old }
     {
         let Some(from) = self.next else {
             return Ok(None);

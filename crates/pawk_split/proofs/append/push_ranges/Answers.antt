@@ -1,4 +1,4 @@
-use Rattle.std.proofs.Common.{rules, arith, subst, sym}
+use Rattle.std.proofs.Common.{rules, arith, subst, sym, ◌∙◌, refl}
 use Rattle.std.proofs.lemmas.Grind.{common_steps}
 use Rattle.pawk_split.proofs.WalkLemmas.{adds_none, adds_one, needed_before}
 use Rattle.pawk_split.proofs.append.push_ranges.Goals as goal
@@ -10,7 +10,7 @@ loop-field-init g c = record {
   long = search rules;
   needs = λ h. h;
   pattern = search rules;
-  ready = λ p h. h;
+  finder = refl;
 }
 
 pub loop-field-preserved : goal.loop-field-preserved
@@ -24,10 +24,10 @@ loop-field-preserved g c =
       long = omega (arith, i.long, c.in_ok-push.ensures.len);
       needs = λ h. i.needs (needed_before c.loop-field.fields c.next_range.new.self c.in_ok-field.ensures.same nearer h);
       pattern = search rules;
-      ready = λ p h. c.in_ok-field.ensures.ready p (i.ready p h);
+      finder = c.in_ok-field.ensures.finder ∙ i.finder;
     }
 
 pub next_range-requires : goal.next_range-requires
 next_range-requires g c =
     let i = c.loop-field.invariant in
-    record { ready = λ needs. subst (g.F.Finder.answers_for c.loop-field.finder) (sym i.pattern) (i.ready c.args.fields.pattern (c.requires.ready (i.needs needs))) }
+    record { ready = λ needs. subst (λ f. g.F.Finder.answers_for f c.loop-field.fields.pattern) (sym i.finder) (subst (g.F.Finder.answers_for c.args.finder.now) (sym i.pattern) (c.requires.ready (i.needs needs))) }

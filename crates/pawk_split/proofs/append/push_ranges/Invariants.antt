@@ -1,4 +1,4 @@
-use Rattle.std.proofs.Common.{◌≡◌, ◌≤◌, ℕ, List, take, vec_len}
+use Rattle.std.proofs.Common.{◌≡◌, ◌≤◌, take, vec_len}
 use Rattle.pawk_split.specs.Between.{NeedsFinder, most_left}
 use Rattle.pawk_split.proofs.WalkLemmas.{Adds}
 use Rattle.pawk_split.proofs.append.push_ranges.Given as goal
@@ -10,7 +10,7 @@ invariant-loop-field g l = record {
   long : vec_len l.initial.ranges ≤ vec_len l.ranges;
   needs : NeedsFinder l.fields → NeedsFinder l.initial.fields;
   pattern : l.fields.pattern ≡ l.initial.fields.pattern;
-  ready : (p : List ℕ) → g.F.Finder.answers_for l.initial.finder p → g.F.Finder.answers_for l.finder p;
+  finder : l.finder ≡ l.initial.finder;
 }
 
 abbrev pub decreases-loop-field : goal.decreases-loop-field

@@ -1,4 +1,4 @@
-use Rattle.std.proofs.Common.{rules, arith, subst, sym}
+use Rattle.std.proofs.Common.{rules, arith, subst, sym, ◌∙◌, refl}
 use Rattle.pawk_split.proofs.WalkLemmas.{counts_none, counts_one, needed_before}
 use Rattle.pawk_split.proofs.count.count_left.Goals as goal
 
@@ -8,7 +8,7 @@ loop-count-init g c = record {
   few = omega arith;
   needs = λ h. h;
   pattern = search rules;
-  ready = λ p h. h;
+  finder = refl;
 }
 
 pub overflow_add-count : goal.overflow_add-count
@@ -26,10 +26,10 @@ loop-count-preserved g c =
       few = omega (arith, nearer, i.few);
       needs = λ h. i.needs (needed_before c.loop-count.fields c.next_range.new.self c.in_ok-next_range.ensures.same nearer h);
       pattern = search rules;
-      ready = λ p h. c.in_ok-next_range.ensures.ready p (i.ready p h);
+      finder = c.in_ok-next_range.ensures.finder ∙ i.finder;
     }
 
 pub next_range-requires : goal.next_range-requires
 next_range-requires g c =
     let i = c.loop-count.invariant in
-    record { ready = λ needs. subst (g.F.Finder.answers_for c.loop-count.finder) (sym i.pattern) (i.ready c.args.fields.pattern (c.requires.ready (i.needs needs))) }
+    record { ready = λ needs. subst (λ f. g.F.Finder.answers_for f c.loop-count.fields.pattern) (sym i.finder) (subst (g.F.Finder.answers_for c.args.finder.now) (sym i.pattern) (c.requires.ready (i.needs needs))) }

@@ -1,4 +1,4 @@
-use Rattle.std.proofs.Common.{◌≡◌, ◌+◌, ◌≤◌, ℕ, List, length}
+use Rattle.std.proofs.Common.{◌≡◌, ◌+◌, ◌≤◌}
 use Rattle.pawk_split.specs.Between.{NeedsFinder, most_left}
 use Rattle.pawk_split.proofs.WalkLemmas.{Counts}
 use Rattle.pawk_split.proofs.count.count_left.Given as goal
@@ -9,7 +9,7 @@ invariant-loop-count g l = record {
   few : l.count + most_left l.fields.next l.fields.text ≤ most_left l.initial.fields.next l.initial.fields.text;
   needs : NeedsFinder l.fields → NeedsFinder l.initial.fields;
   pattern : l.fields.pattern ≡ l.initial.fields.pattern;
-  ready : (p : List ℕ) → g.F.Finder.answers_for l.initial.finder p → g.F.Finder.answers_for l.finder p;
+  finder : l.finder ≡ l.initial.finder;
 }
 
 abbrev pub decreases-loop-count : goal.decreases-loop-count

@@ -1,4 +1,4 @@
-use Rattle.std.proofs.Common.{arith}
+use Rattle.std.proofs.Common.{arith, ◌∙◌}
 use Rattle.pawk_split.proofs.BetweenLemmas.{next_found, next_none_at_end, none_here, place_here}
 use Rattle.pawk_split.proofs.finder.next_match.Goals as goal
 
@@ -30,5 +30,5 @@ loop-start-preserved g c =
       after = omega (arith, low);
       within = omega arith;
       none = none_here c.args.pattern.now c.args.text.now c.args.from c.loop-start.place i.after i.none c.in-Some.start c.in-Some.end answer c.if-start-end.false;
-      ready = λ p h. c.in_ok-find_match.ensures.ready p (i.ready p h);
+      finder = c.in_ok-find_match.ensures.same ∙ i.finder;
     }

@@ -1,4 +1,4 @@
-use Rattle.std.proofs.Common.{ℕ, ◌-◌, ◌≤◌, List, length}
+use Rattle.std.proofs.Common.{◌-◌, ◌≤◌, length, ◌≡◌}
 use Rattle.pawk_split.proofs.BetweenLemmas.{NoneUpTo}
 use Rattle.pawk_split.proofs.finder.next_match.Given as goal
 
@@ -7,7 +7,7 @@ invariant-loop-start g l = record {
   after : l.from ≤ l.place;
   within : l.place ≤ length l.text;
   none : NoneUpTo l.pattern l.text l.from l.place;
-  ready : (p : List ℕ) → g.F.Finder.answers_for l.initial.finder p → g.F.Finder.answers_for l.finder p;
+  finder : l.finder ≡ l.initial.finder;
 }
 
 abbrev pub decreases-loop-start : goal.decreases-loop-start
