@@ -6,7 +6,8 @@ use Rattle.pawk_pattern.specs.Pattern.{Pattern, Empty, Start, End, Bytes, Group,
 use Rattle.pawk_pattern.specs.Tokens.{SpellsEre}
 use Rattle.pawk_pattern.proofs.Progress.{spells_one}
 use Rattle.pawk_ere.specs.Kept.{IsAnswerOfText}
-use Rattle.pawk_split.specs.Between.{MatchesSome, IsNewline, MaySeparate, AreFields, AreBetween, IsNextMatch}
+use Rattle.pawk_split.specs.Between.{MatchesSome, IsNewline, MaySeparate, AreFields, AreBetween}
+use Rattle.pawk_split.specs.FieldWalks.{IsNextMatch}
 
 -- ---- matches do not go back, nor past the end
 

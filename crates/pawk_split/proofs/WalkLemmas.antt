@@ -3,8 +3,7 @@ use Rattle.std.proofs.Common.{◌≡◌, ℕ, ◌+◌, List, [], ◌∷◌, ◌+
 use Rattle.std.proofs.lemmas.List.{append-nil, map-append}
 use Rattle.std.specs.declared.ops.Range.{Range}
 use Rattle.pawk_fields.specs.FieldSeparator.{range_of}
-use Rattle.pawk_split.specs.Between.{AreLeft, HandsOut, NeedsFinder, Rest, most_left}
-use Rattle.pawk_split.specs.FieldsOf.{AddsLeft, CountsLeft}
+use Rattle.pawk_split.specs.FieldWalks.{AddsLeft, AreLeft, CountsLeft, HandsOut, NeedsFinder, Rest, most_left}
 
 -- these fields were handed out
 pub record Passes (first now : Rest) : Type 0 where

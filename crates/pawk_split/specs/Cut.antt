@@ -1,6 +1,7 @@
 -- What is known behind a field.
 use Rattle.std.specs.Prelude.{◌≡◌, ℕ, ◌<◌, ◌≤◌, Bool, List, ◌∷◌, Option, None, Some, length, IfSome}
-use Rattle.pawk_split.specs.Between.{AreBetween, AreFrom, IsNextMatch}
+use Rattle.pawk_split.specs.Between.{AreBetween}
+use Rattle.pawk_split.specs.FieldWalks.{AreFrom, IsNextMatch}
 use Rattle.pawk_split.specs.declared.cut.Ahead.{Ahead}
 use Rattle.pawk_split.specs.declared.cut.Ahead.TheVariants.{Unknown, Known}
 use Rattle.pawk_split.specs.declared.cut.Cut.{Cut}

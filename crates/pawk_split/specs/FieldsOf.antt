@@ -10,7 +10,7 @@ use Rattle.pawk_value.specs.Stop.TheVariants as stops
 use Rattle.pawk_fields.specs.declared.separator.FieldSeparator.{FieldSeparator}
 use Rattle.pawk_fields.specs.declared.separator.FieldSeparator.TheVariants.{Blanks, Byte, ByteOrNewline}
 use Rattle.pawk_fields.specs.FieldSeparator.{ranges_by, range_of}
-use Rattle.pawk_split.specs.Between.{AreFieldsBetween, AreLeft, Rest}
+use Rattle.pawk_split.specs.Between.{AreFieldsBetween}
 
 -- what an FS of one byte separates by: a space by blanks, any other byte by itself, and in paragraph mode by newlines too
 abbrev pub separator_of : ℕ → Bool → FieldSeparator
@@ -42,12 +42,6 @@ IfFault stops.Memory P = Unit {0}
 abbrev pub TellsNone : List ℕ → Stop → Type 0
 TellsNone pattern stop = IfFault stop (λ fault. (fault ≡ Ere) × SpellsNone pattern)
 
--- the ranges that were added are those of the fields that are left of a walk
-pub record AddsLeft (rest : Rest) (old new : List (Range ℕ)) : Type 0 where
-  pub fields : List (ℕ × ℕ)
-  pub left : AreLeft rest fields
-  pub added : new ≡ old ++ map range_of fields
-
 -- the ranges that were added are those of the fields between the matches of an expression
 pub record AddsBetween (pattern : List ℕ) (paragraph : Bool) (s : List ℕ) (old new : List (Range ℕ)) : Type 0 where
   pub fields : List (ℕ × ℕ)
@@ -59,12 +53,6 @@ pub record AddsFields (fs : List ℕ) (paragraph : Bool) (s : List ℕ) (old new
   pub fields : List (ℕ × ℕ)
   pub right : AreFieldsOf fs paragraph s fields
   pub added : new ≡ old ++ map range_of fields
-
--- so many fields are left of a walk
-pub record CountsLeft (rest : Rest) (count : ℕ) : Type 0 where
-  pub fields : List (ℕ × ℕ)
-  pub left : AreLeft rest fields
-  pub counted : count ≡ length fields
 
 -- so many fields stand between the matches of an expression
 pub record CountsBetween (pattern : List ℕ) (paragraph : Bool) (s : List ℕ) (count : ℕ) : Type 0 where

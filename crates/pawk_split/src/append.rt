@@ -1,8 +1,8 @@
 //! Lists of the ranges of fields between the matches of an expression.
 
 ghost use Rattle.std.specs.Prelude.{◌≡◌, ◌≤◌, ℕ, List, take, vec_len, IfErr, OnErr, OnOk};
-ghost use Rattle.pawk_split.specs.Between.{NeedsFinder};
-ghost use Rattle.pawk_split.specs.FieldsOf.{AddsBetween, AddsLeft, TellsNone};
+ghost use Rattle.pawk_split.specs.FieldWalks.{AddsLeft, NeedsFinder};
+ghost use Rattle.pawk_split.specs.FieldsOf.{AddsBetween, TellsNone};
 
 use crate::finder::Finder;
 use crate::walk::FieldWalk;

@@ -1,8 +1,8 @@
 //! Counting the fields between the matches of an expression.
 
 ghost use Rattle.std.specs.Prelude.{◌≡◌, ◌<◌, ◌^◌, IfErr, IfOk};
-ghost use Rattle.pawk_split.specs.Between.{NeedsFinder, most_left};
-ghost use Rattle.pawk_split.specs.FieldsOf.{CountsBetween, CountsLeft, TellsNone};
+ghost use Rattle.pawk_split.specs.FieldWalks.{CountsLeft, NeedsFinder, most_left};
+ghost use Rattle.pawk_split.specs.FieldsOf.{CountsBetween, TellsNone};
 
 use crate::finder::Finder;
 use crate::walk::FieldWalk;

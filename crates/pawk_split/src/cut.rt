@@ -2,7 +2,8 @@
 
 ghost use Rattle.std.specs.Prelude.{◌≡◌, ◌+◌, ◌<◌, ◌≤◌, ℕ, List, length, IfSome, MatchOption};
 ghost use Rattle.memchr.specs.Find.{IsFirst};
-ghost use Rattle.pawk_split.specs.Between.{IsNewline, IsNextMatch};
+ghost use Rattle.pawk_split.specs.Between.{IsNewline};
+ghost use Rattle.pawk_split.specs.FieldWalks.{IsNextMatch};
 ghost use Rattle.pawk_split.specs.Cut.{IsCut, IsWithin};
 
 use memchr::memchr;

@@ -4,7 +4,7 @@ ghost use Rattle.std.specs.Prelude.{◌≡◌, ◌≤◌, ℕ, List, length, IfE
 ghost use Rattle.pawk_ere.specs.Kept.{IsAnswerOfText, IsOfText};
 ghost use Rattle.pawk_pattern.specs.Refusals.{Tells};
 ghost use Rattle.pawk_pattern.specs.Tokens.{SpellsNone};
-ghost use Rattle.pawk_split.specs.Between.{IsNextMatch};
+ghost use Rattle.pawk_split.specs.FieldWalks.{IsNextMatch};
 ghost use Rattle.pawk_split.specs.FieldsOf.{TellsNone};
 
 use pawk_ere::{Cache, Ere, EreRefusal, Matcher};

@@ -1,9 +1,12 @@
 //! Walks over the fields of a record.
 
-ghost use Rattle.std.specs.Prelude.{◌≡◌, ◌<◌, ◌≤◌, ◌^◌, ◌↔◌, ℕ, [], ◌∷◌, List, length, IfErr, IfOk, IfSome};
+ghost use Rattle.std.specs.Prelude.{◌≡◌, ◌<◌, ◌≤◌, ◌^◌, ◌↔◌, ℕ, [], ◌∷◌};
+ghost use Rattle.std.specs.Prelude.{List, length, IfErr, IfOk, IfSome};
 ghost use Rattle.std.specs.Prelude.{MatchOption};
 ghost use Rattle.std.specs.Option.{ForSome};
-ghost use Rattle.pawk_split.specs.Between.{AreFieldsBetween, AreLeft, HandsOut, IsNextMatch, NeedsFinder, most_left};
+ghost use Rattle.pawk_split.specs.Between.{AreFieldsBetween};
+ghost use Rattle.pawk_split.specs.FieldWalks.{AreLeft, HandsOut, IsNextMatch};
+ghost use Rattle.pawk_split.specs.FieldWalks.{NeedsFinder, most_left};
 ghost use Rattle.pawk_split.specs.Cut.{IsAhead};
 ghost use Rattle.pawk_split.specs.FieldsOf.{AreFieldsOf, IsFaultOf, TellsNone, separator_of};
 
@@ -64,7 +67,7 @@ pub struct FieldWalk<'a> {
 impl<'a> Model for FieldWalk<'a> {
     ghost use Rattle.std.specs.Prelude.{◌≤◌, length};
     ghost use Rattle.std.specs.Option.{ForSome};
-    ghost use Rattle.pawk_split.specs.Between.{Rest};
+    ghost use Rattle.pawk_split.specs.FieldWalks.{Rest};
     ghost use Rattle.pawk_split.specs.Cut.{IsAhead};
 
     ghost Value = { Rest };
@@ -170,7 +173,8 @@ impl<'a> FieldWalk<'a> {
             (λ _. most_left self.new.next self.new.text < most_left self.old.next self.old.text)) }
         ensures same { self.new ≡ record self.old { next = self.new.next } }
         ensures refused { IfErr result (λ _. self.new ≡ self.old) }
-        ensures fault { IfErr result (λ stop. NeedsFinder self.old × TellsNone self.old.pattern stop) }
+        ensures fault { IfErr result
+            (λ stop. NeedsFinder self.old × TellsNone self.old.pattern stop) }
         ensures finder { finder.new ≡ finder.old }
     {
         let Some(from) = self.next else {

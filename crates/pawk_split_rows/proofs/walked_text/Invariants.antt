@@ -1,4 +1,4 @@
-use Rattle.pawk_split.specs.Between.{most_left}
+use Rattle.pawk_split.specs.FieldWalks.{most_left}
 use Rattle.pawk_split_rows.proofs.walked_text.Given as goal
 
 abbrev pub decreases-loop-ranges : goal.decreases-loop-ranges

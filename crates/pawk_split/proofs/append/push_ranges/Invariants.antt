@@ -1,5 +1,5 @@
 use Rattle.std.proofs.Common.{◌≡◌, ◌≤◌, take, vec_len}
-use Rattle.pawk_split.specs.Between.{NeedsFinder, most_left}
+use Rattle.pawk_split.specs.FieldWalks.{NeedsFinder, most_left}
 use Rattle.pawk_split.proofs.WalkLemmas.{Adds}
 use Rattle.pawk_split.proofs.append.push_ranges.Given as goal
 

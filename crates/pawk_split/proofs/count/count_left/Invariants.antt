@@ -1,5 +1,5 @@
 use Rattle.std.proofs.Common.{◌≡◌, ◌+◌, ◌≤◌}
-use Rattle.pawk_split.specs.Between.{NeedsFinder, most_left}
+use Rattle.pawk_split.specs.FieldWalks.{NeedsFinder, most_left}
 use Rattle.pawk_split.proofs.WalkLemmas.{Counts}
 use Rattle.pawk_split.proofs.count.count_left.Given as goal
 
