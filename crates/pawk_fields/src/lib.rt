@@ -9,4 +9,4 @@ mod separator;
 pub use blanks::{BlankFields, count_fields, field, fields, fields_law};
 pub use count::count_split;
 pub use field_walk::{SplitFields, append_ranges, blanks_law, pieces_law, split};
-pub use separator::FieldSeparator;
+pub use separator::{FieldSeparator, FieldStep};

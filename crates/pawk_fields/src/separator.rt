@@ -23,13 +23,15 @@ pub enum FieldSeparator {
     ByteOrNewline(u8),
 }
 
-/// A field: its begin and end in the record, in bytes counted from 0, and the place from which on
-/// the next one is looked for, if there may be one.
+/// A field, as a range of the record in bytes counted from 0, and where a walk goes on behind it.
 #[derive(Clone, Copy)]
-pub(crate) struct Step {
-    pub(crate) start: usize,
-    pub(crate) end: usize,
-    pub(crate) next: Option<usize>,
+pub struct FieldStep {
+    /// The first byte of the field.
+    pub start: usize,
+    /// The byte behind it.
+    pub end: usize,
+    /// The place from which on the next field is looked for, if there may be one.
+    pub next: Option<usize>,
 }
 
 /// The first byte of a text that separates.
@@ -46,7 +48,7 @@ fn find_separator(text: &[u8], byte: u8, paragraph: bool) -> Option<usize>
 
 /// The first word from a place on.
 #[inline]
-fn next_word(text: &[u8], from: usize) -> Option<Step>
+fn next_word(text: &[u8], from: usize) -> Option<FieldStep>
     requires { from ≤ length text.now }
     ensures step { MatchOption result (words_from None from (drop from text.now) ≡ [])
         (λ f. words_from None from (drop from text.now)
@@ -62,7 +64,7 @@ fn next_word(text: &[u8], from: usize) -> Option<Step>
     }
     let (_, word) = text.split_at(start);
     let end = start + word_length(word);
-    Some(Step {
+    Some(FieldStep {
         start,
         end,
         next: Some(end),
@@ -71,7 +73,7 @@ fn next_word(text: &[u8], from: usize) -> Option<Step>
 
 /// The piece that begins at a place, up to the first byte that separates.
 #[inline]
-fn next_piece(text: &[u8], from: usize, byte: u8, paragraph: bool) -> Step
+fn next_piece(text: &[u8], from: usize, byte: u8, paragraph: bool) -> FieldStep
     requires { from ≤ length text.now }
     ensures step { pieces_from (separates byte paragraph) from from (drop from text.now)
         ≡ (result.start, result.end) ∷ pieces_after byte paragraph text.now result.next }
@@ -81,12 +83,12 @@ fn next_piece(text: &[u8], from: usize, byte: u8, paragraph: bool) -> Step
 {
     let (_, rest) = text.split_at(from);
     match find_separator(rest, byte, paragraph) {
-        Some(length) => Step {
+        Some(length) => FieldStep {
             start: from,
             end: from + length,
             next: Some(from + length + 1),
         },
-        None => Step {
+        None => FieldStep {
             start: from,
             end: text.len(),
             next: None,
@@ -95,18 +97,20 @@ fn next_piece(text: &[u8], from: usize, byte: u8, paragraph: bool) -> Step
 }
 
 impl FieldSeparator {
-    /// The place from which on the first field is looked for; an empty record has none.
+    /// The place from which on the first field is looked for, in bytes counted from 0; an empty
+    /// record has none.
     #[inline]
-    pub(crate) fn first_place(self, text: &[u8]) -> Option<usize>
+    pub fn first_place(self, text: &[u8]) -> Option<usize>
         ensures ranges { ranges_from self text.now result ≡ ranges_by self text.now }
         ensures within { IfSome result (λ p. p ≤ length text.now) }
     {
         if text.is_empty() { None } else { Some(0) }
     }
 
-    /// The first field from a place of the record on.
+    /// The first field from a place of the record on, in bytes counted from 0, or `None` where
+    /// none is left. Takes no memory.
     #[inline]
-    pub(crate) fn next_field(self, text: &[u8], from: usize) -> Option<Step>
+    pub fn next_field(self, text: &[u8], from: usize) -> Option<FieldStep>
         requires { from ≤ length text.now }
         ensures step { MatchOption result (ranges_from self text.now (Some from) ≡ [])
             (λ f. ranges_from self text.now (Some from)

@@ -7,6 +7,10 @@ pub mod Walk
 pub use Rattle.pawk_fields.specs.Fields
 pub use Rattle.pawk_fields.specs.Splits
 pub use Rattle.pawk_fields.specs.FieldSeparator
+pub use Rattle.pawk_split.specs.Between
+pub use Rattle.pawk_split.specs.FieldWalks
+pub use Rattle.pawk_split.specs.FieldsOf
+pub use Rattle.pawk_split.specs.Law
 pub mod Plan
 pub mod Counts
 pub mod Passed

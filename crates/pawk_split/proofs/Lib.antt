@@ -1,0 +1,5 @@
+pub mod BetweenLemmas
+pub mod NewlineLemmas
+pub mod WalkLemmas
+pub mod FieldsOfLemmas
+pub mod LawLemmas
