@@ -1,4 +1,5 @@
 -- Words that a text must hold to have a match.
+use Rattle.pawk_machine.specs.Members.{members_of}
 use Rattle.std.specs.Prelude.{◌≡◌, ◌↔◌, ℕ, ◌+◌, ◌≤◌, true, All, List, length}
 use Rattle.memchr.specs.Find.{OccursAt}
 use Rattle.pawk_machine.specs.Regex.{Regex, Takes}
@@ -36,5 +37,5 @@ pub record AreFeatures (e : Regex) (features : Features) : Type 0 where
 -- what is looked for before a walk tells of the matches
 abbrev pub IsPrefilter : Regex → Prefilter → Type 0
 IsPrefilter e (Literal bytes) = IsLiteral e bytes
-IsPrefilter e (Run set count) = IsRun e set.value.members count × (1 ≤ count)
+IsPrefilter e (Run set count) = IsRun e (members_of set.value) count × (1 ≤ count)
 IsPrefilter e (Words words) = AreNeeded e words.items

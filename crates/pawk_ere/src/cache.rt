@@ -35,7 +35,8 @@ impl Model for Cache {
 /// The matcher of a text that spells an expression.
 fn read_matcher(alloc: Global, pattern: &[u8]) -> Result<(Vec<u8>, Matcher), EreRefusal>
     ensures entry { IfOk result (λ e. (e.0.items ≡ pattern.now) × IsOfText e.0.items e.1) }
-    ensures refused { IfErr result (λ why. Tells why ((e : Pattern) → SpellsEre pattern.now e → ⊥)) }
+    ensures refused { IfErr result
+        (λ why. Tells why ((e : Pattern) → SpellsEre pattern.now e → ⊥)) }
 {
     let ere = Ere::parse(alloc, pattern)?;
     let matcher = Matcher::new(alloc, &ere)?;
@@ -74,7 +75,8 @@ fn matcher_for(
     ensures rest { AreOfTexts kept.new.entries }
     ensures cap { kept.new.cap ≡ kept.old.cap }
     ensures entry { IfOk result (λ e. (e.0.items ≡ pattern.now) × IsOfText e.0.items e.1) }
-    ensures refused { IfErr result (λ why. Tells why ((e : Pattern) → SpellsEre pattern.now e → ⊥)) }
+    ensures refused { IfErr result
+        (λ why. Tells why ((e : Pattern) → SpellsEre pattern.now e → ⊥)) }
 {
     match take_matcher(kept, pattern) {
         Some(entry) => Ok(entry),
@@ -127,7 +129,8 @@ impl Cache {
     ) -> Result<Option<(usize, usize)>, EreRefusal>
         requires { from ≤ length text.now }
         ensures answer { IfOk result (λ found. IsAnswerOfText pattern.now text.now from found) }
-        ensures refused { IfErr result (λ why. Tells why ((e : Pattern) → SpellsEre pattern.now e → ⊥)) }
+        ensures refused { IfErr result
+            (λ why. Tells why ((e : Pattern) → SpellsEre pattern.now e → ⊥)) }
         ensures capacity { self.new ≡ self.old }
     {
         let (key, matcher) = matcher_for(self.alloc, &mut self.kept, pattern)?;

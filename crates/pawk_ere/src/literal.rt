@@ -24,7 +24,8 @@ pub fn search_literal(literal: &Finder<'static>, text: &[u8], from: usize) -> Op
 /// Whether the finder's bytes stand at `from` or later.
 pub fn has_literal(literal: &Finder<'static>, text: &[u8], from: usize) -> bool
     requires { from ≤ length text.now }
-    ensures { (e : Regex) → IsLiteral e literal.now → IsTrue result ↔ HasMatch (Takes e text.now) from }
+    ensures { (e : Regex) → IsLiteral e literal.now
+        → IsTrue result ↔ HasMatch (Takes e text.now) from }
 {
     match search_literal(literal, text, from) {
         None => false,

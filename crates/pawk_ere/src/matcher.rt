@@ -64,7 +64,8 @@ impl Matcher {
     /// starts, and the byte behind it, counted from 0. After an `Err` the matcher answers as before.
     pub fn find(&mut self, text: &[u8], from: usize) -> Result<Option<(usize, usize)>, AllocError>
         requires { from ≤ length text.now }
-        ensures answer { (e : Pattern) → IsFor e self.old → IfOk result (λ found. IsAnswer e text.now from found) }
+        ensures answer { (e : Pattern) → IsFor e self.old
+            → IfOk result (λ found. IsAnswer e text.now from found) }
         ensures same { self.new ≡ self.old }
     {
         match &self.prefilter {
@@ -89,7 +90,8 @@ impl Matcher {
     /// Whether a match starts at the byte `from` or later. After an `Err` the matcher answers as before.
     pub fn is_match(&mut self, text: &[u8], from: usize) -> Result<bool, AllocError>
         requires { from ≤ length text.now }
-        ensures answer { (e : Pattern) → IsFor e self.old → IfOk result (λ told. IsTrue told ↔ HasMatch (Matches e text.now) from) }
+        ensures answer { (e : Pattern) → IsFor e self.old
+            → IfOk result (λ told. IsTrue told ↔ HasMatch (Matches e text.now) from) }
         ensures same { self.new ≡ self.old }
     {
         match &self.prefilter {

@@ -1,17 +1,17 @@
 // Searches for an expression that is so many bytes of one set and nothing else.
 
+ghost use Rattle.pawk_machine.specs.Members.{members_of};
 ghost use Rattle.pawk_ere.specs.Runs.{AllHold, IsRun};
 ghost use Rattle.pawk_machine.specs.Regex.{Regex, Takes};
 ghost use Rattle.pawk_machine.specs.Tree.{regex_of};
 ghost use Rattle.pawk_pattern.specs.Pattern.{HasMatch, Holds, IsFound};
 ghost use Rattle.std.specs.Prelude.{◌↔◌, ◌<◌, ◌≤◌, length, slice_index, IfSome, IsTrue, MatchOption};
 
-use pawk_machine::Node;
-use pawk_pattern::ByteSet;
+use pawk_machine::{Members, Node};
 
 /// The byte set and the number of bytes, where the expression is seen to match so many bytes of one set and nothing else.
-pub fn run_of(node: &Node) -> Option<(&ByteSet, usize)>
-    ensures { IfSome result (λ run. IsRun (regex_of node.now) run.0.now.members run.1) }
+pub fn run_of(node: &Node) -> Option<(&Members, usize)>
+    ensures { IfSome result (λ run. IsRun (regex_of node.now) (members_of run.0.now) run.1) }
 {
     match node {
         Node::Bytes(set) => Some((set, 1)),
@@ -36,10 +36,11 @@ pub fn run_of(node: &Node) -> Option<(&ByteSet, usize)>
 }
 
 /// The last place from `low` on and before `high` whose byte does not belong to the set.
-fn last_other(set: &ByteSet, text: &[u8], low: usize, high: usize) -> Option<usize>
+fn last_other(set: &Members, text: &[u8], low: usize, high: usize) -> Option<usize>
     requires { high ≤ length text.now }
-    ensures { MatchOption result (AllHold set.now.members text.now low high)
-        (λ place. (low ≤ place) × (place < high) × (Holds set.now.members (slice_index text.now place) → ⊥)) }
+    ensures { MatchOption result (AllHold (members_of set.now) text.now low high)
+        (λ place. (low ≤ place) × (place < high)
+        × (Holds (members_of set.now) (slice_index text.now place) → ⊥)) }
 {
     let mut place = high;
     while low < place {
@@ -53,10 +54,10 @@ fn last_other(set: &ByteSet, text: &[u8], low: usize, high: usize) -> Option<usi
 
 /// The leftmost match of an expression that matches `count` bytes of the set and nothing else. No byte is read more than
 /// twice: a byte of another kind ends each match that starts before it.
-pub fn search_run(set: &ByteSet, count: usize, text: &[u8], from: usize) -> Option<(usize, usize)>
+pub fn search_run(set: &Members, count: usize, text: &[u8], from: usize) -> Option<(usize, usize)>
     requires some { 1 ≤ count }
     requires within { from ≤ length text.now }
-    ensures { (e : Regex) → IsRun e set.now.members count → IsFound (Takes e text.now) from result }
+    ensures { (e : Regex) → IsRun e (members_of set.now) count → IsFound (Takes e text.now) from result }
 {
     let mut start = from;
     while count <= text.len() - start {
@@ -69,10 +70,11 @@ pub fn search_run(set: &ByteSet, count: usize, text: &[u8], from: usize) -> Opti
 }
 
 /// Whether `count` bytes of the set stand in a row at `from` or later.
-pub fn has_run(set: &ByteSet, count: usize, text: &[u8], from: usize) -> bool
+pub fn has_run(set: &Members, count: usize, text: &[u8], from: usize) -> bool
     requires some { 1 ≤ count }
     requires within { from ≤ length text.now }
-    ensures { (e : Regex) → IsRun e set.now.members count → IsTrue result ↔ HasMatch (Takes e text.now) from }
+    ensures { (e : Regex) → IsRun e (members_of set.now) count
+        → IsTrue result ↔ HasMatch (Takes e text.now) from }
 {
     match search_run(set, count, text, from) {
         None => false,

@@ -1,5 +1,6 @@
 // Words that a text must hold to have a match.
 
+ghost use Rattle.pawk_machine.specs.Members.{members_of};
 ghost use Rattle.pawk_ere.specs.Words.{AreNeeded, HoldsNone, AreFeatures, IsPrefilter};
 ghost use Rattle.pawk_machine.specs.Regex.{Regex, Bytes, Sequence, Either, Plus, copies};
 ghost use Rattle.pawk_machine.specs.Tree.{regex_of};
@@ -7,8 +8,7 @@ ghost use Rattle.std.specs.Prelude.{◌≡◌, ◌≤◌, ◌⊎◌, [], false, 
 
 use crate::run::run_of;
 use memchr::memmem::{Finder, FinderBuilder};
-use pawk_machine::{Node, is_anchored};
-use pawk_pattern::ByteSet;
+use pawk_machine::{Members, Node, is_anchored};
 use std::alloc::{AllocError, Global};
 
 /// More words than this are not looked for.
@@ -37,7 +37,7 @@ pub enum Prefilter {
     /// The expression matches these bytes and nothing else.
     Literal(Finder<'static>),
     /// The expression matches so many bytes of this set, at least one, and nothing else.
-    Run(Box<ByteSet>, usize),
+    Run(Box<Members>, usize),
     /// Each match holds one of these words. If there are none, nothing is known.
     Words(Vec<Finder<'static>>),
 }
@@ -79,7 +79,8 @@ fn heavier(first: Vec<Finder<'static>>, second: Vec<Finder<'static>>) -> Vec<Fin
 
 /// Words that are needed: those that are known, or the tail where it is heavier.
 fn needed_words(features: Features) -> Result<Vec<Finder<'static>>, AllocError>
-    ensures { (e : Regex) → AreFeatures e features → IfOk result (λ words. AreNeeded e words.items) }
+    ensures { (e : Regex) → AreFeatures e features
+        → IfOk result (λ words. AreNeeded e words.items) }
 {
     let Features {
         tail,
@@ -110,8 +111,8 @@ fn nothing(alloc: Global) -> Features
 
 /// What is seen of one byte.
 #[inline(never)]
-fn in_bytes(alloc: Global, set: &ByteSet) -> Result<Features, AllocError>
-    ensures { IfOk result (λ features. AreFeatures (Bytes set.now.members) features) }
+fn in_bytes(alloc: Global, set: &Members) -> Result<Features, AllocError>
+    ensures { IfOk result (λ features. AreFeatures (Bytes (members_of set.now)) features) }
 {
     let mut features = nothing(alloc);
     if let Some(byte) = set.only_member() {
@@ -124,7 +125,8 @@ fn in_bytes(alloc: Global, set: &ByteSet) -> Result<Features, AllocError>
 /// What is seen of one after the other.
 #[inline(never)]
 fn in_sequence(first: Features, second: Features) -> Result<Features, AllocError>
-    ensures { (a b : Regex) → AreFeatures a first → AreFeatures b second → IfOk result (λ features. AreFeatures (Sequence a b) features) }
+    ensures { (a b : Regex) → AreFeatures a first → AreFeatures b second
+        → IfOk result (λ features. AreFeatures (Sequence a b) features) }
 {
     let mut features = second;
     if features.whole {
@@ -139,7 +141,8 @@ fn in_sequence(first: Features, second: Features) -> Result<Features, AllocError
 /// What is seen of one or the other.
 #[inline(never)]
 fn in_either(alloc: Global, first: Features, second: Features) -> Result<Features, AllocError>
-    ensures { (a b : Regex) → AreFeatures a first → AreFeatures b second → IfOk result (λ features. AreFeatures (Either a b) features) }
+    ensures { (a b : Regex) → AreFeatures a first → AreFeatures b second
+        → IfOk result (λ features. AreFeatures (Either a b) features) }
 {
     let mut features = nothing(alloc);
     let mut words = needed_words(first)?;

@@ -3,9 +3,40 @@
 
 use memchr::memchr;
 use pawk_ere::{Ere, Matcher};
-use std::alloc::{AllocError, Global};
+use std::alloc::AllocError;
 use std::time::Instant;
 use std::{env, fs, io};
+
+/// What is asked of a line.
+#[derive(Clone, Copy)]
+enum Question {
+    /// Where its first match is.
+    Find,
+    /// Whether it has a match.
+    Test,
+    /// Where its matches are, one behind the other.
+    FindEach,
+}
+
+/// How many matches were found, and the sum of the places where they end.
+#[derive(Clone, Copy)]
+struct Tally {
+    count: u64,
+    ends: u64,
+}
+
+impl Tally {
+    /// No match.
+    const NONE: Tally = Tally { count: 0, ends: 0 };
+
+    /// The tally with a match more, which ends at a place.
+    fn with(self, end: usize) -> Tally {
+        Tally {
+            count: self.count.wrapping_add(1),
+            ends: self.ends.wrapping_add(end as u64),
+        }
+    }
+}
 
 /// What follows the byte at a place.
 fn after(text: &[u8], place: usize) -> &[u8] {
@@ -15,132 +46,112 @@ fn after(text: &[u8], place: usize) -> &[u8] {
     }
 }
 
-/// How many lines have a match, and the sum of the places where they end.
-fn count(matcher: &mut Matcher, text: &[u8]) -> Result<(u64, u64), AllocError> {
-    let mut lines = 0u64;
-    let mut sum = 0u64;
-    let mut rest = text;
-    for _ in 0..u64::MAX {
-        if rest.is_empty() {
-            break;
-        }
-        let end = memchr(b'\n', rest).unwrap_or(rest.len());
-        if end >= rest.len() {
-            break;
-        }
-        let line = &rest[..end];
-        if let Some((_, end)) = matcher.find(line, 0)? {
-            lines = lines.wrapping_add(1);
-            sum = sum.wrapping_add(end as u64);
-        }
-        rest = after(rest, end);
-    }
-    Ok((lines, sum))
-}
-
-/// How many lines have a match.
-fn count_only(matcher: &mut Matcher, text: &[u8]) -> Result<u64, AllocError> {
-    let mut lines = 0u64;
-    let mut rest = text;
-    for _ in 0..u64::MAX {
-        let end = match memchr(b'\n', rest) {
-            Some(end) => end,
-            None => break,
-        };
-        if end >= rest.len() {
-            break;
-        }
-        if matcher.is_match(&rest[..end], 0)? {
-            lines = lines.wrapping_add(1);
-        }
-        rest = after(rest, end);
-    }
-    Ok(lines)
-}
-
-/// How many matches a line has, one behind the other: an empty one right behind another is none.
-fn count_in(matcher: &mut Matcher, line: &[u8]) -> Result<u64, AllocError> {
-    let mut count = 0u64;
+/// Adds the matches of a line, one behind the other: an empty one right behind another is none.
+fn find_each(matcher: &mut Matcher, line: &[u8], tally: Tally) -> Result<Tally, AllocError> {
+    let mut tally = tally;
     let mut from = 0usize;
     let mut behind = None;
     for _ in 0..=line.len() {
         if from > line.len() {
             break;
         }
-        let (start, end) = match matcher.find(line, from)? {
-            None => break,
-            Some(places) => places,
+        let Some((start, end)) = matcher.find(line, from)? else {
+            break;
         };
-        if start < end {
-            count = count.wrapping_add(1);
-            behind = Some(end);
-            from = end;
-        } else {
-            if behind != Some(start) {
-                count = count.wrapping_add(1);
-            }
-            from = start.saturating_add(1);
+        if start < end || behind != Some(start) {
+            tally = tally.with(end);
         }
+        behind = if start < end { Some(end) } else { behind };
+        from = if start < end {
+            end
+        } else {
+            start.saturating_add(1)
+        };
     }
-    Ok(count)
+    Ok(tally)
 }
 
-/// How many matches the lines have.
-fn count_all(matcher: &mut Matcher, text: &[u8]) -> Result<u64, AllocError> {
-    let mut count = 0u64;
+/// Adds the matches of a line.
+fn search(
+    matcher: &mut Matcher,
+    question: Question,
+    line: &[u8],
+    tally: Tally,
+) -> Result<Tally, AllocError> {
+    match question {
+        Question::FindEach => find_each(matcher, line, tally),
+        Question::Test => Ok(if matcher.is_match(line, 0)? {
+            tally.with(0)
+        } else {
+            tally
+        }),
+        Question::Find => match matcher.find(line, 0)? {
+            Some((_, end)) => Ok(tally.with(end)),
+            None => Ok(tally),
+        },
+    }
+}
+
+/// The matches of the lines that end with a newline.
+fn search_lines(
+    matcher: &mut Matcher,
+    question: Question,
+    text: &[u8],
+) -> Result<Tally, AllocError> {
+    let mut tally = Tally::NONE;
     let mut rest = text;
     for _ in 0..u64::MAX {
-        let end = match memchr(b'\n', rest) {
-            Some(end) => end,
-            None => break,
-        };
-        if end >= rest.len() {
+        let Some(end) = memchr(b'\n', rest) else {
             break;
-        }
-        count = count.wrapping_add(count_in(matcher, &rest[..end])?);
+        };
+        let Some(line) = rest.get(..end) else {
+            break;
+        };
+        tally = search(matcher, question, line, tally)?;
         rest = after(rest, end);
     }
-    Ok(count)
+    Ok(tally)
 }
 
+/// Asks one question of each line, and prints the tally and the time.
 fn measure(
-    rt: &(impl Print + AllocGlobal + std::rt::Clock),
-    pattern: &[u8],
+    rt: &HostRuntime,
+    matcher: &mut Matcher,
+    question: Question,
     text: &[u8],
 ) -> io::Result<()> {
+    let start = Instant::now(rt)?;
+    let tally = search_lines(matcher, question, text)?;
+    let milliseconds = start.elapsed(rt)?.as_millis();
+    let (count, ends) = (tally.count, tally.ends);
+    match question {
+        Question::Find => println!(rt; "{count} lines, sum {ends}, {milliseconds} ms to find"),
+        Question::Test => println!(rt; "{count} lines, {milliseconds} ms to test"),
+        Question::FindEach => println!(rt; "{count} matches, {milliseconds} ms to find each"),
+    }
+}
+
+/// Asks all questions with one matcher.
+fn measure_all(rt: &HostRuntime, matcher: &mut Matcher, text: &[u8]) -> io::Result<()> {
+    for question in [Question::Find, Question::Test, Question::FindEach] {
+        measure(rt, matcher, question, text)?;
+    }
+    Ok(())
+}
+
+/// Measures an expression over the bytes of a file.
+fn run(rt: &HostRuntime, pattern: &[u8], text: &[u8]) -> io::Result<()> {
     match Ere::parse(rt.alloc(), pattern) {
         Err(why) => println!(rt; "refused: {why}"),
-        Ok(ere) => {
-            let mut matcher = Matcher::new(rt.alloc(), &ere)?;
-            let start = Instant::now(rt)?;
-            let (lines, sum) = count(&mut matcher, text)?;
-            let spent = start.elapsed(rt)?;
-            let milliseconds = spent.as_millis();
-            println!(rt; "{lines} lines, sum {sum}, {milliseconds} ms to find")?;
-            let start = Instant::now(rt)?;
-            let lines = count_only(&mut matcher, text)?;
-            let spent = start.elapsed(rt)?;
-            let milliseconds = spent.as_millis();
-            println!(rt; "{lines} lines, {milliseconds} ms to test")?;
-            let start = Instant::now(rt)?;
-            let matches = count_all(&mut matcher, text)?;
-            let spent = start.elapsed(rt)?;
-            let milliseconds = spent.as_millis();
-            println!(rt; "{matches} matches, {milliseconds} ms to find each")
-        }
+        Ok(ere) => measure_all(rt, &mut Matcher::new(rt.alloc(), &ere)?, text),
     }
 }
 
 fn main(rt: HostRuntime) -> io::Result<()> {
-    let mut args = env::args(&rt)?;
-    let _name = args.next();
-    let pattern = args.next();
-    let path = args.next();
-    match (pattern, path) {
-        (Some(pattern), Some(path)) => {
-            let text = fs::read(&rt, path.as_str())?;
-            measure(&rt, pattern.as_bytes(), &text)
-        }
-        _ => println!(rt; "usage: pawk_ere_bench EXPRESSION FILE"),
-    }
+    let mut args = env::args(&rt)?.skip(1);
+    let (Some(pattern), Some(path)) = (args.next(), args.next()) else {
+        return println!(rt; "usage: pawk_ere_bench EXPRESSION FILE");
+    };
+    let text = fs::read(&rt, path.as_str())?;
+    run(&rt, pattern.as_bytes(), &text)
 }

@@ -1,17 +1,24 @@
-//! Reads rows from standard input, one a line, and answers each with a line: where the match is, as the byte where it starts
-//! and the byte behind it, or `none`.
+//! Reads rows from standard input, one a line, and answers each with a line.
 //!
-//! A row has fields between semicolons. `row;FROM;EXPRESSION;TEXT` asks once; the two last fields are parts, each as how
-//! often it stands and its bytes, parted by tabs. `states;FROM;EXPRESSION;TEXT` tells also whether the table of states was
-//! emptied. `all;EXPRESSION` asks for the texts below from the bytes 0, 1 and 3 on. In bytes a backslash with three octal
-//! digits is the byte of that value.
+//! A row has fields between semicolons. Expressions and texts are parts, each as how often it stands and its bytes, parted by
+//! tabs: `3`, `a` and `1`, `*` are `aaa*`. In bytes a backslash with three octal digits is the byte of that value.
+//!
+//! | row | answer |
+//! |---|---|
+//! | `parse;EXPRESSION` | `ok` where the expression is read, else the number of its refusal |
+//! | `row;EXPRESSION;FROM;TEXT` | where the match is: the byte where it starts and the byte behind it, or `none` |
+//! | `states;EXPRESSION;FROM;TEXT` | the same, and whether the table of states was emptied |
+//! | `all;EXPRESSION` | the same for the texts below from the bytes 0, 1 and 3 on |
 //!
 //! Each question goes to a matcher twice, to `is_match`, and to caches of one expression and of 1,024; where they do not agree
-//! the answer is `differ`.
+//! the answer is `differ`. Each call of `pawk_ere` that tells a want of memory is made again, for runs that refuse the Nth
+//! request (`rt try --fail-alloc 1.. <`, with a few rows): whatever was refused, the answers are the same.
 #![tactic(auto)]
 
+ghost use Rattle.std.specs.Prelude.{◌≤◌, length};
+
 use pawk_ere::{Cache, Ere, EreRefusal, Matcher};
-use pawk_rows::{decode, number};
+use pawk_rows::{number, piece, push_decimal, push_parts};
 use std::alloc::{AllocError, Global};
 use std::io;
 
@@ -43,158 +50,222 @@ struct Caches {
     large: Cache,
 }
 
+/// A search: the expression, the text, and the byte where the search begins.
+#[derive(Clone, Copy)]
+struct Question<'a> {
+    pattern: &'a [u8],
+    text: &'a [u8],
+    from: usize,
+    ghost within: { from ≤ length text.now },
+}
+
 /// The field of a row with that number, counted from 0. A row without it has an empty one.
 fn field(row: &[u8], number: usize) -> &[u8] {
-    row.split(|byte| *byte == b';').nth(number).unwrap_or(b"")
+    piece(row, b';', number)
 }
 
-/// Adds bytes so often.
-fn push_repeated(
-    alloc: Global,
-    cell: &[u8],
-    count: u64,
-    text: &mut Vec<u8>,
-) -> Result<(), AllocError> {
-    let bytes = decode(alloc, cell)?;
-    for _ in 0..count {
-        text.extend_from_slice(bytes.as_slice())?;
+/// Reads an expression, again after a want of memory.
+fn parse(alloc: Global, pattern: &[u8]) -> Result<Ere, EreRefusal> {
+    match Ere::parse(alloc, pattern) {
+        Err(EreRefusal::Memory) => Ere::parse(alloc, pattern),
+        answer => answer,
+    }
+}
+
+/// A matcher, asked for again after a want of memory.
+fn matcher_of(alloc: Global, ere: &Ere) -> Result<Matcher, AllocError> {
+    match Matcher::new(alloc, ere) {
+        Err(AllocError) => Matcher::new(alloc, ere),
+        answer => answer,
+    }
+}
+
+/// What a matcher finds, asked again after a want of memory.
+fn find(matcher: &mut Matcher, asked: Question<'_>) -> Result<Option<(usize, usize)>, AllocError> {
+    match matcher.find(asked.text, asked.from) {
+        Err(AllocError) => matcher.find(asked.text, asked.from),
+        answer => answer,
+    }
+}
+
+/// Whether a matcher finds a match, asked again after a want of memory.
+fn is_match(matcher: &mut Matcher, asked: Question<'_>) -> Result<bool, AllocError> {
+    match matcher.is_match(asked.text, asked.from) {
+        Err(AllocError) => matcher.is_match(asked.text, asked.from),
+        answer => answer,
+    }
+}
+
+/// What a cache finds, asked again after a want of memory.
+fn find_cached(
+    cache: &mut Cache,
+    asked: Question<'_>,
+) -> Result<Option<(usize, usize)>, EreRefusal> {
+    match cache.find(asked.pattern, asked.text, asked.from) {
+        Err(EreRefusal::Memory) => cache.find(asked.pattern, asked.text, asked.from),
+        answer => answer,
+    }
+}
+
+/// Whether the caches give this answer too.
+fn are_agreed(
+    caches: &mut Caches,
+    asked: Question<'_>,
+    found: Option<(usize, usize)>,
+) -> Result<bool, EreRefusal> {
+    let small = find_cached(&mut caches.small, asked)?;
+    let large = find_cached(&mut caches.large, asked)?;
+    Ok(small == found && large == found)
+}
+
+/// Whether the matcher gives this answer again, and tells whether there is one.
+fn is_agreed(
+    matcher: &mut Matcher,
+    asked: Question<'_>,
+    found: Option<(usize, usize)>,
+) -> Result<bool, AllocError> {
+    let matches = is_match(matcher, asked)?;
+    let again = find(matcher, asked)?;
+    Ok(matches == found.is_some() && again == found)
+}
+
+/// Adds where a match is.
+fn push_place(found: Option<(usize, usize)>, out: &mut Vec<u8>) -> Result<(), AllocError> {
+    match found {
+        None => out.extend_from_slice(b"none"),
+        Some((start, end)) => {
+            push_decimal(start as u64, out)?;
+            out.extend_from_slice(b"-")?;
+            push_decimal(end as u64, out)
+        }
+    }
+}
+
+/// Adds the answer to a question.
+fn push_found(
+    caches: &mut Caches,
+    matcher: &mut Matcher,
+    asked: Question<'_>,
+    out: &mut Vec<u8>,
+) -> Result<(), EreRefusal> {
+    let found = find(matcher, asked)?;
+    if is_agreed(matcher, asked, found)? && are_agreed(caches, asked, found)? {
+        push_place(found, out)?;
+    } else {
+        out.extend_from_slice(b"differ")?;
     }
     Ok(())
 }
 
-/// The bytes of a field's parts.
-fn joined(alloc: Global, field: &[u8]) -> Result<Vec<u8>, AllocError> {
-    let mut text = Vec::new(alloc);
-    let mut count = None;
-    for cell in field.split(|byte| *byte == b'\t') {
-        count = match count {
-            None => Some(number(cell)),
-            Some(count) => {
-                push_repeated(alloc, cell, count, &mut text)?;
-                None
-            }
-        };
-    }
-    Ok(text)
-}
-
-/// The answer of the caches, if both give the same.
-fn cached(
-    caches: &mut Caches,
-    pattern: &[u8],
-    text: &[u8],
-    from: usize,
-) -> Result<Option<Option<(usize, usize)>>, EreRefusal> {
-    if from > text.len() {
-        return Ok(None);
-    }
-    let small = caches.small.find(pattern, text, from)?;
-    let large = caches.large.find(pattern, text, from)?;
-    if small != large {
-        return Ok(None);
-    }
-    Ok(Some(small))
-}
-
-/// The answer of a matcher, if it gives the same twice and tells whether there is one.
-fn matched(
-    matcher: &mut Matcher,
-    text: &[u8],
-    from: usize,
-) -> Result<Option<Option<(usize, usize)>>, AllocError> {
-    if from > text.len() {
-        return Ok(None);
-    }
-    let found = matcher.find(text, from)?;
-    let told = matcher.is_match(text, from)?;
-    let again = matcher.find(text, from)?;
-    if told != found.is_some() || again != found {
-        return Ok(None);
-    }
-    Ok(Some(found))
-}
-
-/// Adds an answer.
-fn push_answer(
-    alloc: Global,
-    answer: Option<Option<(usize, usize)>>,
-    line: &mut String,
-) -> Result<(), AllocError> {
-    match answer {
-        None => line.push_str("differ"),
-        Some(None) => line.push_str("none"),
-        Some(Some((start, end))) => line.push_str(format!(in alloc; "{start}-{end}")?.as_str()),
-    }
-}
-
-/// Adds the answer to one question.
-fn ask(
-    alloc: Global,
+/// Adds the answers for a text from each place, with blanks between them.
+fn push_from_places(
     caches: &mut Caches,
     matcher: &mut Matcher,
     pattern: &[u8],
     text: &[u8],
-    from: usize,
-    line: &mut String,
+    out: &mut Vec<u8>,
 ) -> Result<(), EreRefusal> {
-    let found = matched(matcher, text, from)?;
-    let kept = cached(caches, pattern, text, from)?;
-    push_answer(alloc, if kept == found { found } else { None }, line)?;
-    Ok(())
-}
-
-/// Adds the answers for the texts above, with spaces between them.
-fn ask_all(
-    alloc: Global,
-    caches: &mut Caches,
-    matcher: &mut Matcher,
-    pattern: &[u8],
-    line: &mut String,
-) -> Result<(), EreRefusal> {
-    for text in TEXTS {
-        for from in PLACES {
-            if from <= text.len() {
-                if !line.is_empty() {
-                    line.push_str(" ")?;
-                }
-                ask(alloc, caches, matcher, pattern, text, from, line)?;
-            }
+    for from in PLACES {
+        if from <= text.len() {
+            out.extend_from_slice(if out.is_empty() { b"" } else { b" " })?;
+            let asked = Question {
+                pattern,
+                text,
+                from,
+            };
+            push_found(caches, matcher, asked, out)?;
         }
     }
     Ok(())
 }
 
-/// The answer to a row.
-fn answer(alloc: Global, caches: &mut Caches, row: &[u8]) -> Result<String, EreRefusal> {
-    let mut line = String::new(alloc);
-    let kind = field(row, 0);
-    if kind == b"all".as_slice() {
-        let pattern = joined(alloc, field(row, 1))?;
-        let mut matcher = Matcher::new(alloc, &Ere::parse(alloc, pattern.as_slice())?)?;
-        ask_all(alloc, caches, &mut matcher, pattern.as_slice(), &mut line)?;
-        return Ok(line);
+/// Adds the answers for the texts above.
+fn push_all(
+    caches: &mut Caches,
+    matcher: &mut Matcher,
+    pattern: &[u8],
+    out: &mut Vec<u8>,
+) -> Result<(), EreRefusal> {
+    for text in TEXTS {
+        push_from_places(caches, matcher, pattern, text, out)?;
     }
-    let pattern = joined(alloc, field(row, 2))?;
-    let text = joined(alloc, field(row, 3))?;
-    let from = number(field(row, 1)) as usize;
-    let mut matcher = Matcher::new(alloc, &Ere::parse(alloc, pattern.as_slice())?)?;
-    ask(
-        alloc,
-        caches,
-        &mut matcher,
-        pattern.as_slice(),
-        text.as_slice(),
+    Ok(())
+}
+
+/// Adds the answer for a text from a place on.
+fn push_one(
+    caches: &mut Caches,
+    matcher: &mut Matcher,
+    pattern: &[u8],
+    text: &[u8],
+    from: usize,
+    out: &mut Vec<u8>,
+) -> Result<(), EreRefusal> {
+    if from > text.len() {
+        out.extend_from_slice(b"no such place")?;
+        return Ok(());
+    }
+    let asked = Question {
+        pattern,
+        text,
         from,
-        &mut line,
-    )?;
-    if kind == b"states".as_slice() {
-        line.push_str(if matcher.emptyings() > 0 {
-            " emptied"
-        } else {
-            " kept"
-        })?;
+    };
+    push_found(caches, matcher, asked, out)
+}
+
+/// The bytes of a field's parts.
+fn joined(alloc: Global, field: &[u8]) -> Result<Vec<u8>, AllocError> {
+    let mut bytes = Vec::new(alloc);
+    push_parts(alloc, field, &mut bytes)?;
+    Ok(bytes)
+}
+
+/// Adds the answer to a row on an expression that is read.
+fn push_searched(
+    alloc: Global,
+    caches: &mut Caches,
+    matcher: &mut Matcher,
+    pattern: &[u8],
+    row: &[u8],
+    out: &mut Vec<u8>,
+) -> Result<(), EreRefusal> {
+    if field(row, 0) == b"all".as_slice() {
+        return push_all(caches, matcher, pattern, out);
     }
-    Ok(line)
+    let text = joined(alloc, field(row, 3))?;
+    let from = number(field(row, 2)) as usize;
+    push_one(caches, matcher, pattern, text.as_slice(), from, out)?;
+    if field(row, 0) == b"states".as_slice() {
+        let emptied = matcher.emptyings() > 0;
+        out.extend_from_slice(if emptied { b" emptied" } else { b" kept" })?;
+    }
+    Ok(())
+}
+
+/// Adds the answer to a row, but for a refusal.
+fn push_answer(
+    alloc: Global,
+    caches: &mut Caches,
+    row: &[u8],
+    out: &mut Vec<u8>,
+) -> Result<(), EreRefusal> {
+    let pattern = joined(alloc, field(row, 1))?;
+    let ere = parse(alloc, pattern.as_slice())?;
+    if field(row, 0) == b"parse".as_slice() {
+        out.extend_from_slice(b"ok")?;
+        return Ok(());
+    }
+    let mut matcher = matcher_of(alloc, &ere)?;
+    push_searched(alloc, caches, &mut matcher, pattern.as_slice(), row, out)
+}
+
+/// The answer to a row.
+fn answer(alloc: Global, caches: &mut Caches, row: &[u8]) -> Result<Vec<u8>, AllocError> {
+    let mut out = Vec::new(alloc);
+    if let Err(why) = push_answer(alloc, caches, row, &mut out) {
+        push_decimal(u64::from(why.number()), &mut out)?;
+    }
+    Ok(out)
 }
 
 fn main(rt: HostRuntime) -> io::Result<()> {
@@ -202,11 +273,13 @@ fn main(rt: HostRuntime) -> io::Result<()> {
         small: Cache::with(rt.alloc(), 1)?,
         large: Cache::with(rt.alloc(), 1024)?,
     };
-    for row in rt.lines(rt.alloc()) {
-        match answer(rt.alloc(), &mut caches, row?.as_str().as_bytes()) {
-            Ok(line) => println!(rt; "{line}")?,
-            Err(why) => println!(rt; "refused: {why}")?,
-        }
+    for line in rt.lines(rt.alloc()) {
+        let row = line?;
+        let answer = answer(rt.alloc(), &mut caches, row.as_str().as_bytes())?;
+        println!(rt;
+            "{}",
+            str::from_utf8(answer.as_slice()).unwrap_or("not a text")
+        )?;
     }
     Ok(())
 }

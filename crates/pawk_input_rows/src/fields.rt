@@ -1,78 +1,107 @@
 //! Rows about fields.
 
-use crate::text;
 use pawk_input::FieldSeparator;
+use pawk_rows::{cell, decode, number, push_decimal, push_encoded};
 use std::alloc::{AllocError, Global};
 
-/// Appends how many fields a record has, and each.
-pub fn show_fields(words: &[Vec<u8>], line: &mut String) -> Result<(), AllocError> {
-    let [record] = words else {
-        return line.push_str("no record");
-    };
-    write!(line, "{}|", pawk_input::count_fields(record))?;
-    for field in pawk_input::fields(record) {
-        text::append(line, field)?;
-        line.push('|')?;
-    }
-    Ok(())
-}
-
-/// Appends the field of a number.
-pub fn show_field(words: &[Vec<u8>], line: &mut String) -> Result<(), AllocError> {
-    let [number, record] = words else {
-        return line.push_str("no number or record");
-    };
-    let k = text::number(number) as usize;
-    if k == 0 {
-        return line.push_str("no such field");
-    }
-    match pawk_input::field(record, k) {
-        Some(field) => {
-            line.push('=')?;
-            text::append(line, field)
-        }
-        None => line.push_str("none"),
-    }
-}
-
 /// What separates the fields: blanks for a space, else a byte, in paragraph mode newlines too.
-fn separator(fs: &[u8], paragraph: &[u8]) -> Option<FieldSeparator> {
+fn separator(fs: &[u8], paragraph: bool) -> Option<FieldSeparator> {
     match fs {
         [b' '] => Some(FieldSeparator::Blanks),
-        [byte] if paragraph == b"1".as_slice() => Some(FieldSeparator::ByteOrNewline(*byte)),
+        [byte] if paragraph => Some(FieldSeparator::ByteOrNewline(*byte)),
         [byte] => Some(FieldSeparator::Byte(*byte)),
         _ => None,
     }
 }
 
-/// Appends the ranges of a record's fields.
-pub fn show_ranges(alloc: Global, words: &[Vec<u8>], line: &mut String) -> Result<(), AllocError> {
-    let [fs, paragraph, record] = words else {
-        return line.push_str("no record");
-    };
-    let Some(separator) = separator(fs, paragraph) else {
-        return line.push_str("no such separator");
-    };
-    let mut ranges = Vec::new(alloc);
-    pawk_input::append_ranges(&mut ranges, separator, record)?;
-    for range in &ranges {
-        write!(line, "{}..{};", range.start, range.end)?;
+/// Adds a field and a bar.
+fn push_field(field: &[u8], out: &mut Vec<u8>) -> Result<(), AllocError> {
+    push_encoded(field, out)?;
+    Ok(out.push(b'|')?)
+}
+
+/// Adds how many fields a record has, and each.
+fn push_fields(record: &[u8], out: &mut Vec<u8>) -> Result<(), AllocError> {
+    push_decimal(pawk_input::count_fields(record) as u64, out)?;
+    out.push(b'|')?;
+    for field in pawk_input::fields(record) {
+        push_field(field, out)?;
     }
     Ok(())
 }
 
-/// Appends how many fields a record has, and each.
-pub fn show_pieces(words: &[Vec<u8>], line: &mut String) -> Result<(), AllocError> {
-    let [fs, paragraph, record] = words else {
-        return line.push_str("no record");
-    };
-    let Some(separator) = separator(fs, paragraph) else {
-        return line.push_str("no such separator");
-    };
-    write!(line, "{}|", pawk_input::split(separator, record).count())?;
-    for field in pawk_input::split(separator, record) {
-        text::append(line, field)?;
-        line.push('|')?;
+/// Adds the field of a number.
+fn push_numbered(record: &[u8], number: usize, out: &mut Vec<u8>) -> Result<(), AllocError> {
+    if number == 0 {
+        return out.extend_from_slice(b"no such field");
+    }
+    match pawk_input::field(record, number) {
+        Some(field) => {
+            out.push(b'=')?;
+            push_encoded(field, out)
+        }
+        None => out.extend_from_slice(b"none"),
+    }
+}
+
+/// Adds the ranges of a record's fields.
+fn push_ranges(
+    alloc: Global,
+    record: &[u8],
+    separator: FieldSeparator,
+    out: &mut Vec<u8>,
+) -> Result<(), AllocError> {
+    let mut ranges = Vec::new(alloc);
+    pawk_input::append_ranges(&mut ranges, separator, record)?;
+    for range in &ranges {
+        push_decimal(range.start as u64, out)?;
+        out.extend_from_slice(b"..")?;
+        push_decimal(range.end as u64, out)?;
+        out.push(b';')?;
     }
     Ok(())
+}
+
+/// Adds how many fields a record has, and each.
+fn push_pieces(
+    record: &[u8],
+    separator: FieldSeparator,
+    out: &mut Vec<u8>,
+) -> Result<(), AllocError> {
+    push_decimal(pawk_input::split(separator, record).count() as u64, out)?;
+    out.push(b'|')?;
+    for field in pawk_input::split(separator, record) {
+        push_field(field, out)?;
+    }
+    Ok(())
+}
+
+/// The separator of a row, where it has one.
+fn separator_of(alloc: Global, row: &[u8]) -> Result<Option<FieldSeparator>, AllocError> {
+    let fs = decode(alloc, cell(row, 1))?;
+    Ok(separator(fs.as_slice(), cell(row, 2) == b"1".as_slice()))
+}
+
+/// Adds the answer to a row on the fields between a separator.
+fn push_separated(alloc: Global, row: &[u8], out: &mut Vec<u8>) -> Result<(), AllocError> {
+    let record = decode(alloc, cell(row, 3))?;
+    match separator_of(alloc, row)? {
+        None => out.extend_from_slice(b"no such separator"),
+        Some(separator) => match cell(row, 0) {
+            b"split" => push_ranges(alloc, record.as_slice(), separator, out),
+            _ => push_pieces(record.as_slice(), separator, out),
+        },
+    }
+}
+
+/// Adds the answer to a row on fields.
+pub fn push_answer(alloc: Global, row: &[u8], out: &mut Vec<u8>) -> Result<(), AllocError> {
+    match cell(row, 0) {
+        b"fields" => push_fields(decode(alloc, cell(row, 1))?.as_slice(), out),
+        b"field" => {
+            let record = decode(alloc, cell(row, 2))?;
+            push_numbered(record.as_slice(), number(cell(row, 1)) as usize, out)
+        }
+        _ => push_separated(alloc, row, out),
+    }
 }

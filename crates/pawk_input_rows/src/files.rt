@@ -1,58 +1,126 @@
-//! Rows about files and their records.
+//! Rows about files, their records and blocks.
 
-use crate::text;
-use pawk_input::{Input, Item};
+use crate::plans;
+use pawk_input::{Input, Records, count_block, count_blocks};
+use pawk_rows::{cell, decode, number, push_decimal, push_encoded};
 use std::alloc::{AllocError, Global};
 
-/// The list of files that words name: a name, its bytes, and so on.
-fn pairs(alloc: Global, words: &[Vec<u8>]) -> Result<Vec<(Vec<u8>, Vec<u8>)>, AllocError> {
-    let mut list = Vec::new(alloc);
-    for pair in words.chunks(2) {
-        if let [name, bytes] = pair {
-            list.push((name.clone()?, bytes.clone()?))?;
+/// The number of the cell where a row's files begin. The separator stands before them.
+fn first_file(verb: &[u8]) -> usize {
+    match verb {
+        b"files" => 1,
+        b"records" => 2,
+        b"counted" | b"begins" => 4,
+        _ => 3,
+    }
+}
+
+/// The files of a row, from a cell on: names and bytes by turns.
+fn files_of(
+    alloc: Global,
+    row: &[u8],
+    first: usize,
+) -> Result<Vec<(Vec<u8>, Vec<u8>)>, AllocError> {
+    let mut files = Vec::new(alloc);
+    let mut name = None;
+    for word in row.split(|byte| *byte == b'\t').skip(first) {
+        let bytes = decode(alloc, word)?;
+        match name.take() {
+            None => name = Some(bytes),
+            Some(name) => files.push((name, bytes))?,
         }
     }
-    Ok(list)
+    Ok(files)
 }
 
-/// The input that words name; without files where it is too large.
-pub fn input(alloc: Global, words: &[Vec<u8>]) -> Result<Option<Input>, AllocError> {
-    Ok(Input::new(pairs(alloc, words)?).ok())
+/// Adds numbers with a blank between them, and a semicolon.
+pub fn push_numbers(numbers: &[u64], out: &mut Vec<u8>) -> Result<(), AllocError> {
+    for (place, number) in numbers.iter().enumerate() {
+        if place > 0 {
+            out.push(b' ')?;
+        }
+        push_decimal(*number, out)?;
+    }
+    Ok(out.push(b';')?)
 }
 
-/// Appends each file's name and size.
-pub fn show_files(alloc: Global, words: &[Vec<u8>], line: &mut String) -> Result<(), AllocError> {
-    let Some(input) = input(alloc, words)? else {
-        return line.push_str("too large");
-    };
+/// Adds each file's name and size.
+fn push_files(input: &Input, out: &mut Vec<u8>) -> Result<(), AllocError> {
     for file in 0..input.files() {
-        text::append(line, input.name(file))?;
-        write!(line, " {};", input.size(file))?;
+        push_encoded(input.name(file), out)?;
+        out.push(b' ')?;
+        push_numbers(&[input.size(file) as u64], out)?;
     }
     Ok(())
 }
 
-/// Appends a record: its bytes, its file's name and place, `NR` and `FNR`.
-pub fn append_item(line: &mut String, item: Item<'_>) -> Result<(), AllocError> {
-    text::append(line, item.bytes)?;
-    line.push(' ')?;
-    text::append(line, item.name)?;
-    write!(line, " {} {} {};", item.file, item.nr, item.fnr)
-}
-
-/// Appends the records of the whole input.
-pub fn show_records(alloc: Global, words: &[Vec<u8>], line: &mut String) -> Result<(), AllocError> {
-    let [separator, files @ ..] = words else {
-        return line.push_str("no separator");
-    };
-    let Some(input) = input(alloc, files)? else {
-        return line.push_str("too large");
-    };
-    if separator.len() > 1 {
-        return line.push_str("no such separator");
-    }
-    for item in input.records(separator) {
-        append_item(line, item)?;
+/// Adds records: the bytes of each, its file's name and place, `NR` and `FNR`.
+pub fn push_records(records: Records<'_>, out: &mut Vec<u8>) -> Result<(), AllocError> {
+    for item in records {
+        push_encoded(item.bytes, out)?;
+        out.push(b' ')?;
+        push_encoded(item.name, out)?;
+        out.push(b' ')?;
+        push_numbers(&[item.file as u64, item.nr, item.fnr], out)?;
     }
     Ok(())
+}
+
+/// Adds how many records begin in a range of the first file.
+fn push_begins(row: &[u8], rs: &[u8], input: &Input, out: &mut Vec<u8>) -> Result<(), AllocError> {
+    let start = number(cell(row, 1)) as usize;
+    let end = number(cell(row, 2)) as usize;
+    if rs.len() > 1 || input.files() == 0 || start > end || end > input.size(0) {
+        return out.extend_from_slice(b"no such range");
+    }
+    push_decimal(count_block(input, rs, 0, start..end), out)
+}
+
+/// Adds how many records begin in each block.
+fn push_counts(
+    alloc: Global,
+    rs: &[u8],
+    input: &Input,
+    block: usize,
+    out: &mut Vec<u8>,
+) -> Result<(), AllocError> {
+    if rs.len() > 1 || block == 0 {
+        return out.extend_from_slice(b"no such block");
+    }
+    for count in &count_blocks(alloc, input, rs, block)? {
+        push_numbers(&[*count], out)?;
+    }
+    Ok(())
+}
+
+/// Adds the answer to a row on files.
+fn push_on(
+    alloc: Global,
+    row: &[u8],
+    rs: &[u8],
+    input: &Input,
+    out: &mut Vec<u8>,
+) -> Result<(), AllocError> {
+    let asked = number(cell(row, 1));
+    match cell(row, 0) {
+        b"files" => push_files(input, out),
+        b"records" if rs.len() <= 1 => push_records(input.records(rs), out),
+        b"begins" => push_begins(row, rs, input, out),
+        b"counts" => push_counts(alloc, rs, input, asked as usize, out),
+        b"cuts" => plans::push_at_cuts(alloc, cell(row, 1), rs, input, out),
+        b"size" => plans::push_by_size(alloc, rs, input, asked, out),
+        b"chunked" => plans::push_chunked(alloc, rs, input, asked, out),
+        b"counted" => plans::push_counted(alloc, row, rs, input, out),
+        _ => out.extend_from_slice(b"no such row"),
+    }
+}
+
+/// Adds the answer to a row on files.
+pub fn push_answer(alloc: Global, row: &[u8], out: &mut Vec<u8>) -> Result<(), AllocError> {
+    let first = first_file(cell(row, 0));
+    let rs = decode(alloc, cell(row, first.saturating_sub(1)))?;
+    match Input::new(files_of(alloc, row, first)?) {
+        Ok(input) => push_on(alloc, row, rs.as_slice(), &input, out),
+        Err(_) => out.extend_from_slice(b"too large"),
+    }
 }

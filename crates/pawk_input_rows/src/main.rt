@@ -22,46 +22,39 @@
 //! | `refusals` | each refusal with its number and text |
 #![tactic(auto)]
 
-mod chunks;
-mod counts;
 mod fields;
 mod files;
-mod text;
+mod plans;
 
+use pawk_rows::cell;
 use std::alloc::{AllocError, Global};
 use std::io;
 
-/// The answer to a row.
-fn answer(alloc: Global, row: &str) -> Result<String, AllocError> {
-    let mut line = String::new(alloc);
-    let words = text::words(alloc, row)?;
-    let Some((verb, asked)) = words.split_first() else {
-        return Ok(line);
-    };
-    match verb.as_slice() {
-        b"files" => files::show_files(alloc, asked, &mut line)?,
-        b"records" => files::show_records(alloc, asked, &mut line)?,
-        b"chunked" => chunks::show_chunked(alloc, asked, &mut line)?,
-        b"size" => chunks::show_by_size(alloc, asked, &mut line)?,
-        b"cuts" => chunks::show_at_cuts(alloc, asked, &mut line)?,
-        b"many" => chunks::show_many(alloc, asked, &mut line)?,
-        b"counts" => counts::show_counts(alloc, asked, &mut line)?,
-        b"counted" => counts::show_counted(alloc, asked, &mut line)?,
-        b"begins" => counts::show_begins(alloc, asked, &mut line)?,
-        b"split" => fields::show_ranges(alloc, asked, &mut line)?,
-        b"pieces" => fields::show_pieces(asked, &mut line)?,
-        b"fields" => fields::show_fields(asked, &mut line)?,
-        b"field" => fields::show_field(asked, &mut line)?,
-        b"refusals" => chunks::show_refusals(&mut line)?,
-        _ => line.push_str("no such row")?,
+/// Adds the answer to a row.
+fn push_answer(alloc: Global, row: &[u8], out: &mut Vec<u8>) -> Result<(), AllocError> {
+    match cell(row, 0) {
+        b"split" | b"pieces" | b"fields" | b"field" => fields::push_answer(alloc, row, out),
+        b"many" => plans::push_many(alloc, row, out),
+        b"refusals" => plans::push_refusals(alloc, out),
+        _ => files::push_answer(alloc, row, out),
     }
-    Ok(line)
+}
+
+/// The answer to a row.
+fn answer(alloc: Global, row: &[u8]) -> Result<Vec<u8>, AllocError> {
+    let mut out = Vec::new(alloc);
+    push_answer(alloc, row, &mut out)?;
+    Ok(out)
 }
 
 fn main(rt: HostRuntime) -> io::Result<()> {
-    for row in rt.lines(rt.alloc()) {
-        let line = answer(rt.alloc(), row?.as_str())?;
-        println!(rt; "{line}")?;
+    for line in rt.lines(rt.alloc()) {
+        let row = line?;
+        let answer = answer(rt.alloc(), row.as_str().as_bytes())?;
+        println!(rt;
+            "{}",
+            str::from_utf8(answer.as_slice()).unwrap_or("not a text")
+        )?;
     }
     Ok(())
 }

@@ -1,3 +1,4 @@
+pub mod Bits
 pub mod Shift
 pub mod Leftmost
 pub mod Turns

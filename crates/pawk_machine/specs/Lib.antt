@@ -1,5 +1,6 @@
 pub mod Regex
 pub mod Marks
+pub mod Members
 pub mod Tree
 pub mod Expand
 pub mod Hints

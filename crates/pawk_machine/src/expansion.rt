@@ -7,6 +7,7 @@ ghost use Rattle.pawk_machine.specs.Tree.{regex_of};
 ghost use Rattle.pawk_pattern.specs.Sets.{none};
 ghost use Rattle.pawk_pattern.specs.Tree.{pattern_of};
 
+use crate::members::Members;
 use crate::node::Node;
 use pawk_pattern::{ByteSet, Expression};
 use std::alloc::{AllocError, Global};
@@ -16,7 +17,7 @@ use std::alloc::{AllocError, Global};
 fn leaf(alloc: Global, set: &ByteSet) -> Result<Node, AllocError>
     ensures { IfOk result (λ node. regex_of node ≡ Bytes set.now.members) }
 {
-    Ok(Node::Bytes(Box::new(alloc, *set)?))
+    Ok(Node::Bytes(Box::new(alloc, Members::of(*set))?))
 }
 
 /// What matches nothing.
@@ -24,7 +25,7 @@ fn leaf(alloc: Global, set: &ByteSet) -> Result<Node, AllocError>
 fn nothing(alloc: Global) -> Result<Node, AllocError>
     ensures { IfOk result (λ node. regex_of node ≡ Bytes none) }
 {
-    Ok(Node::Bytes(Box::new(alloc, ByteSet::none())?))
+    Ok(Node::Bytes(Box::new(alloc, Members::of(ByteSet::none()))?))
 }
 
 /// The expression with its repetitions written out.
@@ -81,7 +82,8 @@ fn up_to(alloc: Global, count: u8, a: &Expression) -> Result<Node, AllocError>
 /// From the least number of copies to the most.
 #[cycle(expanding)]
 fn from_to(alloc: Global, least: u8, most: u8, a: &Expression) -> Result<Node, AllocError>
-    ensures { IfOk result (λ node. regex_of node ≡ repeated least (Some most) (expand (pattern_of a.now))) }
+    ensures { IfOk result
+        (λ node. regex_of node ≡ repeated least (Some most) (expand (pattern_of a.now))) }
 {
     if least > most {
         return nothing(alloc);

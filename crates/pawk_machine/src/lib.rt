@@ -4,12 +4,14 @@
 mod expansion;
 mod hints;
 mod marks;
+mod members;
 mod node;
 mod scan;
 mod table;
 
 pub use crate::expansion::expand;
 pub use crate::hints::{first_byte, is_anchored};
+pub use crate::members::Members;
 pub use crate::node::Node;
 pub use crate::scan::{has_match, search};
 pub use crate::table::{Table, begin};

@@ -1,13 +1,14 @@
 // Sets of places as marks.
 
 ghost use Rattle.pawk_machine.specs.Marks.{final, nullable, places, shift, turns};
+ghost use Rattle.pawk_machine.specs.Members.{members_of};
 ghost use Rattle.pawk_machine.specs.Regex.{Bytes, Plus, copies};
 ghost use Rattle.pawk_machine.specs.Tree.{regex_of};
 ghost use Rattle.pawk_pattern.specs.Pattern.{Holds};
 ghost use Rattle.std.specs.Prelude.{◌≡◌, ◌↔◌, ◌≤◌, ◌-◌, ◌∷◌, ℕ, Bool, List, false, true, ◌&&◌, ◌||◌, ◌++◌, drop, get_or, length, IsTrue, OnOk, IfOk};
 
+use crate::members::Members;
 use crate::node::Node;
-use pawk_pattern::ByteSet;
 use std::alloc::AllocError;
 
 /// A bound is at most this.
@@ -185,7 +186,8 @@ pub fn note_turns<'a>(
     first: bool,
     out: &mut Vec<bool>,
 ) -> Result<View<'a>, AllocError>
-    ensures out { OnOk result (out.new.items ≡ out.old.items ++ turns (regex_of node.now) marks.now first) }
+    ensures out { OnOk result
+        (out.new.items ≡ out.old.items ++ turns (regex_of node.now) marks.now first) }
     ensures ends { IfOk result (λ v. v.ends ≡ final (regex_of node.now) marks.now first false) }
     ensures nullable { IfOk result (λ v. v.nullable ≡ nullable (regex_of node.now) first false) }
     ensures rest { IfOk result (λ v. v.rest.now ≡ drop (places (regex_of node.now)) marks.now) }
@@ -218,7 +220,8 @@ fn note_turn<'a>(
     first: bool,
     out: &mut Vec<bool>,
 ) -> Result<View<'a>, AllocError>
-    ensures out { OnOk result (out.new.items ≡ out.old.items ++ final (regex_of a.now) marks.now first false ∷ turns (regex_of a.now) marks.now first) }
+    ensures out { OnOk result (out.new.items ≡ out.old.items
+        ++ final (regex_of a.now) marks.now first false ∷ turns (regex_of a.now) marks.now first) }
     ensures ends { IfOk result (λ v. v.ends ≡ final (regex_of a.now) marks.now first false) }
     ensures nullable { IfOk result (λ v. v.nullable ≡ nullable (regex_of a.now) first false) }
     ensures rest { IfOk result (λ v. v.rest.now ≡ drop (places (regex_of a.now)) marks.now) }
@@ -239,10 +242,14 @@ fn note_copies<'a>(
     first: bool,
     out: &mut Vec<bool>,
 ) -> Result<View<'a>, AllocError>
-    ensures out { OnOk result (out.new.items ≡ out.old.items ++ turns (copies count (regex_of a.now)) marks.now first) }
-    ensures ends { IfOk result (λ v. v.ends ≡ final (copies count (regex_of a.now)) marks.now first false) }
-    ensures nullable { IfOk result (λ v. v.nullable ≡ nullable (copies count (regex_of a.now)) first false) }
-    ensures rest { IfOk result (λ v. v.rest.now ≡ drop (places (copies count (regex_of a.now))) marks.now) }
+    ensures out { OnOk result
+        (out.new.items ≡ out.old.items ++ turns (copies count (regex_of a.now)) marks.now first) }
+    ensures ends { IfOk result
+        (λ v. v.ends ≡ final (copies count (regex_of a.now)) marks.now first false) }
+    ensures nullable { IfOk result
+        (λ v. v.nullable ≡ nullable (copies count (regex_of a.now)) first false) }
+    ensures rest { IfOk result
+        (λ v. v.rest.now ≡ drop (places (copies count (regex_of a.now))) marks.now) }
 {
     if let Node::Bytes(_) = a {
         return Ok(look_copies(count, a, marks, first, false));
@@ -305,14 +312,19 @@ pub fn push_shifted<'a>(
     step: Step,
     out: &mut Vec<bool>,
 ) -> Result<Shifted<'a>, AllocError>
-    ensures out { (more : List Bool) → source.entry.turns.now ≡ turns (regex_of node.now) source.entry.marks.now step.first ++ more
+    ensures out { (more : List Bool) → source.entry.turns.now
+        ≡ turns (regex_of node.now) source.entry.marks.now step.first ++ more
         → OnOk result (out.new.items ≡ out.old.items
         ++ shift (regex_of node.now) enter source.entry.marks.now step.byte step.first) }
-    ensures turns { (more : List Bool) → source.entry.turns.now ≡ turns (regex_of node.now) source.entry.marks.now step.first ++ more
+    ensures turns { (more : List Bool) → source.entry.turns.now
+        ≡ turns (regex_of node.now) source.entry.marks.now step.first ++ more
         → IfOk result (λ s. s.turns.now ≡ more) }
-    ensures ends { IfOk result (λ s. s.view.ends ≡ final (regex_of node.now) source.entry.marks.now step.first false) }
-    ensures nullable { IfOk result (λ s. s.view.nullable ≡ nullable (regex_of node.now) step.first false) }
-    ensures marks { IfOk result (λ s. s.view.rest.now ≡ drop (places (regex_of node.now)) source.entry.marks.now) }
+    ensures ends { IfOk result
+        (λ s. s.view.ends ≡ final (regex_of node.now) source.entry.marks.now step.first false) }
+    ensures nullable { IfOk result
+        (λ s. s.view.nullable ≡ nullable (regex_of node.now) step.first false) }
+    ensures marks { IfOk result
+        (λ s. s.view.rest.now ≡ drop (places (regex_of node.now)) source.entry.marks.now) }
 {
     match node {
         Node::Empty | Node::Start | Node::End => Ok(Shifted {
@@ -372,14 +384,19 @@ fn push_turn<'a>(
     step: Step,
     out: &mut Vec<bool>,
 ) -> Result<Shifted<'a>, AllocError>
-    ensures out { (more : List Bool) → source.entry.turns.now ≡ turns (Plus (regex_of a.now)) source.entry.marks.now step.first ++ more
+    ensures out { (more : List Bool) → source.entry.turns.now
+        ≡ turns (Plus (regex_of a.now)) source.entry.marks.now step.first ++ more
         → OnOk result (out.new.items ≡ out.old.items
         ++ shift (Plus (regex_of a.now)) enter source.entry.marks.now step.byte step.first) }
-    ensures turns { (more : List Bool) → source.entry.turns.now ≡ turns (Plus (regex_of a.now)) source.entry.marks.now step.first ++ more
+    ensures turns { (more : List Bool) → source.entry.turns.now
+        ≡ turns (Plus (regex_of a.now)) source.entry.marks.now step.first ++ more
         → IfOk result (λ s. s.turns.now ≡ more) }
-    ensures ends { IfOk result (λ s. s.view.ends ≡ final (regex_of a.now) source.entry.marks.now step.first false) }
-    ensures nullable { IfOk result (λ s. s.view.nullable ≡ nullable (regex_of a.now) step.first false) }
-    ensures marks { IfOk result (λ s. s.view.rest.now ≡ drop (places (regex_of a.now)) source.entry.marks.now) }
+    ensures ends { IfOk result
+        (λ s. s.view.ends ≡ final (regex_of a.now) source.entry.marks.now step.first false) }
+    ensures nullable { IfOk result
+        (λ s. s.view.nullable ≡ nullable (regex_of a.now) step.first false) }
+    ensures marks { IfOk result
+        (λ s. s.view.rest.now ≡ drop (places (regex_of a.now)) source.entry.marks.now) }
 {
     match source.turns {
         [again, turns @ ..] => {
@@ -404,15 +421,21 @@ fn push_copies<'a>(
     out: &mut Vec<bool>,
 ) -> Result<Shifted<'a>, AllocError>
     ensures out { (more : List Bool)
-        → source.entry.turns.now ≡ turns (copies count (regex_of a.now)) source.entry.marks.now step.first ++ more
+        → source.entry.turns.now
+        ≡ turns (copies count (regex_of a.now)) source.entry.marks.now step.first ++ more
         → OnOk result (out.new.items ≡ out.old.items
-        ++ shift (copies count (regex_of a.now)) enter source.entry.marks.now step.byte step.first) }
+        ++ shift (copies count (regex_of a.now)) enter source.entry.marks.now
+        step.byte step.first) }
     ensures turns { (more : List Bool)
-        → source.entry.turns.now ≡ turns (copies count (regex_of a.now)) source.entry.marks.now step.first ++ more
+        → source.entry.turns.now
+        ≡ turns (copies count (regex_of a.now)) source.entry.marks.now step.first ++ more
         → IfOk result (λ s. s.turns.now ≡ more) }
-    ensures ends { IfOk result (λ s. s.view.ends ≡ final (copies count (regex_of a.now)) source.entry.marks.now step.first false) }
-    ensures nullable { IfOk result (λ s. s.view.nullable ≡ nullable (copies count (regex_of a.now)) step.first false) }
-    ensures marks { IfOk result (λ s. s.view.rest.now ≡ drop (places (copies count (regex_of a.now))) source.entry.marks.now) }
+    ensures ends { IfOk result (λ s. s.view.ends
+        ≡ final (copies count (regex_of a.now)) source.entry.marks.now step.first false) }
+    ensures nullable { IfOk result
+        (λ s. s.view.nullable ≡ nullable (copies count (regex_of a.now)) step.first false) }
+    ensures marks { IfOk result (λ s. s.view.rest.now
+        ≡ drop (places (copies count (regex_of a.now))) source.entry.marks.now) }
 {
     if let Node::Bytes(set) = a {
         if 0 < count && count as usize <= source.marks.len() {
@@ -446,7 +469,7 @@ fn push_copies<'a>(
 /// As `push_shifted`, of so many copies of a byte set: each mark goes one place on where the byte belongs.
 fn push_run(
     count: u8,
-    set: &ByteSet,
+    set: &Members,
     enter: bool,
     marks: &[bool],
     byte: u8,
@@ -455,7 +478,7 @@ fn push_run(
     requires some { 1 ≤ count }
     requires within { count ≤ length marks.now }
     ensures { (first : Bool) → OnOk result (out.new.items ≡ out.old.items
-        ++ shift (copies count (Bytes set.now.members)) enter marks.now byte first) }
+        ++ shift (copies count (Bytes (members_of set.now))) enter marks.now byte first) }
 {
     let count = count as usize;
     if !set.contains(byte) {

@@ -1,6 +1,6 @@
 // Expressions as the matcher runs them.
 
-use pawk_pattern::ByteSet;
+use crate::members::Members;
 
 /// An expression whose repetitions are copies, or turns without a bound.
 #[derive(Drop)]
@@ -8,7 +8,7 @@ pub enum Node {
     Empty,
     Start,
     End,
-    Bytes(Box<ByteSet>),
+    Bytes(Box<Members>),
     Sequence(Box<Node>, Box<Node>),
     Either(Box<Node>, Box<Node>),
     /// So many copies, one after the other.

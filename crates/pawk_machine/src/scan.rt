@@ -26,7 +26,8 @@ fn row_end(table: &Table, text: &[u8], place: usize) -> usize
     requires within { place ≤ length text.now }
     ensures after { place ≤ result }
     ensures within { result ≤ length text.now }
-    ensures idle { (k : ℕ) → place ≤ k → k < result → slice_index table.now.next.items (768 + slice_index text.now k) ≡ 3 }
+    ensures idle { (k : ℕ) → place ≤ k → k < result
+        → slice_index table.now.next.items (768 + slice_index text.now k) ≡ 3 }
 {
     let mut end = place;
     while end < text.len() {
@@ -60,7 +61,8 @@ fn idle_end(node: &Node, table: &Table, first: Option<u8>, text: &[u8], place: u
     requires within { place ≤ length text.now }
     ensures after { place ≤ result }
     ensures within { result ≤ length text.now }
-    ensures none { (k : ℕ) → place ≤ k → k < result → StartsNone (Takes (regex_of node.now) text.now) k }
+    ensures none { (k : ℕ) → place ≤ k → k < result
+        → StartsNone (Takes (regex_of node.now) text.now) k }
 {
     if let Some(byte) = first {
         return byte_end(byte, text, place);
@@ -85,7 +87,10 @@ pub fn first_start(
     requires begins { IfSome first (λ byte. BeginsWith (regex_of node.now) byte) }
     requires within { from ≤ length text.now }
     ensures table { IsTable (regex_of node.now) table.new }
-    ensures start { IfOk result (λ start. MatchOption start (NoneFrom (Takes (regex_of node.now) text.now) from) (λ x. MayStart (Takes (regex_of node.now) text.now) from x.0 × (x.0 ≤ x.1) × (x.1 ≤ length text.now))) }
+    ensures start { IfOk result (λ start. MatchOption start
+        (NoneFrom (Takes (regex_of node.now) text.now) from)
+        (λ x. MayStart (Takes (regex_of node.now) text.now) from x.0 × (x.0 ≤ x.1)
+        × (x.1 ≤ length text.now))) }
 {
     let mut begin = from;
     let mut place = from;
@@ -122,7 +127,9 @@ pub fn longest_from(
     requires table { IsTable (regex_of node.now) table.old }
     requires within { from ≤ length text.now }
     ensures table { IsTable (regex_of node.now) table.new }
-    ensures longest { IfOk result (λ end. MatchOption end (StartsNone (Takes (regex_of node.now) text.now) from) (IsLongest (Takes (regex_of node.now) text.now) from)) }
+    ensures longest { IfOk result (λ end. MatchOption end
+        (StartsNone (Takes (regex_of node.now) text.now) from)
+        (IsLongest (Takes (regex_of node.now) text.now) from)) }
 {
     let mut best = None;
     let mut place = from;
@@ -157,7 +164,8 @@ fn starts_within(
     requires ordered { low ≤ high }
     requires within { high < length text.now }
     ensures table { IsTable (regex_of node.now) table.new }
-    ensures none { IfOk result (λ told. OnFalse told ((k : ℕ) → low ≤ k → k ≤ high → StartsNone (Takes (regex_of node.now) text.now) k)) }
+    ensures none { IfOk result (λ told. OnFalse told
+        ((k : ℕ) → low ≤ k → k ≤ high → StartsNone (Takes (regex_of node.now) text.now) k)) }
 {
     let mut at = if low == 0 { OPEN } else { IDLE };
     let mut place = low;
@@ -196,7 +204,8 @@ fn least_start(
     requires table { IsTable (regex_of node.now) table.old }
     requires within { high ≤ length text.now }
     ensures table { IsTable (regex_of node.now) table.new }
-    ensures none { IfOk result (λ least. (k : ℕ) → low ≤ k → k < least → StartsNone (Takes (regex_of node.now) text.now) k) }
+    ensures none { IfOk result (λ least. (k : ℕ) → low ≤ k → k < least
+        → StartsNone (Takes (regex_of node.now) text.now) k) }
     ensures after { IfOk result (λ least. low ≤ least) }
 {
     let mut least = low;
@@ -282,7 +291,8 @@ pub fn has_match(
     requires begins { IfSome first (λ byte. BeginsWith (regex_of node.now) byte) }
     requires within { from ≤ length text.now }
     ensures table { IsTable (regex_of node.now) table.new }
-    ensures told { IfOk result (λ told. IsTrue told ↔ HasMatch (Takes (regex_of node.now) text.now) from) }
+    ensures told { IfOk result
+        (λ told. IsTrue told ↔ HasMatch (Takes (regex_of node.now) text.now) from) }
 {
     match first_start(alloc, node, table, first, text, from)? {
         None => Ok(false),

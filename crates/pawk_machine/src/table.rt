@@ -190,7 +190,8 @@ fn slot_of(hash: u64, attempt: usize) -> usize {
 
 /// The state with this key, if it is found by its hash.
 fn position_of(table: &Table, stays: bool, hash: u64, marks: &[bool]) -> Option<usize>
-    ensures { IfSome result (λ r. (t : State) × (slice_get table.now.states.items r ≡ Some t) × HasKey t stays marks.now) }
+    ensures { IfSome result (λ r. (t : State) × (slice_get table.now.states.items r ≡ Some t)
+        × HasKey t stays marks.now) }
 {
     for attempt in 0..TRIES {
         let hint = table
@@ -230,7 +231,8 @@ fn remember(slots: &mut Vec<u16>, hash: u64, place: usize)
 
 /// The marks after one more byte.
 fn marks_after(alloc: Global, node: &Node, state: &State, byte: u8) -> Result<Vec<bool>, AllocError>
-    ensures { IfOk result (λ v. v.items ≡ shift (regex_of node.now) state.now.enter state.now.marks.items byte state.now.first) }
+    ensures { IfOk result (λ v. v.items
+        ≡ shift (regex_of node.now) state.now.enter state.now.marks.items byte state.now.first) }
 {
     let mut turns = Vec::new(alloc);
     note_turns(node, &state.marks, state.first, &mut turns)?;
@@ -289,9 +291,11 @@ fn put_state(
 ) -> Result<Put, AllocError>
     requires { IsTable (regex_of node.now) table.old }
     ensures table { IsTable (regex_of node.now) table.new }
-    ensures key { IfOk result (λ r. (t : State) × (slice_get table.new.states.items r.place ≡ Some t)
+    ensures key { IfOk result
+        (λ r. (t : State) × (slice_get table.new.states.items r.place ≡ Some t)
         × HasKey t stays marks.items) }
-    ensures keeps { IfOk result (λ r. r.keeps ≡ true → KeepsStates table.old.states.items table.new.states.items) }
+    ensures keeps { IfOk result
+        (λ r. r.keeps ≡ true → KeepsStates table.old.states.items table.new.states.items) }
 {
     let mut keeps = true;
     if table.states.len() >= most_states(marks.len()) {
@@ -307,7 +311,8 @@ fn link(node: &Node, table: &mut Table, place: usize, byte: u8, next: usize)
     requires table { IsTable (regex_of node.now) table.old }
     requires within { place < length table.old.states.items }
     requires small { next < 512 }
-    requires leads { (s : State) → slice_get table.old.states.items place ≡ Some s → LeadsTo (regex_of node.now) table.old.states.items s byte next }
+    requires leads { (s : State) → slice_get table.old.states.items place ≡ Some s
+        → LeadsTo (regex_of node.now) table.old.states.items s byte next }
     ensures table { IsTable (regex_of node.now) table.new }
     ensures same { table.new.states ≡ table.old.states }
 {
@@ -324,7 +329,9 @@ pub fn close(
     requires table { IsTable (regex_of node.now) table.old }
     requires within { place < length table.old.states.items }
     ensures table { IsTable (regex_of node.now) table.new }
-    ensures closed { IfOk result (λ r. (s : State) → slice_get table.old.states.items place ≡ Some s → (t : State) × (slice_get table.new.states.items r ≡ Some t) × HasKey t false s.marks.items) }
+    ensures closed { IfOk result (λ r. (s : State) → slice_get table.old.states.items place ≡ Some s
+        → (t : State) × (slice_get table.new.states.items r ≡ Some t)
+        × HasKey t false s.marks.items) }
 {
     let state = &table.states[place];
     let marks = Vec::from_slice(alloc, &state.marks)?;
@@ -348,7 +355,8 @@ fn found_after(
     requires table { IsTable (regex_of node.now) table.old }
     requires within { place < length table.old.states.items }
     ensures table { IsTable (regex_of node.now) table.new }
-    ensures leads { IfOk result (λ r. (s : State) → slice_get table.old.states.items place ≡ Some s → LeadsTo (regex_of node.now) table.new.states.items s byte r) }
+    ensures leads { IfOk result (λ r. (s : State) → slice_get table.old.states.items place ≡ Some s
+        → LeadsTo (regex_of node.now) table.new.states.items s byte r) }
 {
     let state = &table.states[place];
     let stays = state.stays;
@@ -377,7 +385,8 @@ pub fn state_after(
     requires table { IsTable (regex_of node.now) table.old }
     requires within { place < length table.old.states.items }
     ensures table { IsTable (regex_of node.now) table.new }
-    ensures leads { IfOk result (λ r. (s : State) → slice_get table.old.states.items place ≡ Some s → LeadsTo (regex_of node.now) table.new.states.items s byte r) }
+    ensures leads { IfOk result (λ r. (s : State) → slice_get table.old.states.items place ≡ Some s
+        → LeadsTo (regex_of node.now) table.new.states.items s byte r) }
 {
     let next = table.next[place * BYTES + byte as usize];
     if next != 0 {

@@ -9,7 +9,7 @@ use Rattle.pawk_merge.specs.Sums.{FitsFrom}
 use Rattle.pawk_merge.specs.Results.{ResultView, StoreView, RecordView, HasTable, later_or, view_of}
 use Rattle.pawk_merge.specs.declared.chunk.Left.{Left}
 use Rattle.pawk_merge.specs.declared.chunk.Left.TheVariants as left
-use Rattle.pawk_merge.specs.declared.merging.Merged.{Merged}
+use Rattle.pawk_merge.specs.declared.merging.MergeResult.{MergeResult}
 use Rattle.pawk_merge.specs.declared.merging.MergeStop.{MergeStop}
 use Rattle.pawk_merge.specs.declared.merging.MergeStop.TheVariants as stop
 
@@ -64,12 +64,12 @@ pub record Whole : Type 0 where
   pub output : List ℕ
   pub ending : Left
 
-abbrev pub whole_of : Merged → Whole
+abbrev pub whole_of : MergeResult → Whole
 whole_of m = record { store = view_of m.store; output = m.output.items; ending = m.ending }
 
 -- the store after all adds, and the outputs one after the other
-abbrev pub merged : StoreView → List ResultView → List (List ℤ) → Whole
-merged st cs xss = record {
+abbrev pub merge_of : StoreView → List ResultView → List (List ℤ) → Whole
+merge_of st cs xss = record {
   store = record { value = after st.value (end_to_end xss); last = last_record st.last cs };
   output = flat_map (λ c. c.output) cs;
   ending = left.Through;

@@ -7,6 +7,6 @@ mod state;
 mod sums;
 
 pub use chunk::{ChunkResult, Left};
-pub use merging::{MergeStop, Merged, merge};
+pub use merging::{MergeResult, MergeStop, merge};
 pub use state::{RecordState, Store};
 pub use sums::{Sums, first, next};

@@ -9,7 +9,7 @@ ghost use Rattle.pawk_value.specs.Conversion.{num_of};
 ghost use Rattle.std.specs.List.{flat_map};
 ghost use Rattle.std.specs.Option.{option_map};
 ghost use Rattle.pawk_merge.specs.Results.{record_view, result_view, view_of, views};
-ghost use Rattle.pawk_merge.specs.Merge.{CanMerge, HaveTables, StopsAt, after, end_to_end, last_record, merged, whole_of};
+ghost use Rattle.pawk_merge.specs.Merge.{CanMerge, HaveTables, StopsAt, after, end_to_end, last_record, merge_of, whole_of};
 ghost use Rattle.pawk_merge.specs.MergeSteps.{value_or};
 ghost use Rattle.pawk_merge.specs.MergeSteps as steps;
 
@@ -21,7 +21,7 @@ use std::alloc::{AllocError, AllocFailed, Global};
 
 /// The store after the merge, and what the chunks wrote.
 #[derive(Drop)]
-pub struct Merged {
+pub struct MergeResult {
     /// The store after all adds, with the record state of the last record.
     pub store: Store,
     /// The outputs of the chunks, one after the other.
@@ -84,7 +84,8 @@ fn add_table(from: i64, sums: &Sums) -> Result<i64, MergeStop>
 
 /// The number that the cell has, or its first value's.
 fn number_now(start: &Value, now: Option<i64>) -> Result<i64, MergeStop>
-    ensures { result ≡ result_cases (num_of (value_or (shown start.now) now)) Ok (λ _. Err MergeStop.Cell) }
+    ensures { result
+        ≡ result_cases (num_of (value_or (shown start.now) now)) Ok (λ _. Err MergeStop.Cell) }
 {
     match now {
         Some(number) => Ok(number),
@@ -163,7 +164,7 @@ fn join_results(
 }
 
 /// The value after the merge of the tables.
-fn merged_value(
+fn merge_value(
     alloc: Global,
     start: &Value,
     chunks: &[(u64, ChunkResult)],
@@ -194,17 +195,17 @@ pub fn merge(
     alloc: Global,
     store: &Store,
     results: Vec<(u64, ChunkResult)>,
-) -> Result<Merged, MergeStop>
+) -> Result<MergeResult, MergeStop>
     ensures { (adds : List (List ℤ)) → HaveTables (views results.items) adds → MatchResult result
         (λ m. CanMerge (view_of store.now).value (views results.items) adds
-        × (whole_of m ≡ merged (view_of store.now) (views results.items) adds))
+        × (whole_of m ≡ merge_of (view_of store.now) (views results.items) adds))
         (λ e. e ≢ MergeStop.Memory →
         StopsAt (view_of store.now).value (views results.items) adds e
         × ¬ CanMerge (view_of store.now).value (views results.items) adds) }
 {
-    let value = merged_value(alloc, &store.value, &results)?;
+    let value = merge_value(alloc, &store.value, &results)?;
     let (output, state) = join_results(alloc, store.state, results)?;
-    Ok(Merged {
+    Ok(MergeResult {
         store: Store { value, state },
         output,
         ending: Left::Through,

@@ -40,8 +40,10 @@ pub fn first(amount: i64) -> Sums
 pub fn next(sums: &Sums, amount: i64) -> Option<Sums>
     ensures large { IfNone result (¬ IsSmall (sums.now.total +ℤ amount)) }
     ensures total { IfSome result (λ t. t.total ≡ sums.now.total +ℤ amount) }
-    ensures least { IfSome result (λ t. t.least ≡ int_min sums.now.least (sums.now.total +ℤ amount)) }
-    ensures greatest { IfSome result (λ t. t.greatest ≡ int_max sums.now.greatest (sums.now.total +ℤ amount)) }
+    ensures least { IfSome result (λ t. t.least
+        ≡ int_min sums.now.least (sums.now.total +ℤ amount)) }
+    ensures greatest { IfSome result (λ t. t.greatest
+        ≡ int_max sums.now.greatest (sums.now.total +ℤ amount)) }
 {
     let total = sums.total + i128::from(amount);
     if total < -LARGEST || total > LARGEST {

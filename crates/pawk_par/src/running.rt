@@ -56,7 +56,7 @@ fn run_plan<G: Gate + Sync, R: Threads + Wait>(
 {
     let results = run_chunks(rt, alloc, job, plan, workers, gate)?;
     match merge(alloc, &Store::new(), results) {
-        Ok(merged) => Ok(Some(merged.store)),
+        Ok(whole) => Ok(Some(whole.store)),
         Err(MergeStop::Memory) => Err(Refusal::Memory),
         Err(MergeStop::Cell) => Ok(None),
         Err(MergeStop::Fault) => Ok(None),

@@ -1,13 +1,22 @@
 // What the programs that answer rows share: a row is cut at its tabs, and bytes are written as text.
 #![tactic(auto)]
 
-ghost use Rattle.std.specs.Prelude.{◌≤◌, length};
+ghost use Rattle.std.specs.Prelude.{◌≤◌, IfSome};
 
+use itoa::Buffer;
 use std::alloc::{AllocError, Global};
+
+/// The piece of a text with that number, counted from 0, of those between the places of a byte. A text without it has an
+/// empty one.
+pub fn piece(text: &[u8], separator: u8, number: usize) -> &[u8] {
+    text.split(|byte| *byte == separator)
+        .nth(number)
+        .unwrap_or(b"")
+}
 
 /// The cell of a row with that number, counted from 0: the row's pieces between its tabs. A row without it has an empty one.
 pub fn cell(row: &[u8], number: usize) -> &[u8] {
-    row.split(|byte| *byte == b'\t').nth(number).unwrap_or(b"")
+    piece(row, b'\t', number)
 }
 
 /// The number that a cell writes in decimal digits, or 0.
@@ -17,7 +26,7 @@ pub fn number(cell: &[u8]) -> u64 {
 
 /// The value of an octal digit.
 fn octal_digit(byte: u8) -> Option<u8>
-    ensures { Rattle.std.specs.Prelude.IfSome result (λ digit. digit ≤ 7) }
+    ensures { IfSome result (λ digit. digit ≤ 7) }
 {
     match byte {
         b'0'..=b'7' => Some(byte - b'0'),
@@ -72,6 +81,40 @@ pub fn push_encoded(bytes: &[u8], out: &mut Vec<u8>) -> Result<(), AllocError> {
             }
             plain => out.push(plain)?,
         }
+    }
+    Ok(())
+}
+
+/// Adds a number in decimal digits.
+pub fn push_decimal(number: u64, out: &mut Vec<u8>) -> Result<(), AllocError> {
+    out.extend_from_slice(Buffer::new().format(number).as_bytes())
+}
+
+/// Adds the bytes that a cell writes, so often.
+fn push_repeated(
+    alloc: Global,
+    cell: &[u8],
+    count: u64,
+    out: &mut Vec<u8>,
+) -> Result<(), AllocError> {
+    let bytes = decode(alloc, cell)?;
+    for _ in 0..count {
+        out.extend_from_slice(bytes.as_slice())?;
+    }
+    Ok(())
+}
+
+/// Adds the bytes that parts write, which tabs part: how often a part stands, and its bytes, by turns.
+pub fn push_parts(alloc: Global, parts: &[u8], out: &mut Vec<u8>) -> Result<(), AllocError> {
+    let mut count = None;
+    for part in parts.split(|byte| *byte == b'\t') {
+        count = match count {
+            None => Some(number(part)),
+            Some(count) => {
+                push_repeated(alloc, part, count, out)?;
+                None
+            }
+        };
     }
     Ok(())
 }

@@ -17,7 +17,7 @@ use Rattle.pawk_merge.specs.Cases.{result_cases}
 use Rattle.pawk_merge.specs.Results.{ResultView, RecordView, later_or, opening_view, HasTable, total_of}
 use Rattle.pawk_sequence.specs.Meaning.{Reading, State, Phase, read, opening, unread, amount, sum_of, add_to, record_phase}
 use Rattle.pawk_sequence.specs.Chunks.{record_of, reading_over, state_over, HasNames, Amounts, EndsAt, RanChunk, Ran}
-use Rattle.pawk_merge.specs.Merge.{HaveTables, end_to_end, Fits, number_or_zero, after, AllThrough, CanMerge, last_record, merged}
+use Rattle.pawk_merge.specs.Merge.{HaveTables, end_to_end, Fits, number_or_zero, after, AllThrough, CanMerge, last_record, merge_of}
 use Rattle.pawk_merge.specs.declared.sums.Sums.{Sums}
 use Rattle.pawk_merge.specs.declared.chunk.Left.{Left}
 use Rattle.pawk_merge.specs.declared.chunk.Left.TheVariants as left
@@ -219,7 +219,7 @@ last_read_is files o (i ∷ is) names =
 
 -- results that can be merged tell what one run over all records gives
 pub phase_of_merge : (k : ℕ) (files : List File) (iss : List (List Item)) (cs : List ResultView) (xss : List (List ℤ)) → HasNames files (end_to_end iss) → Ran k iss cs → (AllThrough cs → Amounts k (end_to_end iss) (end_to_end xss)) → CanMerge Uninit cs xss
-    → record_phase k opening (end_to_end iss) ≡ record { state = state_over files (merged opening_view cs xss).store; fault = None }
+    → record_phase k opening (end_to_end iss) ≡ record { state = state_over files (merge_of opening_view cs xss).store; fault = None }
 phase_of_merge k files iss cs xss names h amounts can =
     let last : last_read unread (end_to_end iss) ≡ reading_over files (last_record None cs) =
     sym (last_read_is files None (end_to_end iss) names) ∙ ap (reading_over files) (sym (last_records k iss cs h can.1 None)) in

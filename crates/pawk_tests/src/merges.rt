@@ -1,7 +1,7 @@
 //! Merges of results that are made by hand.
 
 use pawk_merge::{first, next};
-use pawk_par::{ChunkResult, Left, MergeStop, Merged, RecordState, Store, Sums, merge};
+use pawk_par::{ChunkResult, Left, MergeResult, MergeStop, RecordState, Store, Sums, merge};
 use pawk_value::{Fault, Value};
 use std::alloc::{AllocError, Global};
 use std::test::Fail;
@@ -69,7 +69,7 @@ fn merge_two(
     cell: Cell,
     adds: Adds,
     ending: Left,
-) -> Result<Result<Merged, MergeStop>, AllocError> {
+) -> Result<Result<MergeResult, MergeStop>, AllocError> {
     let store = Store {
         value: value_of(alloc, cell)?,
         state: None,
@@ -81,12 +81,12 @@ fn merge_two(
 }
 
 /// Whether the merge ended so: with this value after the second record, or with this stop.
-fn is_merge(answer: &Result<Merged, MergeStop>, wanted: Result<Cell, MergeStop>) -> bool {
+fn is_merge(answer: &Result<MergeResult, MergeStop>, wanted: Result<Cell, MergeStop>) -> bool {
     match (answer, wanted) {
-        (Ok(merged), Ok(cell)) => {
-            is_cell(&merged.store.value, cell)
-                && merged.store.state.map(|state| state.nr) == Some(2)
-                && merged.ending == Left::Through
+        (Ok(whole), Ok(cell)) => {
+            is_cell(&whole.store.value, cell)
+                && whole.store.state.map(|state| state.nr) == Some(2)
+                && whole.ending == Left::Through
         }
         (Err(stop), Err(want)) => *stop == want,
         _ => false,
@@ -115,8 +115,8 @@ fn merges_from_the_first_value(rt: HostRuntime) -> Result<(), Fail> {
 
 #[test]
 fn merges_no_results(rt: HostRuntime) -> Result<(), Fail> {
-    let merged = merge(rt.alloc(), &Store::new(), Vec::new(rt.alloc())).map_err(|_| "stopped")?;
-    assert!(rt; is_cell(&merged.store.value, Cell::None));
-    assert!(rt; merged.store.state.is_none() && merged.output.is_empty());
+    let whole = merge(rt.alloc(), &Store::new(), Vec::new(rt.alloc())).map_err(|_| "stopped")?;
+    assert!(rt; is_cell(&whole.store.value, Cell::None));
+    assert!(rt; whole.store.state.is_none() && whole.output.is_empty());
     Ok(())
 }

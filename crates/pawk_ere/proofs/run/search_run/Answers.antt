@@ -1,3 +1,4 @@
+use Rattle.pawk_machine.specs.Members.{members_of}
 use Rattle.std.proofs.Common.{arith}
 use Rattle.std.specs.Prelude.{get_or}
 use Rattle.pawk_ere.proofs.Runs.{no_run_over, run_none, run_some}
@@ -5,8 +6,8 @@ use Rattle.pawk_ere.proofs.run.search_run.Goals as goal
 
 pub returns-in-None : goal.returns-in-None
 returns-in-None c = λ e is.
-    run_some e c.args.set.now.members c.args.text.now c.args.count c.args.from c.loop-start.start c.loop-start.invariant.after c.loop-start.invariant.none c.in-None.ensures is
+    run_some e (members_of c.args.set.now) c.args.text.now c.args.count c.args.from c.loop-start.start c.loop-start.invariant.after c.loop-start.invariant.none c.in-None.ensures is
 
 pub returns : goal.returns
 returns c = λ e is.
-    run_none e c.args.set.now.members c.args.text.now c.args.count c.args.from c.loop-start.start c.requires.some c.loop-start.invariant.within' (omega arith) c.loop-start.invariant.none is
+    run_none e (members_of c.args.set.now) c.args.text.now c.args.count c.args.from c.loop-start.start c.requires.some c.loop-start.invariant.within' (omega arith) c.loop-start.invariant.none is

@@ -1,3 +1,4 @@
+use Rattle.pawk_machine.specs.Members.{members_of}
 use Rattle.std.proofs.Common.{length, ◌-◌, ◌≤◌}
 use Rattle.pawk_ere.proofs.Runs.{NoRun}
 use Rattle.pawk_ere.proofs.run.search_run.Given as goal
@@ -6,7 +7,7 @@ abbrev pub invariant-loop-start : goal.invariant-loop-start
 invariant-loop-start l = record {
   after : l.from ≤ l.start;
   within' : l.start ≤ length l.text;
-  none : NoRun l.set.members l.text l.count l.from l.start;
+  none : NoRun (members_of l.set) l.text l.count l.from l.start;
 }
 
 abbrev pub decreases-loop-start : goal.decreases-loop-start

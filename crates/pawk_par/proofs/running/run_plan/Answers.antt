@@ -1,7 +1,7 @@
 use Rattle.std.proofs.Common.{◌≡◌, None, List, map, subst, sym, ap, ◌∙◌}
 use Rattle.pawk_input.specs.Input.{Item, items}
 use Rattle.pawk_input.specs.Plan.{chunk_items}
-use Rattle.pawk_merge.specs.Merge.{end_to_end, CanMerge, merged, whole_of}
+use Rattle.pawk_merge.specs.Merge.{end_to_end, CanMerge, merge_of, whole_of}
 use Rattle.pawk_merge.specs.Results.{StoreView, views, view_of}
 use Rattle.pawk_sequence.specs.Chunks.{HasNames, state_over}
 use Rattle.pawk_sequence.specs.Meaning.{opening, record_phase}
@@ -19,7 +19,7 @@ returns-in-Ok-clause-ends g c =
     let cs = views c.in_ok-results.results.items in
     let whole : end_to_end iss ≡ items newline files = joined_map (chunk_items newline files) c.args.plan.now ∙ c.requires.plan.whole in
     let tables = tables_of k iss cs c.in_ok-results.ensures.ran in
-    let merges = subst (λ (st : StoreView). CanMerge st.value cs tables.0 × (whole_of c.in-Ok.merged ≡ merged st cs tables.0)) c.new.ensures (c.in-Ok.ensures tables.0 tables.1) in
+    let merges = subst (λ (st : StoreView). CanMerge st.value cs tables.0 × (whole_of c.in-Ok.whole ≡ merge_of st cs tables.0)) c.new.ensures (c.in-Ok.ensures tables.0 tables.1) in
     let names : HasNames files (end_to_end iss) = subst (λ (l : List Item). HasNames files l) (sym whole) (items_names newline files) in
     ap (record_phase k opening) (sym whole) ∙ phase_of_merge k files iss cs tables.0 names c.in_ok-results.ensures.ran tables.2 merges.0
     ∙ ap (λ w. record { state = state_over files w.store; fault = None }) (sym merges.1)

@@ -1,10 +1,11 @@
+use Rattle.pawk_machine.specs.Members.{members_of}
 use Rattle.std.proofs.Common.{ℕ, List, Option, None, Result, Ok, Err, IfOk, subst, sym}
 use Rattle.std.specs.declared.alloc.AllocError.{AllocError}
 use Rattle.pawk_ere.specs.Answers.{IsAnswer, IsFor}
 use Rattle.pawk_pattern.specs.Pattern.{Pattern, Matches, IsFound}
 use Rattle.pawk_ere.specs.Runs.{IsRun}
 use Rattle.pawk_ere.specs.Words.{IsPrefilter}
-use Rattle.pawk_pattern.specs.declared.byte_set.ByteSet.{ByteSet}
+use Rattle.pawk_machine.specs.declared.members.Members.{Members}
 use Rattle.pawk_machine.specs.Regex.{Takes}
 use Rattle.pawk_machine.specs.Tree.{regex_of}
 use Rattle.pawk_machine.specs.declared.node.Node.{Node}
@@ -39,4 +40,4 @@ pub returns-in-Run-clause-answer : goal.returns-in-Run-clause-answer
 returns-in-Run-clause-answer c = λ e for.
     let tells = subst (IsPrefilter (regex_of c.self.inside.node)) c.in-Run.is c.self.invariant.tells in
     found_map (Takes (regex_of c.self.inside.node) c.args.text.now) (Matches e c.args.text.now) c.args.from c.search_run.result (subst (λ n. IsFor e n) (sym c.self.view_is) for c.args.text.now)
-    (c.search_run.ensures (regex_of c.self.inside.node) (subst (λ (set : ByteSet). IsRun (regex_of c.self.inside.node) set.members c.in-Run.count) (sym c.deref.ensures) tells.0))
+    (c.search_run.ensures (regex_of c.self.inside.node) (subst (λ (set : Members). IsRun (regex_of c.self.inside.node) (members_of set) c.in-Run.count) (sym c.deref.ensures) tells.0))

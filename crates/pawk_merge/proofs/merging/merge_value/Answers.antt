@@ -4,7 +4,7 @@ use Rattle.std.proofs.lemmas.Int.{to_z-of_z}
 use Rattle.pawk_value.specs.Value.{Num, shown}
 use Rattle.pawk_merge.specs.Results.{views}
 use Rattle.pawk_merge.proofs.MergeLemmas.{merge_succeeds, merge_stops}
-use Rattle.pawk_merge.proofs.merging.merged_value.Goals as goal
+use Rattle.pawk_merge.proofs.merging.merge_value.Goals as goal
 
 pub returns-in-Err : goal.returns-in-Err
 returns-in-Err c = λ adds h _. merge_stops (shown c.args.start.now) c.in-Err.stop (views c.args.chunks.now) adds c.in-Err.ensures h

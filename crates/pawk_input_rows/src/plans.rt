@@ -1,0 +1,149 @@
+//! Rows about plans.
+
+use crate::files::{push_numbers, push_records};
+use pawk_input::{CutRefusal, Input, Plan, TooLarge, count_blocks};
+use pawk_rows::{cell, number, piece, push_decimal};
+use std::alloc::{AllocError, Global};
+
+/// Adds why a plan was refused: the number and the text.
+fn push_refusal(alloc: Global, refusal: CutRefusal, out: &mut Vec<u8>) -> Result<(), AllocError> {
+    out.extend_from_slice(b"refused ")?;
+    push_decimal(refusal as u64, out)?;
+    out.extend_from_slice(format!(in alloc; ": {refusal}")?.as_bytes())
+}
+
+/// Adds the chunks of a plan: file, begin and end in it, the records before it in the input and in its file.
+fn push_chunks(plan: &Plan, out: &mut Vec<u8>) -> Result<(), AllocError> {
+    for i in 0..plan.len() {
+        let chunk = plan.chunk(i);
+        let (start, end) = (chunk.range.start as u64, chunk.range.end as u64);
+        push_numbers(&[chunk.file as u64, start, end, chunk.nr, chunk.fnr], out)?;
+    }
+    Ok(())
+}
+
+/// Adds the chunks of a plan, or why it was refused.
+fn push_plan(
+    alloc: Global,
+    plan: Result<Plan, CutRefusal>,
+    out: &mut Vec<u8>,
+) -> Result<(), AllocError> {
+    match plan {
+        Ok(plan) => push_chunks(&plan, out),
+        Err(refusal) => push_refusal(alloc, refusal, out),
+    }
+}
+
+/// Adds the chunks of the plan by size.
+pub fn push_by_size(
+    alloc: Global,
+    rs: &[u8],
+    input: &Input,
+    size: u64,
+    out: &mut Vec<u8>,
+) -> Result<(), AllocError> {
+    if size == 0 || rs.len() > 1 {
+        return out.extend_from_slice(b"no such plan");
+    }
+    push_plan(alloc, Plan::by_size(alloc, input, rs, size), out)
+}
+
+/// Adds the records of the plan by size, chunk by chunk.
+pub fn push_chunked(
+    alloc: Global,
+    rs: &[u8],
+    input: &Input,
+    size: u64,
+    out: &mut Vec<u8>,
+) -> Result<(), AllocError> {
+    if size == 0 || rs.len() > 1 {
+        return out.extend_from_slice(b"no such plan");
+    }
+    let plan = match Plan::by_size(alloc, input, rs, size) {
+        Ok(plan) => plan,
+        Err(refusal) => return push_refusal(alloc, refusal, out),
+    };
+    for i in 0..plan.len() {
+        push_records(plan.walk(input, rs, i), out)?;
+    }
+    Ok(())
+}
+
+/// Adds the plan by size out of the counts of blocks.
+pub fn push_counted(
+    alloc: Global,
+    row: &[u8],
+    rs: &[u8],
+    input: &Input,
+    out: &mut Vec<u8>,
+) -> Result<(), AllocError> {
+    let block = number(cell(row, 1)) as usize;
+    let size = number(cell(row, 2));
+    if block == 0 || size == 0 || rs.len() > 1 {
+        return out.extend_from_slice(b"no such plan");
+    }
+    let counts = count_blocks(alloc, input, rs, block)?;
+    let plan = Plan::by_counts(alloc, input, rs, size, block, counts.as_slice());
+    push_plan(alloc, plan, out)
+}
+
+/// The places that a cell tells, as `0:2,1:7`.
+fn places(alloc: Global, cell: &[u8]) -> Result<Vec<(usize, usize)>, AllocError> {
+    let mut list = Vec::new(alloc);
+    for place in cell.split(|byte| *byte == b',') {
+        if !place.is_empty() {
+            let file = number(piece(place, b':', 0)) as usize;
+            let offset = number(piece(place, b':', 1)) as usize;
+            list.push((file, offset))?;
+        }
+    }
+    Ok(list)
+}
+
+/// Adds the plan at cuts.
+pub fn push_at_cuts(
+    alloc: Global,
+    cuts: &[u8],
+    rs: &[u8],
+    input: &Input,
+    out: &mut Vec<u8>,
+) -> Result<(), AllocError> {
+    if rs.len() > 1 {
+        return out.extend_from_slice(b"no such separator");
+    }
+    let cuts = places(alloc, cuts)?;
+    push_plan(alloc, Plan::at(alloc, input, rs, cuts.as_slice()), out)
+}
+
+/// An input of one file without a name, of this many empty records.
+fn empty_records(alloc: Global, count: usize) -> Result<Option<Input>, AllocError> {
+    let mut files = Vec::new(alloc);
+    files.push((Vec::new(alloc), vec![in alloc; b'\n'; count]?))?;
+    Ok(Input::new(files).ok())
+}
+
+/// Adds how many chunks of a size a file of many empty records has.
+pub fn push_many(alloc: Global, row: &[u8], out: &mut Vec<u8>) -> Result<(), AllocError> {
+    let size = number(cell(row, 2));
+    match empty_records(alloc, number(cell(row, 1)) as usize)? {
+        Some(input) if size > 0 => match Plan::by_size(alloc, &input, b"\n", size) {
+            Ok(plan) => push_decimal(plan.len() as u64, out),
+            Err(refusal) => push_refusal(alloc, refusal, out),
+        },
+        _ => out.extend_from_slice(b"no such plan"),
+    }
+}
+
+/// Adds each refusal with its number and text.
+pub fn push_refusals(alloc: Global, out: &mut Vec<u8>) -> Result<(), AllocError> {
+    for refusal in [
+        CutRefusal::NoRecord,
+        CutRefusal::NotRising,
+        CutRefusal::TooMany,
+        CutRefusal::Memory,
+    ] {
+        push_refusal(alloc, refusal, out)?;
+        out.push(b';')?;
+    }
+    out.extend_from_slice(format!(in alloc; "{TooLarge}")?.as_bytes())
+}
