@@ -6,8 +6,8 @@ use Rattle.pawk_syntax_tree.specs.declared.tree.Name.{Name}
 use Rattle.pawk_syntax_program.specs.declared.item.Item.{Item}
 use Rattle.pawk_syntax_program.specs.Statement.{Stmts, stmts}
 use Rattle.pawk_syntax_program.specs.Item.{Part as Shape, part, texts}
-use Rattle.pawk_syntax_statement.specs.declared.body.Body.{Body}
-use Rattle.pawk_syntax_statement.specs.Reads.{body_of}
+use Rattle.pawk_syntax_build.specs.declared.body.Body.{Body}
+use Rattle.pawk_syntax_build.specs.Reads.{body_of}
 use Rattle.pawk_syntax_item.specs.declared.part.Part.{Part}
 
 abbrev pub action_of : Body → Stmts

@@ -6,11 +6,12 @@ ghost use Rattle.pawk_token.specs.declared.token.Mark.{Mark};
 ghost use Rattle.pawk_syntax_program.specs.Statement as stmt;
 ghost use Rattle.pawk_syntax_program.specs.StatementParse as spec;
 ghost use Rattle.pawk_syntax_parse.specs.Reads.{input, Gives, nothing, tree_of, trees_of};
-ghost use Rattle.pawk_syntax_statement.specs.Reads.{body_of, option_of, stmt_of, names_of, Nests};
+ghost use Rattle.pawk_syntax_build.specs.Reads.{body_of, option_of, stmt_of, names_of};
+ghost use Rattle.pawk_syntax_statement.specs.Reads.{Nests};
 
-use crate::body::{Body, Line};
-use crate::build;
-use crate::print::printed;
+use pawk_syntax_build::body::{Body, Line};
+use pawk_syntax_build::build;
+use pawk_syntax_build::print::printed;
 use pawk_syntax_parse::build as trees;
 use pawk_syntax_parse::cursor::Cursor;
 use pawk_syntax_parse::expression::{GREATEST_DEPTH, expect_name, expr, list_up_to};

@@ -3,7 +3,7 @@ use Rattle.std.proofs.lemmas.Grind.{common_steps}
 use Rattle.pawk_syntax_program.specs.StatementParse.{stmt, block_from}
 use Rattle.pawk_syntax_parse.specs.Reads.{input}
 use Rattle.pawk_syntax_parse.proofs.Turns.{one_more, no_more}
-use Rattle.pawk_syntax_statement.specs.Reads.{body_of}
+use Rattle.pawk_syntax_build.specs.Reads.{body_of}
 use Rattle.pawk_syntax_statement.proofs.statement.Statements.block_from.Goals as goal
 
 pub returns-then-eat : goal.returns-then-eat

@@ -1,7 +1,7 @@
 use Rattle.std.proofs.Common.{◌≡◌, [], length, ◌-◌}
 use Rattle.pawk_syntax_program.specs.StatementParse.{stmt, block_from}
 use Rattle.pawk_syntax_parse.specs.Reads.{input}
-use Rattle.pawk_syntax_statement.specs.Reads.{body_of}
+use Rattle.pawk_syntax_build.specs.Reads.{body_of}
 use Rattle.pawk_syntax_statement.proofs.statement.Statements.block_from.Given as goal
 
 abbrev pub invariant-loop-turn : goal.invariant-loop-turn

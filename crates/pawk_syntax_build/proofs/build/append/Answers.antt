@@ -1,7 +1,7 @@
 use Rattle.std.proofs.Common.{arith}
 use Rattle.std.proofs.lemmas.List.{map-append}
-use Rattle.pawk_syntax_statement.proofs.Building.{highest_append}
-use Rattle.pawk_syntax_statement.proofs.build.append.Goals as goal
+use Rattle.pawk_syntax_build.proofs.Building.{highest_append}
+use Rattle.pawk_syntax_build.proofs.build.append.Goals as goal
 
 pub invariant_of-result : goal.invariant_of-result
 invariant_of-result c = record {

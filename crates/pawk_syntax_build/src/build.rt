@@ -6,8 +6,8 @@ ghost use Rattle.pawk_syntax_program.specs.Statement as stmt;
 ghost use Rattle.pawk_syntax_program.specs.Statement.{stmts, stmt_view, option_view, option_height, height_of};
 ghost use Rattle.pawk_syntax_program.specs.StatementParse as spec;
 ghost use Rattle.pawk_syntax_parse.specs.Reads.{input, Gives, tree_of, trees_of};
-ghost use Rattle.pawk_syntax_statement.specs.Views.{stmt_views};
-ghost use Rattle.pawk_syntax_statement.specs.Reads.{body_of, option_of};
+ghost use Rattle.pawk_syntax_build.specs.Views.{stmt_views};
+ghost use Rattle.pawk_syntax_build.specs.Reads.{body_of, option_of};
 
 use crate::body::Body;
 use pawk_syntax_parse::cursor::Cursor;

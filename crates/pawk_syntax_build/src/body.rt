@@ -1,7 +1,7 @@
 //! Lists of statements with their heights.
 
 ghost use Rattle.std.specs.Prelude.{◌≡◌, ◌≤◌};
-ghost use Rattle.pawk_syntax_statement.specs.Views.{height_in, highest_in};
+ghost use Rattle.pawk_syntax_build.specs.Views.{height_in, highest_in};
 
 use pawk_syntax_program::statement::Statement;
 

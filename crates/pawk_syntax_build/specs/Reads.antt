@@ -1,0 +1,24 @@
+-- What the functions that make statements ensure.
+use Rattle.std.specs.Prelude.{List, Option, Some, None}
+use Rattle.pawk_token.specs.Bytes.{Text}
+use Rattle.pawk_syntax_tree.specs.Tree.{Tree}
+use Rattle.pawk_syntax_tree.specs.declared.tree.Name.{Name}
+use Rattle.pawk_syntax_parse.specs.declared.phrase.Phrase.{Phrase}
+use Rattle.pawk_syntax_parse.specs.Reads.{tree_of}
+use Rattle.pawk_syntax_program.specs.Statement.{Stmt, stmt_view}
+use Rattle.pawk_syntax_build.specs.declared.body.Body.{Body}
+use Rattle.pawk_syntax_build.specs.declared.body.Line.{Line}
+use Rattle.pawk_syntax_build.specs.Views.{stmt_views}
+
+abbrev pub body_of : Body → List Stmt
+body_of b = stmt_views b.list.items
+
+abbrev pub option_of : Option Phrase → Option Tree
+option_of None = None
+option_of (Some p) = Some (tree_of p)
+
+abbrev pub stmt_of : Line → Stmt
+stmt_of l = stmt_view l.statement
+
+abbrev pub names_of : Name × Name → Text × Text
+names_of p = (p.0.text.items, p.1.text.items)
