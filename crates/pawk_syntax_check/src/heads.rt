@@ -17,7 +17,7 @@ use pawk_token::refusal::Cause;
 use pawk_token::vocabulary::is_variable;
 
 /// Whether the function that is found under this name is the one of this item.
-fn is_item(functions: &Functions<'_>, number: usize, name: &Name) -> bool
+pub fn is_item(functions: &Functions<'_>, number: usize, name: &Name) -> bool
     ensures { result ≡ spec.is_item number (found functions.now name.now.text.items) }
 {
     match functions.get(name.text.as_slice()) {
@@ -27,7 +27,7 @@ fn is_item(functions: &Functions<'_>, number: usize, name: &Name) -> bool
 }
 
 /// Whether a name is among these.
-fn is_among(names: &[Name], name: &Name) -> bool
+pub fn is_among(names: &[Name], name: &Name) -> bool
     ensures { result ≡ list_any (λ p. bytes_eq name.now.text.items p.text.items) names.now }
 {
     names
@@ -36,7 +36,7 @@ fn is_among(names: &[Name], name: &Name) -> bool
 }
 
 /// Whether a parameter, before these others, has a name of its own.
-#[tactic(auto, using(crate::proofs::Names::among_names))]
+#[tactic(auto, using(crate::proofs::Parameters::among_names))]
 fn fits_parameter(functions: &Functions<'_>, others: &[Name], name: &Name) -> bool
     ensures { result ≡ spec.fits_parameter (found functions.now) (texts others.now) name.now.text.items }
 {

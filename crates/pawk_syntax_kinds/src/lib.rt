@@ -5,4 +5,5 @@ pub mod demand;
 pub mod demands;
 pub mod kinds;
 pub mod marks;
+pub mod places;
 pub mod variables;
