@@ -72,17 +72,29 @@ fn head_fits(functions: &Functions<'_>, number: usize, item: &Item) -> bool
     }
 }
 
-/// The byte where the name of a function begins, or 0.
-fn start(item: &Item) -> usize {
-    match item {
-        Item::Function(name, _, _) => name.start,
-        _ => 0,
+/// The byte where the first name in the head of a function begins that does not fit, or 0.
+fn start(functions: &Functions<'_>, number: usize, item: &Item) -> usize {
+    let Item::Function(name, parameters, _) = item else {
+        return 0;
+    };
+    if !is_item(functions, number, name) || is_variable(name.text.as_slice()) {
+        return name.start;
     }
+    for (index, parameter) in parameters.iter().enumerate() {
+        if !fits_parameter(functions, &parameters[index + 1..], parameter) {
+            return parameter.start;
+        }
+    }
+    0
 }
 
 /// What is at fault with the head of the item of this number.
 pub fn head_fault(functions: &Functions<'_>, number: usize, item: &Item) -> Option<Fault>
     ensures { is_none result ≡ spec.head_fits (found functions.now) number (part item.now) }
 {
-    unless(head_fits(functions, number, item), Cause::Uses, start(item))
+    unless(
+        head_fits(functions, number, item),
+        Cause::Uses,
+        start(functions, number, item),
+    )
 }
