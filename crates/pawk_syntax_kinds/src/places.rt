@@ -6,6 +6,7 @@ ghost use Rattle.pawk_syntax_kinds.specs.Marks.{AreBelow};
 use crate::demand::Demand;
 use crate::demands::{Demands, name_in};
 use crate::kinds::meets;
+use crate::links::Links;
 use crate::variables::{Key, Variables};
 use pawk_syntax_program::item::Item;
 use pawk_syntax_uses::item::mentions;
@@ -17,11 +18,6 @@ fn note(places: &mut [usize], number: usize, start: usize) {
     if number < places.len() && start < places[number] {
         places[number] = start;
     }
-}
-
-/// The first byte that is noted for this number.
-fn place(places: &[usize], number: usize) -> usize {
-    places.get(number).copied().unwrap_or(usize::MAX)
 }
 
 /// Notes that a name stands at this byte, if it has a number.
@@ -87,42 +83,83 @@ fn first_places<'t>(
     Ok(places)
 }
 
-/// Notes the lesser place of two names of one kind for both; answers whether that changed one.
-fn join(places: &mut [usize], demands: &[Demand<'_>]) -> bool {
-    let mut changes = false;
-    for demand in demands {
-        if let Demand::Alike(v, w) = *demand {
-            let first = place(places, v.number);
-            let second = place(places, w.number);
-            if first != second {
-                note(places, v.number, second);
-                note(places, w.number, first);
-                changes = true;
-            }
+/// Adds a number to the group.
+fn reach(group: &mut [bool], todo: &mut Vec<usize>, number: usize) -> Result<(), AllocError> {
+    if number < group.len() && !group[number] {
+        group[number] = true;
+        todo.push(number)?;
+    }
+    Ok(())
+}
+
+/// Adds the numbers of a demand to the group.
+fn reach_both(
+    group: &mut [bool],
+    todo: &mut Vec<usize>,
+    demand: Demand<'_>,
+) -> Result<(), AllocError> {
+    match demand {
+        Demand::Array(v) | Demand::Scalar(v) => reach(group, todo, v.number),
+        Demand::Alike(v, w) => {
+            reach(group, todo, v.number)?;
+            reach(group, todo, w.number)
         }
     }
-    changes
 }
 
-/// The first place of a name that a demand speaks of.
-fn place_of(places: &[usize], demand: Demand<'_>) -> usize {
-    match demand {
-        Demand::Array(v) | Demand::Scalar(v) => place(places, v.number),
-        Demand::Alike(v, w) => place(places, v.number).min(place(places, w.number)),
-    }
-}
-
-/// The first place of a name that a demand speaks of which the marks do not meet.
-fn first_unmet(places: &[usize], marks: &[bool], demands: &[Demand<'_>]) -> usize
+/// Adds the numbers of the demands that the marks do not meet.
+fn reach_unmet(
+    group: &mut [bool],
+    todo: &mut Vec<usize>,
+    marks: &[bool],
+    demands: &[Demand<'_>],
+) -> Result<(), AllocError>
     requires { AreBelow (length marks.now) demands.now }
 {
-    let mut first = usize::MAX;
     for demand in demands {
         if !meets(marks, *demand) {
-            first = first.min(place_of(places, *demand));
+            reach_both(group, todo, *demand)?;
         }
     }
-    first
+    Ok(())
+}
+
+/// Adds the numbers that have to be of one kind with this one.
+fn reach_alike(
+    group: &mut [bool],
+    todo: &mut Vec<usize>,
+    demands: &[Demand<'_>],
+    linked_places: &[usize],
+) -> Result<(), AllocError> {
+    for place in linked_places {
+        if let Some(demand) = demands.get(*place).copied() {
+            reach_both(group, todo, demand)?;
+        }
+    }
+    Ok(())
+}
+
+/// Which numbers have to be of one kind with a number of a demand that the marks do not meet.
+fn clash_group(
+    alloc: Global,
+    marks: &[bool],
+    demands: &[Demand<'_>],
+) -> Result<Vec<bool>, AllocError>
+    requires { AreBelow (length marks.now) demands.now }
+{
+    let links = Links::new(alloc, demands, marks.len())?;
+    let mut group = vec![in alloc; false; marks.len()]?;
+    let mut todo = Vec::new(alloc);
+    reach_unmet(&mut group, &mut todo, marks, demands)?;
+    for _turn in 0..marks.len() {
+        let Some(number) = todo.pop() else {
+            break;
+        };
+        let mut linked_places = Vec::new(alloc);
+        links.follow(number, &mut linked_places)?;
+        reach_alike(&mut group, &mut todo, demands, linked_places.as_slice())?;
+    }
+    Ok(group)
 }
 
 /// The byte, counted from 0, where a name first stands of those that have to be of one kind and are
@@ -135,11 +172,13 @@ pub fn first_clash<'t>(
 ) -> Result<usize, AllocError>
     requires { AreBelow (length marks.now) demands.now.list.items }
 {
-    let mut places = first_places(alloc, &demands.variables, items)?;
-    for _turn in 0..demands.list.len() {
-        if !join(&mut places, demands.list.as_slice()) {
-            break;
+    let places = first_places(alloc, &demands.variables, items)?;
+    let group = clash_group(alloc, marks, demands.list.as_slice())?;
+    let mut first = usize::MAX;
+    for (start, is_member) in places.iter().zip(group.iter()) {
+        if *is_member {
+            first = first.min(*start);
         }
     }
-    Ok(first_unmet(places.as_slice(), marks, demands.list.as_slice()))
+    Ok(first)
 }
