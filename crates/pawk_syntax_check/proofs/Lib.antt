@@ -1,3 +1,3 @@
 pub mod Arguments
-pub mod Names
+pub mod Parameters
 pub mod Mentions

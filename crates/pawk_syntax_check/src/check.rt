@@ -14,8 +14,9 @@ ghost use Rattle.pawk_syntax_check.specs.Fits.{fits, item_fits, items_fit, Fits}
 
 use crate::fault::{Fault, first_of};
 use crate::heads::head_fault;
+use crate::names::fault_of_names;
 use crate::rules::fault;
-use pawk_syntax_kinds::kinds::have_kinds;
+use pawk_syntax_kinds::kinds::clash;
 use pawk_syntax_program::item::Item;
 use pawk_syntax_uses::functions::Functions;
 use pawk_syntax_uses::item::mentions;
@@ -75,13 +76,28 @@ fn fault_of_kinds<'t>(
     ensures fit { IfOk result (λ o. is_none o ≡ true → KindsFit (map part items.now)) }
     ensures unfit { IfOk result (λ o. is_none o ≡ false → KindsFit (map part items.now) → ⊥) }
 {
-    if have_kinds(alloc, functions, items)? {
-        return Ok(None);
+    match clash(alloc, functions, items)? {
+        None => Ok(None),
+        Some(start) => Ok(Some(Fault {
+            cause: Cause::Uses,
+            start,
+        })),
     }
-    Ok(Some(Fault {
-        cause: Cause::Uses,
-        start: 0,
-    }))
+}
+
+/// The fault that is told where there is this one: the first, with those of names at their first
+/// places.
+fn first_fault<'t>(
+    alloc: Global,
+    functions: &Functions<'t>,
+    items: &'t [Item],
+    fault: Fault,
+) -> Result<SyntaxRefusal, AllocError>
+    ensures { IfOk result (λ e. e ≢ refusal.Memory) }
+{
+    let names = fault_of_names(alloc, functions, items)?;
+    let first = first_of(Some(fault), names).unwrap_or(fault);
+    Ok(first.refusal())
 }
 
 /// Checks a program that was read. Of several faults the first in the text is told, at one place the
@@ -106,6 +122,6 @@ pub fn check(alloc: Global, items: &[Item]) -> Result<(), SyntaxRefusal>
     let kinds = fault_of_kinds(alloc, &functions, items)?;
     match first_of(inner, kinds) {
         None => Ok(()),
-        Some(fault) => Err(fault.refusal()),
+        Some(fault) => Err(first_fault(alloc, &functions, items, fault)?),
     }
 }

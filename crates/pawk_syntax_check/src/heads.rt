@@ -17,7 +17,7 @@ use pawk_token::refusal::Cause;
 use pawk_token::vocabulary::is_variable;
 
 /// Whether the function that is found under this name is the one of this item.
-fn is_item(functions: &Functions<'_>, number: usize, name: &Name) -> bool
+pub fn is_item(functions: &Functions<'_>, number: usize, name: &Name) -> bool
     ensures { result ≡ spec.is_item number (found functions.now name.now.text.items) }
 {
     match functions.get(name.text.as_slice()) {
@@ -27,7 +27,7 @@ fn is_item(functions: &Functions<'_>, number: usize, name: &Name) -> bool
 }
 
 /// Whether a name is among these.
-fn is_among(names: &[Name], name: &Name) -> bool
+pub fn is_among(names: &[Name], name: &Name) -> bool
     ensures { result ≡ list_any (λ p. bytes_eq name.now.text.items p.text.items) names.now }
 {
     names
@@ -36,7 +36,7 @@ fn is_among(names: &[Name], name: &Name) -> bool
 }
 
 /// Whether a parameter, before these others, has a name of its own.
-#[tactic(auto, using(crate::proofs::Names::among_names))]
+#[tactic(auto, using(crate::proofs::Parameters::among_names))]
 fn fits_parameter(functions: &Functions<'_>, others: &[Name], name: &Name) -> bool
     ensures { result ≡ spec.fits_parameter (found functions.now) (texts others.now) name.now.text.items }
 {
@@ -72,17 +72,29 @@ fn head_fits(functions: &Functions<'_>, number: usize, item: &Item) -> bool
     }
 }
 
-/// The byte where the name of a function begins, or 0.
-fn start(item: &Item) -> usize {
-    match item {
-        Item::Function(name, _, _) => name.start,
-        _ => 0,
+/// The byte where the first name in the head of a function begins that does not fit, or 0.
+fn start(functions: &Functions<'_>, number: usize, item: &Item) -> usize {
+    let Item::Function(name, parameters, _) = item else {
+        return 0;
+    };
+    if !is_item(functions, number, name) || is_variable(name.text.as_slice()) {
+        return name.start;
     }
+    for (index, parameter) in parameters.iter().enumerate() {
+        if !fits_parameter(functions, &parameters[index + 1..], parameter) {
+            return parameter.start;
+        }
+    }
+    0
 }
 
 /// What is at fault with the head of the item of this number.
 pub fn head_fault(functions: &Functions<'_>, number: usize, item: &Item) -> Option<Fault>
     ensures { is_none result ≡ spec.head_fits (found functions.now) number (part item.now) }
 {
-    unless(head_fits(functions, number, item), Cause::Uses, start(item))
+    unless(
+        head_fits(functions, number, item),
+        Cause::Uses,
+        start(functions, number, item),
+    )
 }

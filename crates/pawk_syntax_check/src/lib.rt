@@ -4,4 +4,5 @@
 pub mod check;
 pub mod fault;
 pub mod heads;
+pub mod names;
 pub mod rules;

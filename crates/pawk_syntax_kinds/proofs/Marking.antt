@@ -163,3 +163,19 @@ none_marked (suc n) (suc i) = none_marked n i
 
 pub nothing_marked : (k : ℕ → Bool) (n : ℕ) → IsForced k (replicate n false)
 nothing_marked k n i e = let none = none_marked n i in cc
+
+-- ---- one demand of a list
+
+pub below_at : (n : ℕ) (ds : List Demand) (i : ℕ) (x : Demand) → i < length ds → AreBelow n ds → IsBelow n (get_or ds i x)
+below_at n [] i x h b = absurd (omega (arith, h))
+below_at n (d ∷ ds) zero x h b = b.0
+below_at n (d ∷ ds) (suc i) x h b = below_at n ds i x (omega (arith, h)) b.1
+
+meets_at : (k : ℕ → Bool) (ds : List Demand) (i : ℕ) (x : Demand) → i < length ds → list_all (meets_numbers k) ds ≡ true → meets_numbers k (get_or ds i x) ≡ true
+meets_at k [] i x h e = absurd (omega (arith, h))
+meets_at k (d ∷ ds) zero x h e = (all_head (meets_numbers k d) (list_all (meets_numbers k) ds) e).0
+meets_at k (d ∷ ds) (suc i) x h e = meets_at k ds i x (omega (arith, h)) (all_head (meets_numbers k d) (list_all (meets_numbers k) ds) e).1
+
+pub forced-step_at : (k : ℕ → Bool) (ds : List Demand) (i : ℕ) (x : Demand) (m : List Bool) → i < length ds →
+    list_all (meets_numbers k) ds ≡ true → IsForced k m → IsForced k (step (get_or ds i x) m)
+forced-step_at k ds i x m h e f = forced-step k (get_or ds i x) m f (meets_at k ds i x h e)

@@ -56,7 +56,7 @@ fn scope_of(number: usize, item: &Item, name: &Name) -> usize
 }
 
 /// A name in the item of this number.
-fn name_in<'t>(number: usize, item: &Item, name: &'t Name) -> Key<'t>
+pub fn name_in<'t>(number: usize, item: &Item, name: &'t Name) -> Key<'t>
     ensures { key_view result ≡ spec.name_in number (part item.now) name.now.text.items }
 {
     Key {

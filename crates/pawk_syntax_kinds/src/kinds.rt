@@ -1,6 +1,7 @@
 //! Whether every name of a program has one kind.
 
 ghost use Rattle.std.specs.Prelude.{◌≡◌, ◌<◌, IfOk, IsTrue, map, length, true, false};
+ghost use Rattle.std.specs.Option.{is_none};
 ghost use Rattle.std.specs.List.{list_all, All};
 ghost use Rattle.pawk_token.specs.Bytes.{Text};
 ghost use Rattle.pawk_syntax_program.specs.Item.{part};
@@ -14,6 +15,7 @@ ghost use Rattle.pawk_syntax_kinds.specs.Found as spec;
 use crate::demand::Demand;
 use crate::demands::Demands;
 use crate::marks::marks;
+use crate::places::first_clash;
 use crate::variables::Variable;
 use pawk_syntax_program::item::Item;
 use pawk_syntax_uses::functions::Functions;
@@ -33,7 +35,7 @@ fn is_array(marks: &[bool], variable: Variable<'_>) -> bool
 }
 
 /// Whether the marks meet a demand.
-fn meets(marks: &[bool], demand: Demand<'_>) -> bool
+pub fn meets(marks: &[bool], demand: Demand<'_>) -> bool
     requires { marking.IsBelow (length marks.now) demand }
     ensures { result ≡ spec.meets_marks marks.now demand.entry }
 {
@@ -63,18 +65,23 @@ fn meets_all(marks: &[bool], demands: &[Demand<'_>]) -> bool
     true
 }
 
-/// Whether every name of the program has one kind: some names are arrays and the others scalars, so
-/// that every use of a name agrees (POSIX.1-2017, awk, "Variables and Special Variables").
-pub fn have_kinds<'t>(
+/// Where the kinds of names clash, if they do: every name of a program is to have one kind, so that
+/// some names are arrays and the others scalars, and every use of a name agrees (POSIX.1-2017, awk,
+/// "Variables and Special Variables"). Answers the byte, counted from 0, where a name first stands
+/// of those that have to be of one kind and are not.
+pub fn clash<'t>(
     alloc: Global,
     functions: &Functions<'t>,
     items: &'t [Item],
-) -> Result<bool, AllocError>
+) -> Result<Option<usize>, AllocError>
     requires { (x : Text) → found functions.now x ≡ function_of (map part items.now) x }
-    ensures fit { IfOk result (λ b. b ≡ true → KindsFit (map part items.now)) }
-    ensures unfit { IfOk result (λ b. b ≡ false → KindsFit (map part items.now) → ⊥) }
+    ensures fit { IfOk result (λ o. is_none o ≡ true → KindsFit (map part items.now)) }
+    ensures unfit { IfOk result (λ o. is_none o ≡ false → KindsFit (map part items.now) → ⊥) }
 {
     let demands = Demands::new(alloc, functions, items)?;
     let marks = marks(alloc, demands.list.as_slice(), demands.variables.keys.len())?;
-    Ok(meets_all(marks.as_slice(), demands.list.as_slice()))
+    if meets_all(marks.as_slice(), demands.list.as_slice()) {
+        return Ok(None);
+    }
+    Ok(Some(first_clash(alloc, &demands, marks.as_slice(), items)?))
 }

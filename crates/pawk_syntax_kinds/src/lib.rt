@@ -4,5 +4,7 @@
 pub mod demand;
 pub mod demands;
 pub mod kinds;
+pub mod links;
 pub mod marks;
+pub mod places;
 pub mod variables;

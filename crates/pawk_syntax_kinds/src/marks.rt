@@ -1,10 +1,11 @@
 //! Which variables are arrays.
 
-ghost use Rattle.std.specs.Prelude.{◌≡◌, ◌<◌, length, IfOk, not, ℕ, Bool, true};
+ghost use Rattle.std.specs.Prelude.{◌≡◌, ◌<◌, length, IfOk, OnOk, not, ℕ, Bool, true};
 ghost use Rattle.std.specs.List.{list_all};
 ghost use Rattle.pawk_syntax_kinds.specs.Marks as spec;
 
 use crate::demand::Demand;
+use crate::links::Links;
 use std::alloc::{AllocError, Global};
 
 /// Marks a number; answers whether it was not marked.
@@ -66,6 +67,70 @@ fn spread(marks: &mut [bool], demands: &[Demand<'_>])
     while steps(marks, demands) {}
 }
 
+/// The number that a demand would mark.
+fn target(marks: &[bool], demand: Demand<'_>) -> usize {
+    match demand {
+        Demand::Array(v) | Demand::Scalar(v) => v.number,
+        Demand::Alike(v, w) => {
+            if marks.get(v.number).copied().unwrap_or(false) {
+                w.number
+            } else {
+                v.number
+            }
+        }
+    }
+}
+
+/// Marks what the demand at this place shows, and adds the places of those that may show more then.
+fn advance(
+    marks: &mut [bool],
+    demands: &[Demand<'_>],
+    links: &Links,
+    place: usize,
+    places: &mut Vec<usize>,
+) -> Result<(), AllocError>
+    requires { spec.AreBelow (length marks.old) demands.now }
+    ensures { (k : ℕ → Bool) → list_all (spec.meets_numbers k) demands.now ≡ true → spec.IsForced k marks.old → spec.IsForced k marks.new }
+{
+    if place < demands.len() {
+        let number = target(marks, demands[place]);
+        if step(marks, demands[place]) {
+            links.follow(number, places)?;
+        }
+    }
+    Ok(())
+}
+
+/// Marks what the demands show to be arrays, each time following what was marked.
+fn follow(alloc: Global, marks: &mut [bool], demands: &[Demand<'_>]) -> Result<(), AllocError>
+    requires { spec.AreBelow (length marks.old) demands.now }
+    ensures { (k : ℕ → Bool) → list_all (spec.meets_numbers k) demands.now ≡ true → spec.IsForced k marks.old → spec.IsForced k marks.new }
+{
+    let links = Links::new(alloc, demands, marks.len())?;
+    let mut places = Vec::new(alloc);
+    for place in 0..demands.len() {
+        places.push(place)?;
+    }
+    for _turn in 0..demands.len().saturating_mul(3) {
+        match places.pop() {
+            None => break,
+            Some(place) => advance(marks, demands, &links, place, &mut places)?,
+        }
+    }
+    Ok(())
+}
+
+/// Marks what the demands show to be arrays, and makes sure that they show no more.
+fn settle(alloc: Global, marks: &mut [bool], demands: &[Demand<'_>]) -> Result<(), AllocError>
+    requires { spec.AreBelow (length marks.old) demands.now }
+    ensures settled { OnOk result (list_all (spec.is_settled marks.new) demands.now ≡ true) }
+    ensures forced { (k : ℕ → Bool) → list_all (spec.meets_numbers k) demands.now ≡ true → spec.IsForced k marks.old → spec.IsForced k marks.new }
+{
+    follow(alloc, marks, demands)?;
+    spread(marks, demands);
+    Ok(())
+}
+
 /// Which of so many numbers the demands show to be arrays: what is marked is an array in all kinds
 /// that meet the demands, and no demand shows more.
 pub fn marks(alloc: Global, demands: &[Demand<'_>], count: usize) -> Result<Vec<bool>, AllocError>
@@ -75,6 +140,6 @@ pub fn marks(alloc: Global, demands: &[Demand<'_>], count: usize) -> Result<Vec<
     ensures length { IfOk result (λ m. length m.items ≡ count) }
 {
     let mut marks = vec![in alloc; false; count]?;
-    spread(&mut marks, demands);
+    settle(alloc, &mut marks, demands)?;
     Ok(marks)
 }

@@ -8,7 +8,7 @@ use Rattle.pawk_syntax_kinds.proofs.marks.marks.Goals as goal
 pub returns-clause-forced : goal.returns-clause-forced
 returns-clause-forced c = λ k e.
     let P : List Bool → Type 0 = IsForced k in
-    let m = c.spread.new.marks in
+    let m = c.settle.new.marks in
     let same : take c.in_ok-marks.marks.len (m ++ drop (length m) c.in_ok-marks.marks.items) ≡ m = take_at m (drop (length m) c.in_ok-marks.marks.items) c.in_ok-marks.marks.len (omega arith) in
     let begins : c.deref_mut.result.now ≡ replicate c.args.count false = c.deref_mut.ensures.value ∙ c.in_ok-marks.ensures.items_if_clones_equal (λ y f. f) in
-    subst P (sym same) (c.spread.ensures.forced k e (subst P (sym begins) (nothing_marked k c.args.count)))
+    subst P (sym same) (c.settle.ensures.forced k e (subst P (sym begins) (nothing_marked k c.args.count)))
