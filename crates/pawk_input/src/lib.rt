@@ -22,7 +22,7 @@ pub use pawk_fields::{
 pub use pawk_records::{begins_law, records_law};
 pub use pawk_split::{
     FieldWalk, Finder, append_between, append_fields, count_between, count_fields_by,
-    expression_matcher, split_fields, split_fields_with, split_law,
+    expression_matcher, field_by, split_fields, split_fields_with, split_law,
 };
 pub use plan::Plan;
 pub use walk::Records;

@@ -1,9 +1,9 @@
 -- What a walk has handed out, and what is left.
-use Rattle.std.proofs.Common.{◌≡◌, ℕ, ◌+◌, List, [], ◌∷◌, ◌++◌, length, map, refl, ap, sym, ◌∙◌, subst, append_assoc, length-append, ◌<◌, Option, None, Some, IsNone, IsSome, arith, rules}
+use Rattle.std.proofs.Common.{◌≡◌, ℕ, ◌+◌, List, [], ◌∷◌, ◌++◌, length, map, refl, ap, sym, ◌∙◌, subst, append_assoc, length-append, ◌<◌, Option, None, Some, IsNone, IsSome, arith, rules, suc, ◌-◌, ◌≤◌, slice_get}
 use Rattle.std.proofs.lemmas.List.{append-nil, map-append}
 use Rattle.std.specs.declared.ops.Range.{Range}
 use Rattle.pawk_fields.specs.FieldSeparator.{range_of}
-use Rattle.pawk_split.specs.FieldWalks.{AddsLeft, AreLeft, CountsLeft, HandsOut, NeedsFinder, Rest, most_left}
+use Rattle.pawk_split.specs.FieldWalks.{AddsLeft, AreLeft, CountsLeft, HandsOut, IsOver, NeedsFinder, Rest, most_left}
 
 -- these fields were handed out
 pub record Passes (first now : Rest) : Type 0 where
@@ -19,8 +19,8 @@ passes_one first now later f h step = record {
   left = λ rest l. subst (AreLeft first) (sym (append_assoc h.fields (f ∷ []) rest)) (h.left (f ∷ rest) (step.onto rest l));
 }
 
-pub passes_all : (first now : Rest) (h : Passes first now) → AreLeft now [] → AreLeft first h.fields
-passes_all first now h l = subst (AreLeft first) (append-nil h.fields) (h.left [] l)
+pub passes_all : (first now : Rest) (h : Passes first now) → IsOver now → AreLeft first h.fields
+passes_all first now h l = subst (AreLeft first) (append-nil h.fields) (h.left [] ((l []).1 refl))
 
 -- what is near the end has a place to go on from
 goes_on : (next : Option ℕ) (s : List ℕ) (n : ℕ) → n < most_left next s → IsSome next
@@ -49,7 +49,7 @@ adds_one first now later old new longer f a step more = record {
       ∙ ap (λ l. old ++ l) (sym (map-append range_of a.out.fields ((f.start, f.end) ∷ [])));
 }
 
-pub adds_all : (first now : Rest) (old new : List (Range ℕ)) → Adds first now old new → AreLeft now [] → AddsLeft first old new
+pub adds_all : (first now : Rest) (old new : List (Range ℕ)) → Adds first now old new → IsOver now → AddsLeft first old new
 adds_all first now old new a l = record { fields = a.out.fields; left = passes_all first now a.out l; added = a.added }
 
 -- ---- they were counted
@@ -69,5 +69,41 @@ counts_one first now later count f a step = record {
   counted = ap (λ n. n + 1) a.counted ∙ sym (length-append a.out.fields (f ∷ []));
 }
 
-pub counts_all : (first now : Rest) (count : ℕ) → Counts first now count → AreLeft now [] → CountsLeft first count
+pub counts_all : (first now : Rest) (count : ℕ) → Counts first now count → IsOver now → CountsLeft first count
 counts_all first now count a l = record { fields = a.out.fields; left = passes_all first now a.out l; counted = a.counted }
+
+-- ---- so many were passed over
+
+pub record Skips (first now : Rest) (count : ℕ) : Type 0 where
+  pub behind : (all : List (ℕ × ℕ)) → AreLeft first all → (rest : List (ℕ × ℕ)) × AreLeft now rest × ((i : ℕ) → slice_get all (count + i) ≡ slice_get rest i)
+
+pub skips_none : (first : Rest) → Skips first first 0
+skips_none first = record { behind = λ all h. (all, h, λ i. ap (slice_get all) (let e : 0 + i ≡ i = omega arith in e)) }
+
+pub skips_one : (first now later : Rest) (count n : ℕ) (f : ℕ × ℕ) → Skips first now count → HandsOut now later f → n ≡ count + 1 → Skips first later n
+skips_one first now later count n f a step is = record {
+  behind = λ all h.
+      let some = a.behind all h in
+      let parts = step.only some.0 some.1 in (
+        parts.0,
+        parts.2,
+        λ i.
+            let e : n + i ≡ count + suc i = omega (arith, is) in
+            ap (slice_get all) e ∙ some.2 (suc i) ∙ ap (λ l. slice_get l (suc i)) parts.1,
+      );
+}
+
+-- past the last one
+pub past_over : (first now : Rest) (count number : ℕ) → Skips first now count → IsOver now → count ≤ number → (all : List (ℕ × ℕ)) → AreLeft first all → slice_get all number ≡ None
+past_over first now count number a over le all h =
+    let some = a.behind all h in
+    let e : number ≡ count + (number - count) = omega arith in
+    ap (slice_get all) e ∙ some.2 (number - count) ∙ ap (λ l. slice_get l (number - count)) ((over some.0).0 some.1)
+
+-- at the place of one
+pub at_field : (first now later : Rest) (number : ℕ) (f : ℕ × ℕ) → Skips first now number → HandsOut now later f → (all : List (ℕ × ℕ)) → AreLeft first all → slice_get all number ≡ Some f
+at_field first now later number f a step all h =
+    let some = a.behind all h in
+    let parts = step.only some.0 some.1 in
+    let e : number ≡ number + 0 = omega arith in
+    ap (slice_get all) e ∙ some.2 0 ∙ ap (λ l. slice_get l 0) parts.1

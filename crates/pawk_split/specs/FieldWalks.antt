@@ -1,5 +1,5 @@
 -- How a walk goes over the fields of a record.
-use Rattle.std.specs.Prelude.{◌≡◌, ℕ, ◌+◌, ◌-◌, ◌++◌, Bool, List, [], ◌∷◌, Option, None, Some, MatchOption, IsNone, IsSome, length, map}
+use Rattle.std.specs.Prelude.{◌≡◌, ◌↔◌, ℕ, ◌+◌, ◌-◌, ◌++◌, Bool, List, [], ◌∷◌, Option, None, Some, MatchOption, IsNone, IsSome, length, map}
 use Rattle.std.specs.declared.ops.Range.{Range}
 use Rattle.pawk_pattern.specs.Pattern.{Pattern, Leftmost, NoneFrom}
 use Rattle.pawk_pattern.specs.Tokens.{SpellsEre}
@@ -34,6 +34,14 @@ AreLeft r fields = MatchOption r.plain (AreFrom r.pattern r.paragraph r.text r.n
 -- a walk goes on between the matches of an expression
 abbrev pub NeedsFinder : Rest → Type 0
 NeedsFinder r = IsNone r.plain × IsSome r.next
+
+-- no field is left of a walk
+abbrev pub IsOver : Rest → Type 0
+IsOver r = (fields : List (ℕ × ℕ)) → AreLeft r fields ↔ (fields ≡ [])
+
+-- the places of a range
+abbrev pub place_of : Range ℕ → ℕ × ℕ
+place_of r = (r.start, r.end)
 
 -- of the fields that were left of a walk this one is the first, and the others are left
 pub record HandsOut (old new : Rest) (f : ℕ × ℕ) : Type 0 where

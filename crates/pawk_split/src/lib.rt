@@ -6,6 +6,7 @@ mod count;
 mod cut;
 mod finder;
 mod laws;
+mod nth;
 mod split;
 mod walk;
 
@@ -13,5 +14,6 @@ pub use append::append_between;
 pub use count::count_between;
 pub use finder::{Finder, expression_matcher};
 pub use laws::split_law;
+pub use nth::field_by;
 pub use split::{append_fields, count_fields_by, split_fields, split_fields_with};
 pub use walk::FieldWalk;

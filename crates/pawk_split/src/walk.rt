@@ -5,7 +5,7 @@ ghost use Rattle.std.specs.Prelude.{List, length, IfErr, IfOk, IfSome};
 ghost use Rattle.std.specs.Prelude.{MatchOption};
 ghost use Rattle.std.specs.Option.{ForSome};
 ghost use Rattle.pawk_split.specs.Between.{AreFieldsBetween};
-ghost use Rattle.pawk_split.specs.FieldWalks.{AreLeft, HandsOut, IsNextMatch};
+ghost use Rattle.pawk_split.specs.FieldWalks.{AreLeft, HandsOut, IsNextMatch, IsOver};
 ghost use Rattle.pawk_split.specs.FieldWalks.{NeedsFinder, most_left};
 ghost use Rattle.pawk_split.specs.Cut.{IsAhead};
 ghost use Rattle.pawk_split.specs.FieldsOf.{AreFieldsOf, IsFaultOf, TellsNone, separator_of};
@@ -115,7 +115,8 @@ impl<'a> FieldWalk<'a> {
         ensures fault { IfErr result (IsFaultOf fs.entry.now text.entry.now) }
         ensures pattern { IfOk result (λ walk. walk.pattern ≡ fs.entry.now) }
         ensures text { IfOk result (λ walk. walk.text ≡ text.entry.now) }
-        ensures plain { IfOk result (λ walk. NeedsFinder walk → 2 ≤ length fs.entry.now) }
+        ensures plain { IfOk result (λ walk. NeedsFinder walk
+            → (2 ≤ length fs.entry.now) × (0 < length text.entry.now)) }
     {
         let plain = match fs {
             [byte] => Some(byte_separator(*byte, paragraph)),
@@ -139,7 +140,7 @@ impl<'a> FieldWalk<'a> {
     fn next_plain(&mut self, separator: FieldSeparator, from: usize) -> Option<Range<usize>>
         requires plain { self.old.plain ≡ Some separator }
         requires next { self.old.next ≡ Some from }
-        ensures field { MatchOption result (AreLeft self.old [])
+        ensures field { MatchOption result (IsOver self.old)
             (λ f. HandsOut self.old self.new (f.start, f.end)) }
         ensures within { IfSome result
             (λ f. (f.start ≤ f.end) × (f.end ≤ length self.old.text)) }
@@ -165,7 +166,7 @@ impl<'a> FieldWalk<'a> {
     /// before.
     pub fn next_range<F: Finder>(&mut self, finder: &mut F) -> Result<Option<Range<usize>>, Stop>
         requires ready { NeedsFinder self.old → F.answers_for finder.old self.old.pattern }
-        ensures field { IfOk result (λ field. MatchOption field (AreLeft self.old [])
+        ensures field { IfOk result (λ field. MatchOption field (IsOver self.old)
             (λ f. HandsOut self.old self.new (f.start, f.end))) }
         ensures within { IfOk result (λ field. IfSome field
             (λ f. (f.start ≤ f.end) × (f.end ≤ length self.old.text))) }

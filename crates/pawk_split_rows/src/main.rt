@@ -3,12 +3,13 @@
 //!
 //! A row has cells between tabs: FS, the record, and 1 in paragraph mode. In the first two a backslash with three octal
 //! digits is the byte of that value. Each row is asked of `split_fields`, of `split_fields_with` with a cache of one
-//! expression, and of a walk, and counted; where the lists do not agree the answer is `differ`.
+//! expression, of a walk, and of `field_by` for each field and one more, and counted; where the lists do not agree the answer
+//! is `differ`.
 #![tactic(auto)]
 
 use pawk_ere::Cache;
 use pawk_rows::{cell, decode};
-use pawk_split::{FieldWalk, count_fields_by, split_fields, split_fields_with};
+use pawk_split::{FieldWalk, count_fields_by, field_by, split_fields, split_fields_with};
 use pawk_value::Stop;
 use std::alloc::{AllocError, Global};
 use std::io;
@@ -41,6 +42,28 @@ fn walked_text(
     Ok(ranges_text(alloc, ranges.as_slice())?)
 }
 
+/// The ranges of the fields from the first one on until there is none, each asked for by itself, behind a space. A text has
+/// no more fields than bytes, and one.
+fn singles_text(
+    alloc: Global,
+    cache: &mut Cache,
+    fs: &[u8],
+    paragraph: bool,
+    text: &[u8],
+) -> Result<String, Stop> {
+    let mut ranges = Vec::new(alloc);
+    for k in 1..=text.len() {
+        match field_by(cache, text, fs, paragraph, k)? {
+            Some(range) => ranges.push(range)?,
+            None => break,
+        }
+    }
+    if let Some(range) = field_by(cache, text, fs, paragraph, ranges.len() + 1)? {
+        ranges.push(range)?;
+    }
+    Ok(ranges_text(alloc, ranges.as_slice())?)
+}
+
 /// The answer to a row, or why there is none.
 fn answer(alloc: Global, cache: &mut Cache, row: &[u8]) -> Result<String, Stop> {
     let fs = decode(alloc, cell(row, 0))?;
@@ -51,8 +74,10 @@ fn answer(alloc: Global, cache: &mut Cache, row: &[u8]) -> Result<String, Stop> 
     let again = split_fields(alloc, record.as_slice(), fs.as_slice(), paragraph)?;
     let text = ranges_text(alloc, ranges.as_slice())?;
     let walked = walked_text(alloc, cache, fs.as_slice(), paragraph, record.as_slice())?;
+    let singles = singles_text(alloc, cache, fs.as_slice(), paragraph, record.as_slice())?;
     if text.as_str() != ranges_text(alloc, again.as_slice())?.as_str()
         || text.as_str() != walked.as_str()
+        || text.as_str() != singles.as_str()
     {
         return Ok(String::from_str(alloc, "differ")?);
     }

@@ -1,6 +1,6 @@
 use Rattle.std.proofs.Common.{rules, arith, subst, sym, ◌∙◌, refl}
 use Rattle.std.proofs.lemmas.Grind.{common_steps}
-use Rattle.pawk_split.proofs.WalkLemmas.{adds_none, adds_one, needed_before}
+use Rattle.pawk_split.proofs.WalkLemmas.{adds_none, adds_one, adds_all, needed_before}
 use Rattle.pawk_split.proofs.append.push_ranges.Goals as goal
 
 pub loop-field-init : goal.loop-field-init
@@ -31,3 +31,6 @@ pub next_range-requires : goal.next_range-requires
 next_range-requires g c =
     let i = c.loop-field.invariant in
     record { ready = λ needs. subst (λ f. g.F.Finder.answers_for f c.loop-field.fields.pattern) (sym i.finder) (subst (g.F.Finder.answers_for c.args.finder.now) (sym i.pattern) (c.requires.ready (i.needs needs))) }
+
+pub returns-clause-added : goal.returns-clause-added
+returns-clause-added g c = adds_all c.args.fields c.loop-field.fields c.args.ranges.now.items c.loop-field.ranges.items c.loop-field.invariant.adds (rw c.in_default.is at c.in_ok-field.ensures.field)

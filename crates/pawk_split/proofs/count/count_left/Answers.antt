@@ -1,5 +1,5 @@
 use Rattle.std.proofs.Common.{rules, arith, subst, sym, ◌∙◌, refl}
-use Rattle.pawk_split.proofs.WalkLemmas.{counts_none, counts_one, needed_before}
+use Rattle.pawk_split.proofs.WalkLemmas.{counts_none, counts_one, counts_all, needed_before}
 use Rattle.pawk_split.proofs.count.count_left.Goals as goal
 
 pub loop-count-init : goal.loop-count-init
@@ -33,3 +33,6 @@ pub next_range-requires : goal.next_range-requires
 next_range-requires g c =
     let i = c.loop-count.invariant in
     record { ready = λ needs. subst (λ f. g.F.Finder.answers_for f c.loop-count.fields.pattern) (sym i.finder) (subst (g.F.Finder.answers_for c.args.finder.now) (sym i.pattern) (c.requires.ready (i.needs needs))) }
+
+pub returns-clause-count : goal.returns-clause-count
+returns-clause-count g c = counts_all c.args.fields c.loop-count.fields c.loop-count.count c.loop-count.invariant.counts (rw c.in_default.is at c.in_ok-next_range.ensures.field)
