@@ -1,5 +1,5 @@
 -- No operand is tighter than its first token lets it be.
-use Rattle.std.proofs.Common.{◌≡◌, ◌≤◌, ◌<◌, ℕ, zero, suc, Bool, true, false, List, [], ◌∷◌, ◌++◌, length, drop, Option, Some, None, refl, sym, subst, ◌∙◌, inl, inr, arith, rules, length-append}
+use Rattle.std.proofs.Common.{◌≡◌, ◌≤◌, ◌<◌, ℕ, zero, suc, Bool, true, false, List, [], ◌∷◌, length, drop, Some, None, refl, sym, subst, ◌∙◌, inl, inr, arith, length-append}
 use Rattle.std.specs.Prelude.{nat_le}
 use Rattle.std.proofs.lemmas.Bool.{cases_Bool}
 use Rattle.std.proofs.lemmas.Bool.Decides.{nat_tests}
@@ -14,7 +14,7 @@ use Rattle.pawk_token.specs.Tokens as t
 use Rattle.pawk_syntax_tree.specs.declared.tree.Single.{Single}
 use Rattle.pawk_syntax_tree.specs.declared.tree.Single.TheVariants as single
 use Rattle.pawk_syntax_tree.specs.Tree.{Tree, element, unary, member, call, builtin, trees, value, complete}
-use Rattle.pawk_syntax_tree.specs.Parse.{Outcome, Parser, Operand, expect, expect_name, eat, sees, after, skip_lines, same_mark, low, bare, list_from, list_up_to, arguments, called, built_in, named, group_of, group, signed, step_before, field_step, field, operand_by_mark, operand, phrase, appended, and_then, expr}
+use Rattle.pawk_syntax_tree.specs.Parse.{Outcome, Parser, Operand, expect, expect_name, sees, after, skip_lines, same_mark, low, bare, list_from, list_up_to, arguments, called, built_in, named, group_of, group, signed, step_before, field_step, field, operand_by_mark, operand, phrase, appended, and_then, expr}
 use Rattle.pawk_syntax_tree.proofs.Tokens.{OnFound, on_bind, on_found, anything, sees_sign}
 use Rattle.pawk_syntax_parse.specs.Starts.{mark_level, tightest, tightest_next}
 use Rattle.pawk_syntax_parse.specs.Reads.{IsBelow}

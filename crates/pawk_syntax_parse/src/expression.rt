@@ -216,7 +216,12 @@ impl<F: Fn(Global, &mut Cursor<'_>, usize, bool, u8) -> Result<Phrase, SyntaxRef
     }
 
     /// After a list in round brackets: one expression is grouped, several are the keys of `in`.
-    fn group_of(&self, ts: &mut Cursor<'_>, inner: Phrases) -> Result<(Phrase, u8), SyntaxRefusal>
+    fn group_of(
+        &self,
+        ts: &mut Cursor<'_>,
+        compares: bool,
+        inner: Phrases,
+    ) -> Result<(Phrase, u8), SyntaxRefusal>
         ensures { Gives operand_of (spec.group_of (spec.expr self.now.depth) (trees_of inner) (input ts.old)) result (input ts.new) }
     {
         if inner.list.is_empty() {
@@ -225,8 +230,8 @@ impl<F: Fn(Global, &mut Cursor<'_>, usize, bool, u8) -> Result<Phrase, SyntaxRef
         if inner.list.len() == 1 {
             return Ok((build::only(inner), OF_VALUE));
         }
-        ts.expect(Mark::In, true)?;
-        let name = expect_name(self.alloc, ts, true)?;
+        ts.expect(Mark::In, compares)?;
+        let name = expect_name(self.alloc, ts, compares)?;
         Ok((build::member(ts, inner, name)?, OF_MEMBER))
     }
 
@@ -243,23 +248,28 @@ impl<F: Fn(Global, &mut Cursor<'_>, usize, bool, u8) -> Result<Phrase, SyntaxRef
     }
 
     #[tactic(auto, unfolding(pawk_syntax_tree::specs::Parse::group))]
-    fn any_group(&self, ts: &mut Cursor<'_>) -> Result<(Phrase, u8), SyntaxRefusal>
+    fn any_group(&self, ts: &mut Cursor<'_>, compares: bool) -> Result<(Phrase, u8), SyntaxRefusal>
         requires { Nests self.now.depth (F.pre self.now.expr) (F.post self.now.expr) }
         ensures { Gives operand_of (spec.group (spec.expr self.now.depth) (input ts.old)) result (input ts.new) }
     {
         let inner = self.list_up_to(ts, Mark::RightParenthesis, None)?;
-        self.group_of(ts, inner)
+        self.group_of(ts, compares, inner)
     }
 
     /// After a bracket, for an operand of the level `least`.
-    fn group(&self, ts: &mut Cursor<'_>, least: u8) -> Result<(Phrase, u8), SyntaxRefusal>
+    fn group(
+        &self,
+        ts: &mut Cursor<'_>,
+        compares: bool,
+        least: u8,
+    ) -> Result<(Phrase, u8), SyntaxRefusal>
         requires { Nests self.now.depth (F.pre self.now.expr) (F.post self.now.expr) }
         ensures { GivesFrom least (spec.group (spec.expr self.now.depth) (input ts.old)) result (input ts.new) }
     {
         if OF_MEMBER < least {
             self.only_group(ts, least)
         } else {
-            self.any_group(ts)
+            self.any_group(ts, compares)
         }
     }
 
@@ -338,7 +348,7 @@ impl<F: Fn(Global, &mut Cursor<'_>, usize, bool, u8) -> Result<Phrase, SyntaxRef
         ensures { GivesFrom least (spec.operand_by_mark (spec.expr self.now.depth) compares sign (input ts.old)) result (input ts.new) }
     {
         match sign {
-            Mark::LeftParenthesis => self.group(ts, least),
+            Mark::LeftParenthesis => self.group(ts, compares, least),
             Mark::Not => self.signed(ts, compares, Single::Not),
             Mark::Plus => self.signed(ts, compares, Single::Plus),
             Mark::Minus => self.signed(ts, compares, Single::Minus),
