@@ -26,7 +26,8 @@ use std::alloc::{AllocError, Global};
 
 /// The first fault among mentions of an item.
 fn fault_among(functions: &Functions<'_>, item: &Item, mentions: &[Mention<'_>]) -> Option<Fault>
-    ensures { is_none result ≡ list_all (fits (found functions.now) (part item.now)) (map mention_view mentions.now) }
+    ensures { is_none result ≡
+        list_all (fits (found functions.now) (part item.now)) (map mention_view mentions.now) }
 {
     let mut first = None;
     for mention in mentions {
@@ -42,7 +43,8 @@ fn fault_of(
     number: usize,
     item: &Item,
 ) -> Result<Option<Fault>, AllocError>
-    ensures { IfOk result (λ o. is_none o ≡ item_fits (found functions.now) number (part item.now)) }
+    ensures { IfOk result (λ o. is_none o ≡
+        item_fits (found functions.now) number (part item.now)) }
 {
     let mentions = mentions(alloc, item)?;
     let head = head_fault(functions, number, item);
@@ -56,7 +58,8 @@ fn fault_in(
     functions: &Functions<'_>,
     items: &[Item],
 ) -> Result<Option<Fault>, AllocError>
-    ensures { IfOk result (λ o. is_none o ≡ items_fit (found functions.now) 1 (map part items.now)) }
+    ensures { IfOk result (λ o. is_none o ≡
+        items_fit (found functions.now) 1 (map part items.now)) }
 {
     let mut first = None;
     for (index, item) in items.iter().enumerate() {
@@ -100,16 +103,16 @@ fn first_fault<'t>(
     Ok(first.refusal())
 }
 
-/// Checks a program that was read. Of several faults the first in the text is told, at one place the
-/// one with the lower number:
+/// Checks a program that was read. Of several faults the first in the text is told, at one place
+/// the one with the lower number:
 /// - `Assigned` (4), at the name: a variable that the run sets is assigned.
 /// - `Uses` (5), at the first place of the names that have to be of one kind: one of them is an
 ///   array, and one a scalar. At the first place of a function's name: it stands elsewhere than in
-///   calls, is defined twice, or is a variable of the language. At the parameter: it stands twice, or
-///   is a function or a variable of the language.
+///   calls, is defined twice, or is a variable of the language. At the parameter: it stands twice,
+///   or is a function or a variable of the language.
 /// - `Call` (6), at the name: a function that is not defined, too many arguments, a wrong count of
-///   arguments for a built-in function, or an argument that can be neither assigned nor filled where
-///   `sub`, `gsub` or `split` do so.
+///   arguments for a built-in function, or an argument that can be neither assigned nor filled
+///   where `sub`, `gsub` or `split` do so.
 /// - `Misplaced` (7), at the word: `next` or `nextfile` outside the action of a rule, `return`
 ///   outside a function, `break` or `continue` outside a loop.
 /// Answers `Memory` where memory was refused. The items stay as they are.

@@ -38,7 +38,8 @@ pub fn is_among(names: &[Name], name: &Name) -> bool
 /// Whether a parameter, before these others, has a name of its own.
 #[tactic(auto, using(crate::proofs::Parameters::among_names))]
 fn fits_parameter(functions: &Functions<'_>, others: &[Name], name: &Name) -> bool
-    ensures { result ≡ spec.fits_parameter (found functions.now) (texts others.now) name.now.text.items }
+    ensures { result ≡
+        spec.fits_parameter (found functions.now) (texts others.now) name.now.text.items }
 {
     !is_among(others, name)
         && !is_variable(name.text.as_slice())

@@ -173,7 +173,8 @@ fn other_than_run_variable(name: &Name) -> Option<Fault>
 
 /// What is at fault with a mention of an item.
 pub fn fault(functions: &Functions<'_>, item: &Item, mention: Mention<'_>) -> Option<Fault>
-    ensures { is_none result ≡ fits (found functions.now) (part item.now) (mention_view mention.entry) }
+    ensures { is_none result ≡
+        fits (found functions.now) (part item.now) (mention_view mention.entry) }
 {
     match mention {
         Mention::Array(name) => other_than_function(functions, name),

@@ -67,7 +67,8 @@ pub fn name_in<'t>(number: usize, item: &Item, name: &'t Name) -> Key<'t>
 
 /// The parameter at this place of a function, counted from 0, if they are there.
 fn parameter<'t>(functions: &Functions<'t>, function: &Name, place: usize) -> Option<Key<'t>>
-    ensures { option_map key_view result ≡ spec.parameter (found functions.now function.now.text.items) place }
+    ensures { option_map key_view result ≡
+        spec.parameter (found functions.now function.now.text.items) place }
 {
     let function = functions.get(function.text.as_slice())?;
     let name = function.parameters.get(place)?;
@@ -94,7 +95,8 @@ impl<'t> Demands<'t> {
     fn array(&mut self, key: Key<'t>) -> Result<(), AllocError>
         requires { AreNumbered self.old }
         ensures numbered { OnOk result (AreNumbered self.new) }
-        ensures asked { OnOk result (asked self.new ≡ asked self.old ++ spec.array_at (key_view key.entry) ∷ []) }
+        ensures asked { OnOk result (asked self.new ≡ asked self.old ++
+            spec.array_at (key_view key.entry) ∷ []) }
     {
         let variable = self.variables.variable(key)?;
         self.list.push(Demand::Array(variable))?;
@@ -106,7 +108,8 @@ impl<'t> Demands<'t> {
     fn scalar(&mut self, key: Key<'t>) -> Result<(), AllocError>
         requires { AreNumbered self.old }
         ensures numbered { OnOk result (AreNumbered self.new) }
-        ensures asked { OnOk result (asked self.new ≡ asked self.old ++ spec.scalar_at (key_view key.entry) ∷ []) }
+        ensures asked { OnOk result (asked self.new ≡ asked self.old ++
+            spec.scalar_at (key_view key.entry) ∷ []) }
     {
         let variable = self.variables.variable(key)?;
         self.list.push(Demand::Scalar(variable))?;
@@ -118,7 +121,8 @@ impl<'t> Demands<'t> {
     fn alike(&mut self, key: Key<'t>, other: Key<'t>) -> Result<(), AllocError>
         requires { AreNumbered self.old }
         ensures numbered { OnOk result (AreNumbered self.new) }
-        ensures asked { OnOk result (asked self.new ≡ asked self.old ++ spec.alike (key_view key.entry) (key_view other.entry) ∷ []) }
+        ensures asked { OnOk result (asked self.new ≡ asked self.old ++
+            spec.alike (key_view key.entry) (key_view other.entry) ∷ []) }
     {
         let variable = self.variables.variable(key)?;
         let parameter = self.variables.variable(other)?;
@@ -136,7 +140,9 @@ impl<'t> Demands<'t> {
     ) -> Result<(), AllocError>
         requires { AreNumbered self.old }
         ensures numbered { OnOk result (AreNumbered self.new) }
-        ensures asked { OnOk result (asked self.new ≡ asked self.old ++ spec.demands_of (found functions.now) number (part item.now) (mention_view mention.entry)) }
+        ensures asked { OnOk result (asked self.new ≡ asked self.old ++
+            spec.demands_of (found functions.now) number (part item.now)
+            (mention_view mention.entry)) }
     {
         match mention {
             Mention::Array(x) => self.array(name_in(number, item, x)),
@@ -167,7 +173,9 @@ impl<'t> Demands<'t> {
     ) -> Result<(), AllocError>
         requires { AreNumbered self.old }
         ensures numbered { OnOk result (AreNumbered self.new) }
-        ensures asked { OnOk result (asked self.new ≡ asked self.old ++ flat_map (spec.demands_of (found functions.now) number (part item.now)) (of_part (part item.now))) }
+        ensures asked { OnOk result (asked self.new ≡ asked self.old ++
+            flat_map (spec.demands_of (found functions.now) number (part item.now))
+            (of_part (part item.now))) }
     {
         let mentions = mentions(alloc, item)?;
         for mention in mentions.as_slice() {
@@ -183,7 +191,8 @@ impl<'t> Demands<'t> {
         items: &'t [Item],
     ) -> Result<Demands<'t>, AllocError>
         ensures numbered { IfOk result AreNumbered }
-        ensures asked { IfOk result (λ d. asked d ≡ spec.demands_from (found functions.now) 1 (map part items.now)) }
+        ensures asked { IfOk result (λ d. asked d ≡
+            spec.demands_from (found functions.now) 1 (map part items.now)) }
     {
         let mut demands = Demands::none(alloc);
         for (index, item) in items.iter().enumerate() {

@@ -62,7 +62,8 @@ fn steps(marks: &mut [bool], demands: &[Demand<'_>]) -> bool
 fn spread(marks: &mut [bool], demands: &[Demand<'_>])
     requires { spec.AreBelow (length marks.old) demands.now }
     ensures settled { list_all (spec.is_settled marks.new) demands.now ≡ true }
-    ensures forced { (k : ℕ → Bool) → list_all (spec.meets_numbers k) demands.now ≡ true → spec.IsForced k marks.old → spec.IsForced k marks.new }
+    ensures forced { (k : ℕ → Bool) → list_all (spec.meets_numbers k) demands.now ≡ true →
+        spec.IsForced k marks.old → spec.IsForced k marks.new }
 {
     while steps(marks, demands) {}
 }
@@ -90,7 +91,8 @@ fn advance(
     places: &mut Vec<usize>,
 ) -> Result<(), AllocError>
     requires { spec.AreBelow (length marks.old) demands.now }
-    ensures { (k : ℕ → Bool) → list_all (spec.meets_numbers k) demands.now ≡ true → spec.IsForced k marks.old → spec.IsForced k marks.new }
+    ensures { (k : ℕ → Bool) → list_all (spec.meets_numbers k) demands.now ≡ true →
+        spec.IsForced k marks.old → spec.IsForced k marks.new }
 {
     if place < demands.len() {
         let number = target(marks, demands[place]);
@@ -104,7 +106,8 @@ fn advance(
 /// Marks what the demands show to be arrays, each time following what was marked.
 fn follow(alloc: Global, marks: &mut [bool], demands: &[Demand<'_>]) -> Result<(), AllocError>
     requires { spec.AreBelow (length marks.old) demands.now }
-    ensures { (k : ℕ → Bool) → list_all (spec.meets_numbers k) demands.now ≡ true → spec.IsForced k marks.old → spec.IsForced k marks.new }
+    ensures { (k : ℕ → Bool) → list_all (spec.meets_numbers k) demands.now ≡ true →
+        spec.IsForced k marks.old → spec.IsForced k marks.new }
 {
     let links = Links::new(alloc, demands, marks.len())?;
     let mut places = Vec::new(alloc);
@@ -124,7 +127,8 @@ fn follow(alloc: Global, marks: &mut [bool], demands: &[Demand<'_>]) -> Result<(
 fn settle(alloc: Global, marks: &mut [bool], demands: &[Demand<'_>]) -> Result<(), AllocError>
     requires { spec.AreBelow (length marks.old) demands.now }
     ensures settled { OnOk result (list_all (spec.is_settled marks.new) demands.now ≡ true) }
-    ensures forced { (k : ℕ → Bool) → list_all (spec.meets_numbers k) demands.now ≡ true → spec.IsForced k marks.old → spec.IsForced k marks.new }
+    ensures forced { (k : ℕ → Bool) → list_all (spec.meets_numbers k) demands.now ≡ true →
+        spec.IsForced k marks.old → spec.IsForced k marks.new }
 {
     follow(alloc, marks, demands)?;
     spread(marks, demands);
@@ -136,7 +140,8 @@ fn settle(alloc: Global, marks: &mut [bool], demands: &[Demand<'_>]) -> Result<(
 pub fn marks(alloc: Global, demands: &[Demand<'_>], count: usize) -> Result<Vec<bool>, AllocError>
     requires { spec.AreBelow count demands.now }
     ensures settled { IfOk result (λ m. list_all (spec.is_settled m.items) demands.now ≡ true) }
-    ensures forced { IfOk result (λ m. (k : ℕ → Bool) → list_all (spec.meets_numbers k) demands.now ≡ true → spec.IsForced k m.items) }
+    ensures forced { IfOk result (λ m. (k : ℕ → Bool) →
+        list_all (spec.meets_numbers k) demands.now ≡ true → spec.IsForced k m.items) }
     ensures length { IfOk result (λ m. length m.items ≡ count) }
 {
     let mut marks = vec![in alloc; false; count]?;

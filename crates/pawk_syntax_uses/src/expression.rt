@@ -20,7 +20,8 @@ pub fn mention<'t>(mentions: &mut Vec<Mention<'t>>, new: Mention<'t>) -> Result<
 
 /// What an expression that is no name alone is in this role.
 fn beside<'t>(mentions: &mut Vec<Mention<'t>>, role: Role<'t>) -> Result<(), AllocError>
-    ensures { OnOk result (seen mentions.new ≡ seen mentions.old ++ spec.beside (role_view role.entry)) }
+    ensures { OnOk result (seen mentions.new ≡ seen mentions.old ++
+        spec.beside (role_view role.entry)) }
 {
     match role {
         Role::Argument(function, place) => mention(mentions, Mention::Value(function, place)),
@@ -35,7 +36,8 @@ pub fn expression<'t>(
     role: Role<'t>,
     e: &'t Expr,
 ) -> Result<(), AllocError>
-    ensures { OnOk result (seen mentions.new ≡ seen mentions.old ++ spec.mentions (role_view role.entry) (view e.now)) }
+    ensures { OnOk result (seen mentions.new ≡ seen mentions.old ++
+        spec.mentions (role_view role.entry) (view e.now)) }
 {
     match e {
         Expr::Variable(name) => mention(mentions, role.mention(name)),
@@ -89,7 +91,8 @@ pub fn list<'t>(
     setting: Setting<'t>,
     list: &'t [Expr],
 ) -> Result<(), AllocError>
-    ensures { OnOk result (seen mentions.new ≡ seen mentions.old ++ spec.inside_all (setting_view setting.entry) 0 (trees (views list.now))) }
+    ensures { OnOk result (seen mentions.new ≡ seen mentions.old ++
+        spec.inside_all (setting_view setting.entry) 0 (trees (views list.now))) }
 {
     for (place, e) in list.iter().enumerate() {
         expression(mentions, setting.role_at(place), e)?;

@@ -41,7 +41,8 @@ impl<'t> Functions<'t> {
 
     /// Adds what an item of this number defines, if its name is new.
     fn add(&mut self, scope: usize, item: &'t Item) -> Result<(), AllocError>
-        ensures { OnOk result ((x : Text) → found self.new x ≡ or_else (found self.old x) (function_at scope (part item.now) x)) }
+        ensures { OnOk result ((x : Text) → found self.new x ≡
+            or_else (found self.old x) (function_at scope (part item.now) x)) }
     {
         if let Item::Function(name, parameters, _) = item {
             if !self.map.contains_key(name.text.as_slice()) {

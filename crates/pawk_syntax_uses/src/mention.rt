@@ -13,7 +13,8 @@ pub enum Mention<'t> {
     Scalar(&'t Name),
     /// A name alone that is assigned, by `++`, `--`, `sub`, `gsub` and the head of a walk, too.
     Target(&'t Name),
-    /// A name alone as an argument: the name, the function that is called, and the argument's place.
+    /// A name alone as an argument: the name, the function that is called, and the argument's
+    /// place.
     Argument(&'t Name, &'t Name, usize),
     /// An argument that is no name alone: the function that is called, and the argument's place.
     Value(&'t Name, usize),

@@ -23,14 +23,16 @@ pub fn value<'t>(mentions: &mut Vec<Mention<'t>>, e: &'t Expr) -> Result<(), All
 
 /// Adds what the expressions of a list mention whose values are read.
 fn values<'t>(mentions: &mut Vec<Mention<'t>>, es: &'t [Expr]) -> Result<(), AllocError>
-    ensures { OnOk result (seen mentions.new ≡ seen mentions.old ++ spec.of_values (trees (views es.now))) }
+    ensures { OnOk result (seen mentions.new ≡ seen mentions.old ++
+        spec.of_values (trees (views es.now))) }
 {
     list(mentions, Setting::Plain, es)
 }
 
 /// Adds what an expression mentions that may be missing.
 fn option<'t>(mentions: &mut Vec<Mention<'t>>, e: &'t Option<Expr>) -> Result<(), AllocError>
-    ensures { OnOk result (seen mentions.new ≡ seen mentions.old ++ spec.of_option (option_view e.now)) }
+    ensures { OnOk result (seen mentions.new ≡ seen mentions.old ++
+        spec.of_option (option_view e.now)) }
 {
     match e {
         None => Ok(()),
@@ -46,7 +48,8 @@ fn guarded<'t>(
     statements: &'t [Statement],
     e: &'t Expr,
 ) -> Result<(), AllocError>
-    ensures { OnOk result (seen mentions.new ≡ seen mentions.old ++ (spec.of_value (view e.now) ++ spec.of_body in_loop (statements_seen statements.now))) }
+    ensures { OnOk result (seen mentions.new ≡ seen mentions.old ++ (spec.of_value (view e.now) ++
+        spec.of_body in_loop (statements_seen statements.now))) }
 {
     value(mentions, e)?;
     body(mentions, in_loop, statements)
@@ -59,7 +62,8 @@ fn statement<'t>(
     in_loop: bool,
     x: &'t Statement,
 ) -> Result<(), AllocError>
-    ensures { OnOk result (seen mentions.new ≡ seen mentions.old ++ spec.of_statement in_loop (stmt_view x.now)) }
+    ensures { OnOk result (seen mentions.new ≡ seen mentions.old ++
+        spec.of_statement in_loop (stmt_view x.now)) }
 {
     match x {
         Statement::Expression(e) => value(mentions, e),
@@ -102,7 +106,8 @@ pub fn body<'t>(
     in_loop: bool,
     statements: &'t [Statement],
 ) -> Result<(), AllocError>
-    ensures { OnOk result (seen mentions.new ≡ seen mentions.old ++ spec.of_body in_loop (statements_seen statements.now)) }
+    ensures { OnOk result (seen mentions.new ≡ seen mentions.old ++
+        spec.of_body in_loop (statements_seen statements.now)) }
 {
     for x in statements {
         statement(mentions, in_loop, x)?;
