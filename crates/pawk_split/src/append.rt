@@ -52,9 +52,9 @@ pub fn append_between<F: Finder>(
 {
     let length = ranges.len();
     let fields = FieldWalk::between(text, pattern, paragraph);
-    let told = push_ranges(finder, ranges, fields);
-    if told.is_err() {
+    let answer = push_ranges(finder, ranges, fields);
+    if answer.is_err() {
         ranges.truncate(length);
     }
-    told
+    answer
 }
