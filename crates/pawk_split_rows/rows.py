@@ -199,8 +199,8 @@ def cell(text):
 
 def main():
     rows = HAND + drawn()
-    for fs, s, paragraph, told in rows:
-        print(told if sys.argv[1] == 'answers' else '\t'.join([cell(fs), cell(s), str(paragraph)]))
+    for fs, s, paragraph, line in rows:
+        print(line if sys.argv[1] == 'answers' else '\t'.join([cell(fs), cell(s), str(paragraph)]))
 
 
 main()

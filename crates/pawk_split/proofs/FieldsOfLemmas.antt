@@ -16,9 +16,9 @@ by_expression (c ∷ d ∷ fs) paragraph (b ∷ s) fields long h = h
 pub adds_fields : (fs : List ℕ) (paragraph : Bool) (s : List ℕ) (old new : List (Range ℕ)) → 2 ≤ length fs → AddsBetween fs paragraph s old new → AddsFields fs paragraph s old new
 adds_fields fs paragraph s old new long h = record { fields = h.fields; right = by_expression fs paragraph s h.fields long h.right; added = h.added }
 
-pub told_fields : (r : Result (Unit {0}) Stop) (fs : List ℕ) (paragraph : Bool) (s : List ℕ) (old new : List (Range ℕ)) → 2 ≤ length fs → OnOk r (AddsBetween fs paragraph s old new) → OnOk r (AddsFields fs paragraph s old new)
-told_fields (Ok x) fs paragraph s old new long h = adds_fields fs paragraph s old new long h
-told_fields (Err why) fs paragraph s old new long h = tt
+pub result_fields : (r : Result (Unit {0}) Stop) (fs : List ℕ) (paragraph : Bool) (s : List ℕ) (old new : List (Range ℕ)) → 2 ≤ length fs → OnOk r (AddsBetween fs paragraph s old new) → OnOk r (AddsFields fs paragraph s old new)
+result_fields (Ok x) fs paragraph s old new long h = adds_fields fs paragraph s old new long h
+result_fields (Err why) fs paragraph s old new long h = tt
 
 -- ---- faults
 
@@ -30,8 +30,8 @@ fault_of (stops.Fault fault) (c ∷ []) (b ∷ s) long some h = absurd (omega ar
 fault_of (stops.Fault fault) (c ∷ d ∷ fs) (b ∷ s) long some h = h
 
 -- the fault of a walk is that of its FS
-pub told_fault : {X : Type 0} (r : Result X Stop) (walk : Rest) (fs s : List ℕ) → walk.pattern ≡ fs → (NeedsFinder walk → (2 ≤ length fs) × (0 < length s)) → IfErr r (λ stop. NeedsFinder walk × TellsNone walk.pattern stop) → IfErr r (λ stop. IfFault stop (IsFaultOf fs s))
-told_fault (Ok x) walk fs s is needs h = tt
-told_fault (Err stop) walk fs s is needs h =
+pub result_fault : {X : Type 0} (r : Result X Stop) (walk : Rest) (fs s : List ℕ) → walk.pattern ≡ fs → (NeedsFinder walk → (2 ≤ length fs) × (0 < length s)) → IfErr r (λ stop. NeedsFinder walk × TellsNone walk.pattern stop) → IfErr r (λ stop. IfFault stop (IsFaultOf fs s))
+result_fault (Ok x) walk fs s is needs h = tt
+result_fault (Err stop) walk fs s is needs h =
     let long = needs h.0 in
     fault_of stop fs s long.0 long.1 (subst (λ pattern. TellsNone pattern stop) is h.1)

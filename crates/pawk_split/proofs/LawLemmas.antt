@@ -13,7 +13,7 @@ use Rattle.pawk_fields.specs.declared.separator.FieldSeparator.{FieldSeparator}
 use Rattle.pawk_fields.specs.declared.separator.FieldSeparator.TheVariants.{Blanks, Byte, ByteOrNewline}
 use Rattle.pawk_split.specs.Between.{AreFields, MaySeparate}
 use Rattle.pawk_split.specs.FieldsOf.{AreFieldsOf, IsFaultOf, separator_of}
-use Rattle.pawk_split.specs.Law.{AreInOrder, laid, IsLawful, SplitLaw}
+use Rattle.pawk_split.specs.Law.{AreInOrder, end_to_end, IsLawful, SplitLaw}
 use Rattle.pawk_split.proofs.BetweenLemmas.{some_inside}
 
 -- ---- in order
@@ -99,10 +99,10 @@ module _ (R : ℕ → ℕ → Type 0) (s : List ℕ) (some : (i j : ℕ) → R i
 
 -- ---- laid end to end
 
-laid_is : (s : List ℕ) (fields : List (ℕ × ℕ)) (from : ℕ) → AreInOrder from (length s) fields → laid s from fields ≡ drop from s
-laid_is s [] from h = refl
-laid_is s (f ∷ fs) from h =
-    ap (λ l. slice_range s from f.0 ++ (slice_range s f.0 f.1 ++ l)) (laid_is s fs f.1 h.3)
+end_to_end_is : (s : List ℕ) (fields : List (ℕ × ℕ)) (from : ℕ) → AreInOrder from (length s) fields → end_to_end s from fields ≡ drop from s
+end_to_end_is s [] from h = refl
+end_to_end_is s (f ∷ fs) from h =
+    ap (λ l. slice_range s from f.0 ++ (slice_range s f.0 f.1 ++ l)) (end_to_end_is s fs f.1 h.3)
     ∙ ap (λ l. slice_range s from f.0 ++ l) (sym (drop_split s f.0 f.1 h.1))
     ∙ sym (drop_split s from f.0 h.0)
 
@@ -117,7 +117,7 @@ separates_some e paragraph s i j m = ⊎_elim
 lawful : (fs : List ℕ) (paragraph : Bool) (s : List ℕ) (fields : List (ℕ × ℕ)) → AreInOrder 0 (length s) fields → ((others : List (ℕ × ℕ)) → AreFieldsOf fs paragraph s others → others ≡ fields) → ((fault : Fault) → IsFaultOf fs s fault → ⊥) → IsLawful fs paragraph s fields
 lawful fs paragraph s fields order alone fault = record {
   in_order = order;
-  whole = laid_is s fields 0 order;
+  whole = end_to_end_is s fields 0 order;
   alone = alone;
   no_fault = fault;
 }

@@ -16,7 +16,7 @@ use Rattle.pawk_split.specs.Between.{AreFieldsBetween}
 abbrev pub separator_of : ℕ → Bool → FieldSeparator
 separator_of byte paragraph = if byte == 32 then Blanks else if paragraph then ByteOrNewline byte else Byte byte
 
--- The fields of a record by an FS. An empty record has none, whatever FS is; an empty FS gives none;
+-- The fields of a record by an FS. An empty record has none, whatever FS is; by an empty FS no list is right;
 -- an FS of more than one byte is an expression.
 abbrev pub AreFieldsOf : List ℕ → Bool → List ℕ → List (ℕ × ℕ) → Type 0
 AreFieldsOf fs paragraph [] fields = fields ≡ []

@@ -9,14 +9,14 @@ AreInOrder from end [] = Unit {0}
 AreInOrder from end (f ∷ fs) = (from ≤ f.0) × (f.0 ≤ f.1) × (f.1 ≤ end) × AreInOrder f.1 end fs
 
 -- the bytes of ranges and those between them, laid end to end, from a place on
-abbrev pub laid : List ℕ → ℕ → List (ℕ × ℕ) → List ℕ
-laid s from [] = drop from s
-laid s from (f ∷ fs) = slice_range s from f.0 ++ (slice_range s f.0 f.1 ++ laid s f.1 fs)
+abbrev pub end_to_end : List ℕ → ℕ → List (ℕ × ℕ) → List ℕ
+end_to_end s from [] = drop from s
+end_to_end s from (f ∷ fs) = slice_range s from f.0 ++ (slice_range s f.0 f.1 ++ end_to_end s f.1 fs)
 
 -- what holds of a record's fields by an FS
 pub record IsLawful (fs : List ℕ) (paragraph : Bool) (s : List ℕ) (fields : List (ℕ × ℕ)) : Type 0 where
   pub in_order : AreInOrder 0 (length s) fields
-  pub whole : laid s 0 fields ≡ s
+  pub whole : end_to_end s 0 fields ≡ s
   pub alone : (others : List (ℕ × ℕ)) → AreFieldsOf fs paragraph s others → others ≡ fields
   pub no_fault : (fault : Fault) → IsFaultOf fs s fault → ⊥
 

@@ -39,9 +39,9 @@ fn push_ranges<F: Finder>(
 pub fn append_between<F: Finder>(
     finder: &mut F,
     ranges: &mut Vec<Range<usize>>,
+    text: &[u8],
     pattern: &[u8],
     paragraph: bool,
-    text: &[u8],
 ) -> Result<(), Stop>
     requires ready { F.answers_for finder.old pattern.now }
     ensures added { OnOk result
@@ -51,10 +51,10 @@ pub fn append_between<F: Finder>(
     ensures finder { finder.new ≡ finder.old }
 {
     let length = ranges.len();
-    let fields = FieldWalk::between(pattern, paragraph, text);
-    let told = push_ranges(finder, ranges, fields);
-    if told.is_err() {
+    let fields = FieldWalk::between(text, pattern, paragraph);
+    let answer = push_ranges(finder, ranges, fields);
+    if answer.is_err() {
         ranges.truncate(length);
     }
-    told
+    answer
 }

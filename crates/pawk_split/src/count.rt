@@ -26,14 +26,14 @@ fn count_left<F: Finder>(finder: &mut F, mut fields: FieldWalk<'_>) -> Result<us
 /// How many fields [`append_between`](crate::append_between) appends; with its faults.
 pub fn count_between<F: Finder>(
     finder: &mut F,
+    text: &[u8],
     pattern: &[u8],
     paragraph: bool,
-    text: &[u8],
 ) -> Result<usize, Stop>
     requires ready { F.answers_for finder.old pattern.now }
     ensures count { IfOk result (CountsBetween pattern.now paragraph text.now) }
     ensures fault { IfErr result (TellsNone pattern.now) }
     ensures finder { finder.new ≡ finder.old }
 {
-    count_left(finder, FieldWalk::between(pattern, paragraph, text))
+    count_left(finder, FieldWalk::between(text, pattern, paragraph))
 }

@@ -53,5 +53,5 @@ pub fn field_by<F: Finder>(
     ensures fault { IfErr result (λ stop. IfFault stop (IsFaultOf fs.now text.now)) }
     ensures finder { finder.new ≡ finder.old }
 {
-    nth_left(finder, FieldWalk::by(fs, paragraph, text)?, k - 1)
+    nth_left(finder, FieldWalk::by(text, fs, paragraph)?, k - 1)
 }

@@ -62,7 +62,7 @@ pub fn append_fields<F: Finder>(
     if fs.len() < 2 || text.is_empty() {
         return append_plain(ranges, text, fs, paragraph);
     }
-    append_between(finder, ranges, fs, paragraph, text)
+    append_between(finder, ranges, text, fs, paragraph)
 }
 
 /// Appends as [`append_fields`] does, with a matcher made for this call alone.
@@ -81,7 +81,7 @@ fn append_alone(
         return append_plain(ranges, text, fs, paragraph);
     }
     let mut matcher = expression_matcher(alloc, fs)?;
-    append_between(&mut matcher, ranges, fs, paragraph, text)
+    append_between(&mut matcher, ranges, text, fs, paragraph)
 }
 
 /// The ranges of a record's fields by any FS, as [`append_fields`] appends them, with its faults.
@@ -140,6 +140,6 @@ pub fn count_fields_by<F: Finder>(
     match fs {
         [] => Err(Stop::Fault(Fault::Fs)),
         [byte] => Ok(count_split(byte_separator(*byte, paragraph), text)),
-        _ => count_between(finder, fs, paragraph, text),
+        _ => count_between(finder, text, fs, paragraph),
     }
 }

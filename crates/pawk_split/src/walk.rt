@@ -89,7 +89,7 @@ impl<'a> FieldWalk<'a> {
     /// spells and that are not empty, in paragraph mode also between newlines. An empty record has
     /// no fields.
     #[inline]
-    pub fn between(pattern: &'a [u8], paragraph: bool, text: &'a [u8]) -> Self
+    pub fn between(text: &'a [u8], pattern: &'a [u8], paragraph: bool) -> Self
         ensures fields { (fields : List (ℕ × ℕ)) → AreLeft result fields
             ↔ AreFieldsBetween pattern.entry.now paragraph text.entry.now fields }
         ensures pattern { result.pattern ≡ pattern.entry.now }
@@ -109,7 +109,7 @@ impl<'a> FieldWalk<'a> {
     /// A walk over the fields of a record by any FS. Fault `fs` where FS is empty and the record is
     /// not.
     #[inline]
-    pub fn by(fs: &'a [u8], paragraph: bool, text: &'a [u8]) -> Result<Self, Fault>
+    pub fn by(text: &'a [u8], fs: &'a [u8], paragraph: bool) -> Result<Self, Fault>
         ensures fields { IfOk result (λ walk. (fields : List (ℕ × ℕ)) → AreLeft walk fields
             ↔ AreFieldsOf fs.entry.now paragraph text.entry.now fields) }
         ensures fault { IfErr result (IsFaultOf fs.entry.now text.entry.now) }

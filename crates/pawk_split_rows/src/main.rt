@@ -34,7 +34,7 @@ fn walked_text(
     paragraph: bool,
     text: &[u8],
 ) -> Result<String, Stop> {
-    let mut walk = FieldWalk::by(fs, paragraph, text)?;
+    let mut walk = FieldWalk::by(text, fs, paragraph)?;
     let mut ranges = Vec::new(alloc);
     while let Some(range) = walk.next_range(cache)? {
         ranges.push(range)?;
