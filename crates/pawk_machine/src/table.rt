@@ -16,7 +16,7 @@ const MOST_STATES: usize = 512;
 
 /// The states of a table take about this many bytes at most, but for the first few: this less so many for each place, so that a
 /// tree and its table, of which either grows with the places, stay below a megabyte together.
-const TABLE_BYTES: usize = 450_000;
+const TABLE_BYTES: usize = 370_000;
 
 /// The bytes that a table leaves to the tree for each place.
 const TREE_BYTES: usize = 80;
