@@ -15,11 +15,11 @@ use std::alloc::{AllocError, Global};
 const MOST_STATES: usize = 512;
 
 /// The states of a table take about this many bytes at most, but for the first few: this less so many for each place, so that a
-/// tree and its table, of which either grows with the places, stay below a megabyte together.
+/// tree and its table, of which either grows with the places, stay below 1,048,576 bytes together.
 const TABLE_BYTES: usize = 370_000;
 
 /// The bytes that a table leaves to the tree for each place.
-const TREE_BYTES: usize = 80;
+const TREE_BYTES: usize = 54;
 
 /// The bytes that a state takes beside its marks: itself, and what is linked to it.
 const STATE_BYTES: usize = 640;
