@@ -1,5 +1,5 @@
 -- Expressions that are some bytes and nothing else.
-use Rattle.std.proofs.Common.{◌≡◌, ℕ, ◌+◌, ◌-◌, ◌<◌, ◌≤◌, Bool, drop, take, zero, suc, length-drop, List, [], ◌∷◌, ◌++◌, length, get_or, Option, Some, None, IfSome, refl, sym, ap, ◌∙◌, subst, ⊎_elim, arith, length-append}
+use Rattle.std.proofs.Common.{◌≡◌, ℕ, ◌+◌, ◌-◌, ◌<◌, ◌≤◌, Bool, drop, take, zero, suc, length-drop, List, [], ◌∷◌, ◌++◌, length, get_or, Some, None, refl, sym, ap, ◌∙◌, subst, ⊎_elim, arith, length-append}
 use Rattle.std.proofs.lemmas.Bool.{cases_lt}
 use Rattle.std.proofs.lemmas.List.{get_or_append_left, get_or-drop}
 use Rattle.std.proofs.Math.Seq.{get_or-append_right}
@@ -8,7 +8,7 @@ use Rattle.memchr.specs.Find.{OccursAt}
 use Rattle.pawk_pattern.specs.Pattern.{Holds, IsFound}
 use Rattle.pawk_ere.specs.Words.{IsLiteral}
 use Rattle.pawk_machine.proofs.Leftmost.{found_none, found_first}
-use Rattle.pawk_machine.specs.Regex.{Regex, Bytes, Plus, Sequence, Takes}
+use Rattle.pawk_machine.specs.Regex.{Regex, Bytes, Sequence, Takes}
 
 pub occurs_join : (s x y : List ℕ) (i : ℕ) → OccursAt s x i → OccursAt s y (i + length x) → OccursAt s (x ++ y) i
 occurs_join s x y i a b = record {

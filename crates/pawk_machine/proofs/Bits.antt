@@ -1,6 +1,6 @@
 -- The bits of a number that is a sum of eight, and sets that are kept in bits.
-use Rattle.std.proofs.Common.{◌≡◌, ℕ, zero, suc, ◌+◌, ◌*◌, ◌<◌, ◌≤◌, List, Bool, false, get_or, length, ap, ◌∙◌, sym, nat_eq, ⊎_elim, arith}
-use Rattle.std.specs.Prelude.{◌/◌, ◌%◌, ◌^◌}
+use Rattle.std.proofs.Common.{◌≡◌, ℕ, zero, suc, ◌+◌, ◌*◌, ◌<◌, ◌≤◌, List, Bool, false, get_or, ap, ◌∙◌, sym, nat_eq, ⊎_elim, arith}
+use Rattle.std.specs.Prelude.{◌/◌, ◌%◌}
 use Rattle.std.proofs.lemmas.Bool.{cases_lt, false≢true}
 use Rattle.std.proofs.lemmas.List.{get_or_past}
 use Rattle.std.proofs.lemmas.List.FromFn.{length-map-range_with_len}

@@ -3,7 +3,7 @@ use Rattle.std.proofs.Common.{◌≡◌, ℕ, zero, suc, ◌+◌, ◌-◌, ◌�
 use borrow.Author.Tests.{leb-true, leb-false}
 use Rattle.pawk_pattern.specs.Pattern as pattern
 use Rattle.pawk_pattern.specs.Pattern.{Pattern, Leads, Holds, Allows, Matches}
-use Rattle.pawk_machine.specs.Regex.{Regex, Bytes, Plus, Sequence, Takes, copies}
+use Rattle.pawk_machine.specs.Regex.{Regex, Bytes, Sequence, Takes, copies}
 use Rattle.pawk_pattern.specs.Sets.{none}
 use Rattle.pawk_machine.specs.Expand.{at_most, repeated, expand}
 

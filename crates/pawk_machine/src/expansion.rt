@@ -54,12 +54,17 @@ pub fn expand(alloc: Global, e: &Expression) -> Result<Node, AllocError>
     }
 }
 
-/// So many copies before the rest.
+/// So many copies before the rest. Where there are none the expression is not written out: else each `?` round another would
+/// double the tree.
 #[cycle(expanding)]
 fn before(alloc: Global, count: u8, a: &Expression, rest: Node) -> Result<Node, AllocError>
     ensures { IfOk result (λ node. regex_of node
         ≡ Sequence (copies count (expand (pattern_of a.now))) (regex_of rest)) }
 {
+    if count == 0 {
+        let nothing = Box::new(alloc, Node::Empty)?;
+        return Ok(Node::Sequence(nothing, Box::new(alloc, rest)?));
+    }
     let turn = Box::new(alloc, expand(alloc, a)?)?;
     let front = Box::new(alloc, Node::Copies(count, turn))?;
     Ok(Node::Sequence(front, Box::new(alloc, rest)?))

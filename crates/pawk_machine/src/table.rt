@@ -14,8 +14,12 @@ use std::alloc::{AllocError, Global};
 /// A table has no more states than this.
 const MOST_STATES: usize = 512;
 
-/// The states of a table take about this many bytes at most, but for the first few.
-const TABLE_BYTES: usize = 450_000;
+/// The states of a table take about this many bytes at most, but for the first few: this less so many for each place, so that a
+/// tree and its table, of which either grows with the places, stay below 1,048,576 bytes together.
+const TABLE_BYTES: usize = 370_000;
+
+/// The bytes that a table leaves to the tree for each place.
+const TREE_BYTES: usize = 54;
 
 /// The bytes that a state takes beside its marks: itself, and what is linked to it.
 const STATE_BYTES: usize = 640;
@@ -270,7 +274,8 @@ fn add_state(table: &mut Table, node: &Node, state: State) -> Result<usize, Allo
 fn most_states(places: usize) -> usize
     ensures { result ≤ 512 }
 {
-    (TABLE_BYTES / places.saturating_add(STATE_BYTES).max(1)).min(MOST_STATES)
+    let bytes = TABLE_BYTES.saturating_sub(places.saturating_mul(TREE_BYTES));
+    (bytes / places.saturating_add(STATE_BYTES).max(1)).min(MOST_STATES)
 }
 
 /// Where a state was put.

@@ -19,10 +19,10 @@ use std::sync::atomic::{AtomicU64, Ordering};
 use std::test::Fail;
 use std::thread;
 use std::thread::Threads;
-use std::time::{Clock, Duration};
+use std::time::Duration;
 
 /// What another chunk must have done before the one that is held goes on.
-#[derive(Clone, Copy, PartialEq, Eq)]
+#[derive(Clone, Copy)]
 enum Until {
     Entered,
     Left,
@@ -31,8 +31,8 @@ enum Until {
 /// Holds one chunk until another has entered or left, for at most 10,000 turns of a millisecond. Keeps a bit for each chunk
 /// that entered and that left, and counts the calls of enter.
 #[derive(Drop)]
-struct Holding<'a, C> {
-    clock: &'a C,
+struct Holding<'a> {
+    clock: &'a HostRuntime,
     held: u64,
     awaited: u64,
     until: Until,
@@ -42,8 +42,8 @@ struct Holding<'a, C> {
     gave_up: AtomicU64,
 }
 
-impl<'a, C: Clock> Holding<'a, C> {
-    fn new(clock: &'a C, held: u64, awaited: u64, until: Until) -> Holding<'a, C> {
+impl<'a> Holding<'a> {
+    fn new(clock: &'a HostRuntime, held: u64, awaited: u64, until: Until) -> Holding<'a> {
         Holding {
             clock,
             held,
@@ -65,7 +65,7 @@ impl<'a, C: Clock> Holding<'a, C> {
     }
 }
 
-impl<'a, C: Clock> Gate for Holding<'a, C> {
+impl Gate for Holding<'_> {
     fn enter(&self, chunk: u64) {
         self.enters.fetch_add(1, Ordering::SeqCst);
         self.entered.fetch_or(1 << (chunk % 64), Ordering::SeqCst);
@@ -89,7 +89,7 @@ impl<'a, C: Clock> Gate for Holding<'a, C> {
 }
 
 /// What a gate saw: whether it gave up, how often a chunk entered, and a bit for each that entered and that left.
-fn seen_by<C>(gate: &Holding<'_, C>) -> (u64, u64, u64, u64) {
+fn seen_by(gate: &Holding<'_>) -> (u64, u64, u64, u64) {
     (
         gate.gave_up.load(Ordering::SeqCst),
         gate.enters.load(Ordering::SeqCst),
@@ -159,25 +159,10 @@ fn plan_of_lines(alloc: Global, input: &Input) -> Result<Plan, Fail>
 type Results = Result<Vec<(u64, ChunkResult)>, AllocError>;
 
 /// The work of one thread.
-fn work_alone<G: Gate>(
-    alloc: Global,
-    program: &Program,
-    input: &Input,
-    plan: &Plan,
-    board: &Board,
-    mut seat: BoardSeat,
-    gate: &G,
-) -> Results
-    requires plan { IsPlanOf newline input.now plan.now }
-    requires chunks { board.now.chunks ≡ length plan.now }
-    requires seat { seat ≡ fresh board.now.id }
+fn work_alone<G: Gate>(alloc: Global, task: Task<'_>, mut seat: BoardSeat, gate: &G) -> Results
+    requires task { IsTask task }
+    requires seat { seat ≡ fresh task.board.now.id }
 {
-    let task = Task {
-        program,
-        input,
-        plan,
-        board,
-    };
     work(alloc, &task, &mut seat, gate)
 }
 
@@ -196,11 +181,16 @@ fn both_work<G: Gate + Sync, R: AllocGlobal + Threads>(
     let (board, mut seats) = Board::new(alloc, plan.len() as u64, 2)?;
     let b = seats.pop().ok_or("no second seat")?;
     let a = seats.pop().ok_or("no first seat")?;
-    let shared = &board;
+    let task = Task {
+        program,
+        input,
+        plan,
+        board: &board,
+    };
     Ok(thread::join(
         rt,
-        move || work_alone(alloc, program, input, plan, shared, a, gate),
-        move || work_alone(alloc, program, input, plan, shared, b, gate),
+        move || work_alone(alloc, task, a, gate),
+        move || work_alone(alloc, task, b, gate),
     ))
 }
 

@@ -1,7 +1,6 @@
 use Rattle.pawk_machine.specs.Members.{members_of}
 use Rattle.std.proofs.Common.{arith}
-use Rattle.std.specs.Prelude.{get_or}
-use Rattle.pawk_ere.proofs.Runs.{no_run_over, run_none, run_some}
+use Rattle.pawk_ere.proofs.Runs.{run_none, run_some}
 use Rattle.pawk_ere.proofs.run.search_run.Goals as goal
 
 pub returns-in-None : goal.returns-in-None

@@ -1,4 +1,4 @@
-use Rattle.std.proofs.Common.{◌≡◌, ℕ, zero, suc, ◌-◌, ◌≤◌, refl, ap, ◌∙◌, arith, rules}
+use Rattle.std.proofs.Common.{◌≡◌, ℕ, zero, suc, ◌-◌, ◌≤◌, ap, ◌∙◌, arith, rules}
 use Rattle.pawk_machine.specs.Expand.{at_least}
 use Rattle.pawk_machine.specs.Regex.{Regex, Plus, Sequence, copies}
 use Rattle.pawk_machine.proofs.expansion.+expanding.Goals as goal

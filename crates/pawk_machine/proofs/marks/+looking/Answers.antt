@@ -1,4 +1,4 @@
-use Rattle.std.proofs.Common.{◌≡◌, List, Bool, drop, ap, ◌∙◌, sym, refl, arith}
+use Rattle.std.proofs.Common.{drop, ap, ◌∙◌, sym, arith}
 use Rattle.pawk_machine.specs.Tree.{regex_of}
 use Rattle.pawk_machine.specs.Regex.{copies}
 use Rattle.pawk_machine.specs.Marks.{final, nullable, places}

@@ -1,4 +1,4 @@
-use Rattle.std.proofs.Common.{◌≡◌, ◌++◌, ap, ◌∙◌, sym, refl, arith, length, false}
+use Rattle.std.proofs.Common.{◌++◌, ap, ◌∙◌, sym, arith, false}
 use Rattle.pawk_machine.specs.Tree.{regex_of}
 use Rattle.pawk_machine.specs.Regex.{copies}
 use Rattle.pawk_machine.specs.Marks.{turns}

@@ -1,4 +1,4 @@
-use Rattle.std.proofs.Common.{ℕ, append_assoc, subst, ◌≡◌, ◌+◌, ◌-◌, ◌++◌, ◌&&◌, ◌||◌, List, Bool, drop, ap, ◌∙◌, sym, refl, arith, length, false}
+use Rattle.std.proofs.Common.{ℕ, append_assoc, ◌≡◌, ◌+◌, ◌-◌, ◌++◌, ◌&&◌, ◌||◌, List, Bool, drop, ap, ◌∙◌, sym, arith, false}
 use Rattle.pawk_machine.specs.Tree.{regex_of}
 use Rattle.pawk_machine.specs.Regex.{Regex, Either, copies}
 use Rattle.pawk_machine.specs.Marks.{final, nullable, places, turns, shift}

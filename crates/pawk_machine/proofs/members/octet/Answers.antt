@@ -1,4 +1,4 @@
-use Rattle.std.proofs.Common.{arith, refl}
+use Rattle.std.proofs.Common.{refl}
 use Rattle.pawk_machine.proofs.Bits.{octet_bits}
 use Rattle.pawk_machine.proofs.members.octet.Goals as goal
 

@@ -1,4 +1,4 @@
-use Rattle.std.proofs.Common.{◌≡◌, true, vec_items, ap, ◌∙◌, sym}
+use Rattle.std.proofs.Common.{◌≡◌, vec_items, ap, ◌∙◌, sym}
 use Rattle.std.specs.Prelude.{slice_get}
 use Rattle.pawk_machine.specs.declared.table.Table.{Table}
 use Rattle.pawk_machine.proofs.table.put_state.Goals as goal
