@@ -26,7 +26,8 @@ pub fn low(
     height: usize,
 ) -> Result<Body, SyntaxRefusal>
     requires { height ≡ height_of (stmt_view statement) }
-    ensures { Gives body_of (spec.low_stmt (stmt_view statement) (input ts.now)) result (input ts.now) }
+    ensures { Gives body_of (spec.low_stmt (stmt_view statement) (input ts.now)) result
+        (input ts.now) }
 {
     ts.low(height)?;
     let mut list = Vec::new(alloc);
@@ -104,7 +105,8 @@ pub fn when(e: Expr, a: Vec<Statement>) -> Statement
 
 /// `if (e) a else b`
 pub fn choose(e: Expr, a: Vec<Statement>, b: Vec<Statement>) -> Statement
-    ensures { stmt_view result ≡ stmt.choose (view e) (stmts (stmt_views a.items)) (stmts (stmt_views b.items)) }
+    ensures { stmt_view result ≡ stmt.choose (view e) (stmts (stmt_views a.items))
+        (stmts (stmt_views b.items)) }
 {
     Statement::IfElse(e, a, b)
 }
@@ -125,14 +127,16 @@ pub fn do_while(a: Vec<Statement>, e: Expr) -> Statement
 
 /// `for (a; b; c) body`
 pub fn count(a: Option<Expr>, b: Option<Expr>, c: Option<Expr>, body: Vec<Statement>) -> Statement
-    ensures { stmt_view result ≡ stmt.loop (option_view a) (option_view b) (option_view c) (stmts (stmt_views body.items)) }
+    ensures { stmt_view result ≡ stmt.loop (option_view a) (option_view b) (option_view c)
+        (stmts (stmt_views body.items)) }
 {
     Statement::For(a, b, c, body)
 }
 
 /// `for (key in array) body`
 pub fn walk(key: Name, array: Name, body: Vec<Statement>) -> Statement
-    ensures { stmt_view result ≡ stmt.walk key.text.items array.text.items (stmts (stmt_views body.items)) }
+    ensures { stmt_view result ≡ stmt.walk key.text.items array.text.items (stmts
+        (stmt_views body.items)) }
 {
     Statement::ForIn(key, array, body)
 }
@@ -186,7 +190,8 @@ pub fn split(phrase: Option<Phrase>) -> (Option<Expr>, usize)
 
 /// `if (e) a`, if that is not too high.
 pub fn low_when(alloc: Global, ts: &Cursor<'_>, e: Phrase, a: Body) -> Result<Body, SyntaxRefusal>
-    ensures { Gives body_of (spec.low_stmt (stmt.when (tree_of e) (stmts (body_of a))) (input ts.now)) result (input ts.now) }
+    ensures { Gives body_of (spec.low_stmt (stmt.when (tree_of e) (stmts (body_of a)))
+        (input ts.now)) result (input ts.now) }
 {
     let height = e.height.max(a.highest) + 1;
     let statement = when(e.expr, a.list);
@@ -201,7 +206,8 @@ pub fn low_choose(
     a: Body,
     b: Body,
 ) -> Result<Body, SyntaxRefusal>
-    ensures { Gives body_of (spec.low_stmt (stmt.choose (tree_of e) (stmts (body_of a)) (stmts (body_of b))) (input ts.now)) result (input ts.now) }
+    ensures { Gives body_of (spec.low_stmt (stmt.choose
+        (tree_of e) (stmts (body_of a)) (stmts (body_of b))) (input ts.now)) result (input ts.now) }
 {
     let height = e.height.max(a.highest.max(b.highest)) + 1;
     let statement = choose(e.expr, a.list, b.list);
@@ -210,7 +216,8 @@ pub fn low_choose(
 
 /// `while (e) a`, if that is not too high.
 pub fn low_repeat(alloc: Global, ts: &Cursor<'_>, e: Phrase, a: Body) -> Result<Body, SyntaxRefusal>
-    ensures { Gives body_of (spec.low_stmt (stmt.repeat (tree_of e) (stmts (body_of a))) (input ts.now)) result (input ts.now) }
+    ensures { Gives body_of (spec.low_stmt (stmt.repeat (tree_of e) (stmts (body_of a)))
+        (input ts.now)) result (input ts.now) }
 {
     let height = e.height.max(a.highest) + 1;
     let statement = repeat(e.expr, a.list);
@@ -219,7 +226,8 @@ pub fn low_repeat(alloc: Global, ts: &Cursor<'_>, e: Phrase, a: Body) -> Result<
 
 /// `do a while (e)`, if that is not too high.
 pub fn low_do(alloc: Global, ts: &Cursor<'_>, a: Body, e: Phrase) -> Result<Body, SyntaxRefusal>
-    ensures { Gives body_of (spec.low_stmt (stmt.do_while (stmts (body_of a)) (tree_of e)) (input ts.now)) result (input ts.now) }
+    ensures { Gives body_of (spec.low_stmt (stmt.do_while (stmts (body_of a)) (tree_of e))
+        (input ts.now)) result (input ts.now) }
 {
     let height = a.highest.max(e.height) + 1;
     let statement = do_while(a.list, e.expr);
@@ -233,7 +241,8 @@ pub fn low_count(
     head: (Option<Phrase>, Option<Phrase>, Option<Phrase>),
     body: Body,
 ) -> Result<Body, SyntaxRefusal>
-    ensures { Gives body_of (spec.low_stmt (stmt.loop (option_of head.0) (option_of head.1) (option_of head.2) (stmts (body_of body))) (input ts.now)) result (input ts.now) }
+    ensures { Gives body_of (spec.low_stmt (stmt.loop (option_of head.0) (option_of head.1)
+        (option_of head.2) (stmts (body_of body))) (input ts.now)) result (input ts.now) }
 {
     let (a, first) = split(head.0);
     let (b, second) = split(head.1);
@@ -250,7 +259,8 @@ pub fn low_walk(
     names: (Name, Name),
     body: Body,
 ) -> Result<Body, SyntaxRefusal>
-    ensures { Gives body_of (spec.low_stmt (stmt.walk names.0.text.items names.1.text.items (stmts (body_of body))) (input ts.now)) result (input ts.now) }
+    ensures { Gives body_of (spec.low_stmt (stmt.walk names.0.text.items names.1.text.items
+        (stmts (body_of body))) (input ts.now)) result (input ts.now) }
 {
     let height = body.highest + 1;
     let statement = walk(names.0, names.1, body.list);

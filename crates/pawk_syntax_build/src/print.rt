@@ -35,7 +35,8 @@ fn list_after(
     first: Phrase,
     level: u8,
 ) -> Result<Phrases, SyntaxRefusal>
-    ensures { Gives trees_of (spec.list_after (tree_of first) level (input ts.old)) result (input ts.new) }
+    ensures { Gives trees_of (spec.list_after (tree_of first) level (input ts.old)) result
+        (input ts.new) }
 {
     let whole = after_operand(alloc, ts, first, level)?;
     list_on(alloc, ts, whole)
@@ -48,7 +49,8 @@ fn bracketed_by(
     ts: &mut Cursor<'_>,
     inner: Phrases,
 ) -> Result<Phrases, SyntaxRefusal>
-    ensures { Gives trees_of (spec.bracketed_by (trees_of inner) (input ts.old)) result (input ts.new) }
+    ensures { Gives trees_of (spec.bracketed_by (trees_of inner) (input ts.old)) result
+        (input ts.new) }
 {
     if inner.list.is_empty() {
         return Err(ts.refuse(false));

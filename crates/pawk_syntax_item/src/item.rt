@@ -36,7 +36,8 @@ fn action(alloc: Global, ts: &mut Cursor<'_>) -> Result<Body, SyntaxRefusal>
 #[tactic(auto, using(crate::proofs::Building::low_is, crate::proofs::Building::low_none))]
 fn low(ts: &Cursor<'_>, item: Item, height: usize, closes: bool) -> Result<Part, SyntaxRefusal>
     requires { height ≡ height_in item }
-    ensures { Gives part_of (spec.low_part closes (part item) (input ts.now)) result (input ts.now) }
+    ensures { Gives part_of (spec.low_part closes (part item) (input ts.now)) result
+        (input ts.now) }
 {
     ts.low(height)?;
     Ok(Part { item, closes })
@@ -80,7 +81,8 @@ fn print_record(alloc: Global) -> Result<Body, AllocError>
 
 /// A rule with a pattern.
 fn when(ts: &Cursor<'_>, p: Phrase, body: Body, closes: bool) -> Result<Part, SyntaxRefusal>
-    ensures { Gives part_of (spec.low_part closes (shape.matching (tree_of p) (action_of body)) (input ts.now)) result (input ts.now) }
+    ensures { Gives part_of (spec.low_part closes (shape.matching (tree_of p) (action_of body))
+        (input ts.now)) result (input ts.now) }
 {
     let height = p.height.max(body.highest) + 1;
     low(ts, Item::When(p.expr, body.list), height, closes)
@@ -94,7 +96,8 @@ fn range(
     body: Body,
     closes: bool,
 ) -> Result<Part, SyntaxRefusal>
-    ensures { Gives part_of (spec.low_part closes (shape.between (tree_of p) (tree_of q) (action_of body)) (input ts.now)) result (input ts.now) }
+    ensures { Gives part_of (spec.low_part closes (shape.between (tree_of p)
+        (tree_of q) (action_of body)) (input ts.now)) result (input ts.now) }
 {
     let height = p.height.max(q.height.max(body.highest)) + 1;
     low(ts, Item::Range(p.expr, q.expr, body.list), height, closes)
@@ -103,7 +106,8 @@ fn range(
 /// A rule whose pattern was read.
 #[tactic(auto, unfolding(pawk_syntax_program::specs::ItemParse::action_or_none, pawk_syntax_program::specs::ItemParse::with_action))]
 fn matching(alloc: Global, ts: &mut Cursor<'_>, p: Phrase) -> Result<Part, SyntaxRefusal>
-    ensures { Gives part_of (spec.action_or_none (shape.matching (tree_of p)) (input ts.old)) result (input ts.new) }
+    ensures { Gives part_of (spec.action_or_none (shape.matching (tree_of p)) (input ts.old))
+        result (input ts.new) }
 {
     if ts.sees(Mark::LeftBrace) {
         let body = action(alloc, ts)?;
@@ -115,7 +119,8 @@ fn matching(alloc: Global, ts: &mut Cursor<'_>, p: Phrase) -> Result<Part, Synta
 /// A rule whose range was read.
 #[tactic(auto, unfolding(pawk_syntax_program::specs::ItemParse::action_or_none, pawk_syntax_program::specs::ItemParse::with_action))]
 fn between(alloc: Global, ts: &mut Cursor<'_>, p: Phrase, q: Phrase) -> Result<Part, SyntaxRefusal>
-    ensures { Gives part_of (spec.action_or_none (shape.between (tree_of p) (tree_of q)) (input ts.old)) result (input ts.new) }
+    ensures { Gives part_of (spec.action_or_none (shape.between (tree_of p) (tree_of q))
+        (input ts.old)) result (input ts.new) }
 {
     if ts.sees(Mark::LeftBrace) {
         let body = action(alloc, ts)?;
@@ -146,7 +151,8 @@ fn pattern(alloc: Global, ts: &mut Cursor<'_>) -> Result<Part, SyntaxRefusal>
 
 /// Parameters, up to and with the closing bracket.
 fn parameters_from(alloc: Global, ts: &mut Cursor<'_>) -> Result<Vec<Name>, SyntaxRefusal>
-    ensures { Gives names_of (spec.parameters_from (length (input ts.old)) [] (input ts.old)) result (input ts.new) }
+    ensures { Gives names_of (spec.parameters_from (length (input ts.old)) [] (input ts.old))
+        result (input ts.new) }
 {
     let mut all = Vec::new(alloc);
     for _turn in 0..ts.left() {
@@ -285,7 +291,8 @@ fn separated(ts: &mut Cursor<'_>, closes: bool) -> Result<(), SyntaxRefusal>
 
 /// All items, up to the end of the tokens.
 fn items(alloc: Global, ts: &mut Cursor<'_>) -> Result<Vec<Item>, SyntaxRefusal>
-    ensures { Gives items_of (spec.items_from (length (input ts.old) + 1) [] (input ts.old)) result (input ts.new) }
+    ensures { Gives items_of (spec.items_from (length (input ts.old) + 1) [] (input ts.old))
+        result (input ts.new) }
 {
     let mut all = Vec::new(alloc);
     for _turn in 0..ts.left() + 1 {

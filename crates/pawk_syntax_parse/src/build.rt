@@ -214,7 +214,8 @@ fn builtin_expr(function: Builtin, start: usize, arguments: Vec<Expr>) -> Expr
 
 /// An operator with one operand.
 pub fn unary(alloc: Global, ts: &Cursor<'_>, op: Single, a: Phrase) -> Result<Phrase, SyntaxRefusal>
-    ensures { Gives tree_of (spec.low (tree.unary op (tree_of a)) (input ts.now)) result (input ts.now) }
+    ensures { Gives tree_of (spec.low (tree.unary op (tree_of a)) (input ts.now)) result
+        (input ts.now) }
 {
     let height = a.height + 1;
     let expr = unary_expr(alloc, op, a.expr)?;
@@ -229,7 +230,8 @@ pub fn binary(
     a: Phrase,
     b: Phrase,
 ) -> Result<Phrase, SyntaxRefusal>
-    ensures { Gives tree_of (spec.low (tree.binary op (tree_of a) (tree_of b)) (input ts.now)) result (input ts.now) }
+    ensures { Gives tree_of (spec.low (tree.binary op (tree_of a) (tree_of b)) (input ts.now))
+        result (input ts.now) }
 {
     let height = a.height.max(b.height) + 1;
     let expr = binary_expr(alloc, op, a.expr, b.expr)?;
@@ -244,7 +246,8 @@ pub fn choice(
     a: Phrase,
     b: Phrase,
 ) -> Result<Phrase, SyntaxRefusal>
-    ensures { Gives tree_of (spec.low (tree.choice (tree_of c) (tree_of a) (tree_of b)) (input ts.now)) result (input ts.now) }
+    ensures { Gives tree_of (spec.low (tree.choice (tree_of c) (tree_of a) (tree_of b))
+        (input ts.now)) result (input ts.now) }
 {
     let height = c.height.max(a.height.max(b.height)) + 1;
     let expr = choice_expr(alloc, c.expr, a.expr, b.expr)?;
@@ -282,7 +285,8 @@ pub fn push(mut phrases: Phrases, phrase: Phrase) -> Result<Phrases, AllocError>
 
 /// `a[k, l]`
 pub fn element(ts: &Cursor<'_>, name: Name, keys: Phrases) -> Result<Phrase, SyntaxRefusal>
-    ensures { Gives tree_of (spec.low (tree.element name.text.items (trees (trees_of keys))) (input ts.now)) result (input ts.now) }
+    ensures { Gives tree_of (spec.low (tree.element name.text.items (trees (trees_of keys)))
+        (input ts.now)) result (input ts.now) }
 {
     let height = keys.highest + 1;
     let expr = element_expr(name, keys.list);
@@ -291,7 +295,8 @@ pub fn element(ts: &Cursor<'_>, name: Name, keys: Phrases) -> Result<Phrase, Syn
 
 /// `k in a` and `(k, l) in a`
 pub fn member(ts: &Cursor<'_>, keys: Phrases, name: Name) -> Result<Phrase, SyntaxRefusal>
-    ensures { Gives tree_of (spec.low (tree.member (trees (trees_of keys)) name.text.items) (input ts.now)) result (input ts.now) }
+    ensures { Gives tree_of (spec.low (tree.member (trees (trees_of keys)) name.text.items)
+        (input ts.now)) result (input ts.now) }
 {
     let height = keys.highest + 1;
     let expr = member_expr(keys.list, name);
@@ -300,7 +305,8 @@ pub fn member(ts: &Cursor<'_>, keys: Phrases, name: Name) -> Result<Phrase, Synt
 
 /// `f(a, b)`
 pub fn call(ts: &Cursor<'_>, name: Name, arguments: Phrases) -> Result<Phrase, SyntaxRefusal>
-    ensures { Gives tree_of (spec.low (tree.call name.text.items (trees (trees_of arguments))) (input ts.now)) result (input ts.now) }
+    ensures { Gives tree_of (spec.low (tree.call name.text.items (trees (trees_of arguments)))
+        (input ts.now)) result (input ts.now) }
 {
     let height = arguments.highest + 1;
     let expr = call_expr(name, arguments.list);
@@ -314,7 +320,8 @@ pub fn builtin(
     start: usize,
     arguments: Phrases,
 ) -> Result<Phrase, SyntaxRefusal>
-    ensures { Gives tree_of (spec.low (tree.builtin function (trees (trees_of arguments))) (input ts.now)) result (input ts.now) }
+    ensures { Gives tree_of (spec.low (tree.builtin function (trees (trees_of arguments)))
+        (input ts.now)) result (input ts.now) }
 {
     let height = arguments.highest + 1;
     let expr = builtin_expr(function, start, arguments.list);
@@ -323,7 +330,8 @@ pub fn builtin(
 
 /// `length` without arguments, which begins at this byte.
 pub fn length(alloc: Global, start: usize) -> Result<Phrase, AllocError>
-    ensures { IfOk result (λ p. tree_of p ≡ tree.builtin Length (tree.more tree.record_tree tree.none)) }
+    ensures { IfOk result (λ p. tree_of p ≡ tree.builtin Length
+        (tree.more tree.record_tree tree.none)) }
 {
     let arguments = push(no_phrases(alloc), record(alloc)?)?;
     let height = 3;
@@ -355,7 +363,8 @@ fn lacks_record(function: Builtin, count: usize) -> bool
 /// The arguments that a call without all of them stands for.
 #[tactic(auto, using(crate::proofs::Building::complete_more, crate::proofs::Building::complete_same))]
 pub fn complete(alloc: Global, function: Builtin, arguments: Phrases) -> Result<Phrases, AllocError>
-    ensures { IfOk result (λ ps. trees (trees_of ps) ≡ tree.complete function (trees (trees_of arguments))) }
+    ensures { IfOk result (λ ps. trees (trees_of ps) ≡ tree.complete function
+        (trees (trees_of arguments))) }
 {
     if lacks_record(function, arguments.list.len()) {
         push(arguments, record(alloc)?)

@@ -96,7 +96,8 @@ pub struct Grammar<F> {
 impl<F: Fn(Global, &mut Cursor<'_>, usize, bool, u8) -> Result<Phrase, SyntaxRefusal>> Grammar<F> {
     fn expr(&self, ts: &mut Cursor<'_>, compares: bool, least: u8) -> Result<Phrase, SyntaxRefusal>
         requires { Nests self.now.depth (F.pre self.now.expr) (F.post self.now.expr) }
-        ensures { Gives tree_of (spec.expr self.now.depth compares least (input ts.old)) result (input ts.new) }
+        ensures { Gives tree_of (spec.expr self.now.depth compares least (input ts.old)) result
+            (input ts.new) }
     {
         (self.expr)(self.alloc, ts, self.depth, compares, least)
     }
@@ -112,7 +113,9 @@ impl<F: Fn(Global, &mut Cursor<'_>, usize, bool, u8) -> Result<Phrase, SyntaxRef
         front: Phrases,
     ) -> Result<Phrases, SyntaxRefusal>
         requires { Nests self.now.depth (F.pre self.now.expr) (F.post self.now.expr) }
-        ensures { Gives trees_of (spec.list_from (spec.expr self.now.depth) compares function (length (input ts.old)) (trees_of front) (input ts.old)) result (input ts.new) }
+        ensures { Gives trees_of (spec.list_from
+            (spec.expr self.now.depth) compares function (length (input ts.old)) (trees_of front)
+            (input ts.old)) result (input ts.new) }
     {
         let mut all = front;
         for _turn in 0..ts.left() {
@@ -136,7 +139,8 @@ impl<F: Fn(Global, &mut Cursor<'_>, usize, bool, u8) -> Result<Phrase, SyntaxRef
         function: Option<Builtin>,
     ) -> Result<Phrases, SyntaxRefusal>
         requires { Nests self.now.depth (F.pre self.now.expr) (F.post self.now.expr) }
-        ensures { Gives trees_of (spec.list_up_to (spec.expr self.now.depth) close function (input ts.old)) result (input ts.new) }
+        ensures { Gives trees_of (spec.list_up_to (spec.expr self.now.depth) close function
+            (input ts.old)) result (input ts.new) }
     {
         let all = self.list(ts, true, function, build::no_phrases(self.alloc))?;
         ts.expect(close, true)?;
@@ -151,7 +155,8 @@ impl<F: Fn(Global, &mut Cursor<'_>, usize, bool, u8) -> Result<Phrase, SyntaxRef
         function: Option<Builtin>,
     ) -> Result<Phrases, SyntaxRefusal>
         requires { Nests self.now.depth (F.pre self.now.expr) (F.post self.now.expr) }
-        ensures { Gives trees_of (spec.arguments (spec.expr self.now.depth) function (input ts.old)) result (input ts.new) }
+        ensures { Gives trees_of (spec.arguments (spec.expr self.now.depth) function
+            (input ts.old)) result (input ts.new) }
     {
         ts.expect(Mark::LeftParenthesis, true)?;
         if ts.eat(Mark::RightParenthesis) {
@@ -163,7 +168,8 @@ impl<F: Fn(Global, &mut Cursor<'_>, usize, bool, u8) -> Result<Phrase, SyntaxRef
     #[tactic(auto, unfolding(pawk_syntax_tree::specs::Parse::called))]
     fn called(&self, ts: &mut Cursor<'_>, name: Name) -> Result<(Phrase, u8), SyntaxRefusal>
         requires { Nests self.now.depth (F.pre self.now.expr) (F.post self.now.expr) }
-        ensures { Gives operand_of (spec.called (spec.expr self.now.depth) name.text.items (input ts.old)) result (input ts.new) }
+        ensures { Gives operand_of (spec.called (spec.expr self.now.depth) name.text.items
+            (input ts.old)) result (input ts.new) }
     {
         let arguments = self.arguments(ts, None)?;
         Ok((build::call(ts, name, arguments)?, OF_VALUE))
@@ -193,7 +199,8 @@ impl<F: Fn(Global, &mut Cursor<'_>, usize, bool, u8) -> Result<Phrase, SyntaxRef
         start: usize,
     ) -> Result<(Phrase, u8), SyntaxRefusal>
         requires { Nests self.now.depth (F.pre self.now.expr) (F.post self.now.expr) }
-        ensures { Gives operand_of (spec.built_in (spec.expr self.now.depth) function (input ts.old)) result (input ts.new) }
+        ensures { Gives operand_of (spec.built_in (spec.expr self.now.depth) function
+            (input ts.old)) result (input ts.new) }
     {
         if !ts.sees(Mark::LeftParenthesis) {
             return self.bare(ts, compares, function, start);
@@ -206,7 +213,8 @@ impl<F: Fn(Global, &mut Cursor<'_>, usize, bool, u8) -> Result<Phrase, SyntaxRef
     #[tactic(auto, unfolding(pawk_syntax_tree::specs::Parse::named))]
     fn named(&self, ts: &mut Cursor<'_>, name: Name) -> Result<(Phrase, u8), SyntaxRefusal>
         requires { Nests self.now.depth (F.pre self.now.expr) (F.post self.now.expr) }
-        ensures { Gives operand_of (spec.named (spec.expr self.now.depth) name.text.items (input ts.old)) result (input ts.new) }
+        ensures { Gives operand_of (spec.named (spec.expr self.now.depth) name.text.items
+            (input ts.old)) result (input ts.new) }
     {
         if !ts.eat(Mark::LeftBracket) {
             return Ok((build::variable(name), OF_LVALUE));
@@ -222,7 +230,8 @@ impl<F: Fn(Global, &mut Cursor<'_>, usize, bool, u8) -> Result<Phrase, SyntaxRef
         compares: bool,
         inner: Phrases,
     ) -> Result<(Phrase, u8), SyntaxRefusal>
-        ensures { Gives operand_of (spec.group_of (spec.expr self.now.depth) (trees_of inner) (input ts.old)) result (input ts.new) }
+        ensures { Gives operand_of (spec.group_of (spec.expr self.now.depth) (trees_of inner)
+            (input ts.old)) result (input ts.new) }
     {
         if inner.list.is_empty() {
             return Err(ts.refuse(true));
@@ -240,7 +249,8 @@ impl<F: Fn(Global, &mut Cursor<'_>, usize, bool, u8) -> Result<Phrase, SyntaxRef
     fn only_group(&self, ts: &mut Cursor<'_>, least: u8) -> Result<(Phrase, u8), SyntaxRefusal>
         requires nests { Nests self.now.depth (F.pre self.now.expr) (F.post self.now.expr) }
         requires tight { 3 < least }
-        ensures { GivesFrom least (spec.group (spec.expr self.now.depth) (input ts.old)) result (input ts.new) }
+        ensures { GivesFrom least (spec.group (spec.expr self.now.depth) (input ts.old)) result
+            (input ts.new) }
     {
         let inner = self.expr(ts, true, OF_EXPR)?;
         ts.expect(Mark::RightParenthesis, true)?;
@@ -250,7 +260,8 @@ impl<F: Fn(Global, &mut Cursor<'_>, usize, bool, u8) -> Result<Phrase, SyntaxRef
     #[tactic(auto, unfolding(pawk_syntax_tree::specs::Parse::group))]
     fn any_group(&self, ts: &mut Cursor<'_>, compares: bool) -> Result<(Phrase, u8), SyntaxRefusal>
         requires { Nests self.now.depth (F.pre self.now.expr) (F.post self.now.expr) }
-        ensures { Gives operand_of (spec.group (spec.expr self.now.depth) (input ts.old)) result (input ts.new) }
+        ensures { Gives operand_of (spec.group (spec.expr self.now.depth) (input ts.old)) result
+            (input ts.new) }
     {
         let inner = self.list_up_to(ts, Mark::RightParenthesis, None)?;
         self.group_of(ts, compares, inner)
@@ -264,7 +275,8 @@ impl<F: Fn(Global, &mut Cursor<'_>, usize, bool, u8) -> Result<Phrase, SyntaxRef
         least: u8,
     ) -> Result<(Phrase, u8), SyntaxRefusal>
         requires { Nests self.now.depth (F.pre self.now.expr) (F.post self.now.expr) }
-        ensures { GivesFrom least (spec.group (spec.expr self.now.depth) (input ts.old)) result (input ts.new) }
+        ensures { GivesFrom least (spec.group (spec.expr self.now.depth) (input ts.old)) result
+            (input ts.new) }
     {
         if OF_MEMBER < least {
             self.only_group(ts, least)
@@ -281,7 +293,8 @@ impl<F: Fn(Global, &mut Cursor<'_>, usize, bool, u8) -> Result<Phrase, SyntaxRef
         op: Single,
     ) -> Result<(Phrase, u8), SyntaxRefusal>
         requires { Nests self.now.depth (F.pre self.now.expr) (F.post self.now.expr) }
-        ensures { Gives operand_of (spec.signed (spec.expr self.now.depth) compares op (input ts.old)) result (input ts.new) }
+        ensures { Gives operand_of (spec.signed (spec.expr self.now.depth) compares op
+            (input ts.old)) result (input ts.new) }
     {
         let a = self.expr(ts, compares, OF_PREFIXED)?;
         let a = build::value(self.alloc, a)?;
@@ -296,7 +309,8 @@ impl<F: Fn(Global, &mut Cursor<'_>, usize, bool, u8) -> Result<Phrase, SyntaxRef
         op: Single,
     ) -> Result<(Phrase, u8), SyntaxRefusal>
         requires { Nests self.now.depth (F.pre self.now.expr) (F.post self.now.expr) }
-        ensures { Gives operand_of (spec.step_before (spec.expr self.now.depth) compares op (input ts.old)) result (input ts.new) }
+        ensures { Gives operand_of (spec.step_before (spec.expr self.now.depth) compares op
+            (input ts.old)) result (input ts.new) }
     {
         let a = self.expr(ts, compares, OF_LVALUE)?;
         Ok((build::unary(self.alloc, ts, op, a)?, OF_INCREMENT))
@@ -310,7 +324,8 @@ impl<F: Fn(Global, &mut Cursor<'_>, usize, bool, u8) -> Result<Phrase, SyntaxRef
         op: Single,
     ) -> Result<(Phrase, u8), SyntaxRefusal>
         requires { Nests self.now.depth (F.pre self.now.expr) (F.post self.now.expr) }
-        ensures { Gives operand_of (spec.field_step (spec.expr self.now.depth) compares op (input ts.old)) result (input ts.new) }
+        ensures { Gives operand_of (spec.field_step (spec.expr self.now.depth) compares op
+            (input ts.old)) result (input ts.new) }
     {
         let a = self.expr(ts, compares, OF_LVALUE)?;
         let step = build::unary(self.alloc, ts, op, a)?;
@@ -323,7 +338,8 @@ impl<F: Fn(Global, &mut Cursor<'_>, usize, bool, u8) -> Result<Phrase, SyntaxRef
     #[tactic(auto, unfolding(pawk_syntax_tree::specs::Parse::field))]
     fn field(&self, ts: &mut Cursor<'_>, compares: bool) -> Result<(Phrase, u8), SyntaxRefusal>
         requires { Nests self.now.depth (F.pre self.now.expr) (F.post self.now.expr) }
-        ensures { Gives operand_of (spec.field (spec.expr self.now.depth) compares (input ts.old)) result (input ts.new) }
+        ensures { Gives operand_of (spec.field (spec.expr self.now.depth) compares (input ts.old))
+            result (input ts.new) }
     {
         if ts.eat(Mark::PlusPlus) {
             return self.field_step(ts, compares, Single::IncrementBefore);
@@ -345,7 +361,8 @@ impl<F: Fn(Global, &mut Cursor<'_>, usize, bool, u8) -> Result<Phrase, SyntaxRef
         refusal: SyntaxRefusal,
     ) -> Result<(Phrase, u8), SyntaxRefusal>
         requires { Nests self.now.depth (F.pre self.now.expr) (F.post self.now.expr) }
-        ensures { GivesFrom least (spec.operand_by_mark (spec.expr self.now.depth) compares sign (input ts.old)) result (input ts.new) }
+        ensures { GivesFrom least (spec.operand_by_mark (spec.expr self.now.depth) compares sign
+            (input ts.old)) result (input ts.new) }
     {
         match sign {
             Mark::LeftParenthesis => self.group(ts, compares, least),
@@ -368,7 +385,8 @@ impl<F: Fn(Global, &mut Cursor<'_>, usize, bool, u8) -> Result<Phrase, SyntaxRef
         least: u8,
     ) -> Result<(Phrase, u8), SyntaxRefusal>
         requires { Nests self.now.depth (F.pre self.now.expr) (F.post self.now.expr) }
-        ensures { GivesFrom least (spec.operand (spec.expr self.now.depth) compares (input ts.old)) result (input ts.new) }
+        ensures { GivesFrom least (spec.operand (spec.expr self.now.depth) compares
+            (input ts.old)) result (input ts.new) }
     {
         let refusal = ts.refuse(compares);
         if tightest_next(ts) < least {
@@ -409,7 +427,8 @@ impl<F: Fn(Global, &mut Cursor<'_>, usize, bool, u8) -> Result<Phrase, SyntaxRef
         left: Phrase,
     ) -> Result<Phrase, SyntaxRefusal>
         requires { Nests self.now.depth (F.pre self.now.expr) (F.post self.now.expr) }
-        ensures { Gives tree_of (spec.turn (spec.expr self.now.depth) compares row (tree_of left) (input ts.old)) result (input ts.new) }
+        ensures { Gives tree_of (spec.turn (spec.expr self.now.depth) compares row (tree_of left)
+            (input ts.old)) result (input ts.new) }
     {
         match row.turn {
             Turn::Infix(op) => {
@@ -459,7 +478,9 @@ impl<F: Fn(Global, &mut Cursor<'_>, usize, bool, u8) -> Result<Phrase, SyntaxRef
         first: (Phrase, u8),
     ) -> Result<Phrase, SyntaxRefusal>
         requires { Nests self.now.depth (F.pre self.now.expr) (F.post self.now.expr) }
-        ensures { Gives tree_of (spec.climb (spec.expr self.now.depth) compares (length (input ts.old) + 1) least first.1 (tree_of first.0) (input ts.old)) result (input ts.new) }
+        ensures { Gives tree_of (spec.climb (spec.expr self.now.depth) compares
+            (length (input ts.old) + 1) least first.1 (tree_of first.0) (input ts.old)) result
+            (input ts.new) }
     {
         let (mut left, mut top) = first;
         for _turn in 0..ts.left() + 1 {
@@ -483,7 +504,8 @@ impl<F: Fn(Global, &mut Cursor<'_>, usize, bool, u8) -> Result<Phrase, SyntaxRef
         least: u8,
     ) -> Result<Phrase, SyntaxRefusal>
         requires { Nests self.now.depth (F.pre self.now.expr) (F.post self.now.expr) }
-        ensures { Gives tree_of (spec.phrase (spec.expr self.now.depth) compares least (input ts.old)) result (input ts.new) }
+        ensures { Gives tree_of (spec.phrase (spec.expr self.now.depth) compares least
+            (input ts.old)) result (input ts.new) }
     {
         let refusal = ts.refuse(compares);
         let first = self.operand(ts, compares, least)?;
@@ -523,7 +545,8 @@ pub fn list(
     compares: bool,
     front: Phrases,
 ) -> Result<Phrases, SyntaxRefusal>
-    ensures { Gives trees_of (spec.list_from (spec.expr spec.greatest_depth) compares None (length (input ts.old)) (trees_of front) (input ts.old)) result (input ts.new) }
+    ensures { Gives trees_of (spec.list_from (spec.expr spec.greatest_depth) compares None
+        (length (input ts.old)) (trees_of front) (input ts.old)) result (input ts.new) }
 {
     Grammar {
         alloc,
@@ -535,7 +558,8 @@ pub fn list(
 
 /// A list of expressions, and the closing bracket.
 pub fn list_up_to(alloc: Global, ts: &mut Cursor<'_>, close: Mark) -> Result<Phrases, SyntaxRefusal>
-    ensures { Gives trees_of (spec.list_up_to (spec.expr spec.greatest_depth) close None (input ts.old)) result (input ts.new) }
+    ensures { Gives trees_of (spec.list_up_to (spec.expr spec.greatest_depth) close None
+        (input ts.old)) result (input ts.new) }
 {
     Grammar {
         alloc,
@@ -552,7 +576,8 @@ pub fn after_operand(
     first: Phrase,
     level: u8,
 ) -> Result<Phrase, SyntaxRefusal>
-    ensures { Gives tree_of (spec.climb (spec.expr spec.greatest_depth) false (length (input ts.old) + 1) 0 level (tree_of first) (input ts.old)) result (input ts.new) }
+    ensures { Gives tree_of (spec.climb (spec.expr spec.greatest_depth) false
+        (length (input ts.old) + 1) 0 level (tree_of first) (input ts.old)) result (input ts.new) }
 {
     Grammar {
         alloc,

@@ -225,7 +225,8 @@ impl<F: Fn(Global, &mut Cursor<'_>, usize) -> Result<Body, SyntaxRefusal>> State
 
     fn block_from(&self, ts: &mut Cursor<'_>) -> Result<Body, SyntaxRefusal>
         requires { Nests self.now.depth (F.pre self.now.statement) (F.post self.now.statement) }
-        ensures { Gives body_of (spec.block_from (spec.stmt self.now.depth) (length (input ts.old)) [] (input ts.old)) result (input ts.new) }
+        ensures { Gives body_of (spec.block_from (spec.stmt self.now.depth)
+            (length (input ts.old)) [] (input ts.old)) result (input ts.new) }
     {
         let mut all = build::no_statements(self.alloc);
         for _turn in 0..ts.left() {
@@ -242,7 +243,8 @@ impl<F: Fn(Global, &mut Cursor<'_>, usize) -> Result<Body, SyntaxRefusal>> State
     #[tactic(auto, unfolding(pawk_syntax_program::specs::StatementParse::block))]
     pub fn block(&self, ts: &mut Cursor<'_>) -> Result<Body, SyntaxRefusal>
         requires { Nests self.now.depth (F.pre self.now.statement) (F.post self.now.statement) }
-        ensures { Gives body_of (spec.block (spec.stmt self.now.depth) (input ts.old)) result (input ts.new) }
+        ensures { Gives body_of (spec.block (spec.stmt self.now.depth) (input ts.old)) result
+            (input ts.new) }
     {
         ts.skip_lines();
         self.block_from(ts)
@@ -251,7 +253,8 @@ impl<F: Fn(Global, &mut Cursor<'_>, usize) -> Result<Body, SyntaxRefusal>> State
     #[tactic(auto, unfolding(pawk_syntax_program::specs::StatementParse::branch))]
     fn branch(&self, ts: &mut Cursor<'_>) -> Result<Body, SyntaxRefusal>
         requires { Nests self.now.depth (F.pre self.now.statement) (F.post self.now.statement) }
-        ensures { Gives body_of (spec.branch (spec.stmt self.now.depth) (input ts.old)) result (input ts.new) }
+        ensures { Gives body_of (spec.branch (spec.stmt self.now.depth) (input ts.old)) result
+            (input ts.new) }
     {
         let e = head(self.alloc, ts)?;
         let a = self.nested(ts)?;
@@ -266,7 +269,8 @@ impl<F: Fn(Global, &mut Cursor<'_>, usize) -> Result<Body, SyntaxRefusal>> State
     #[tactic(auto, unfolding(pawk_syntax_program::specs::StatementParse::looping))]
     fn looping(&self, ts: &mut Cursor<'_>) -> Result<Body, SyntaxRefusal>
         requires { Nests self.now.depth (F.pre self.now.statement) (F.post self.now.statement) }
-        ensures { Gives body_of (spec.looping (spec.stmt self.now.depth) (input ts.old)) result (input ts.new) }
+        ensures { Gives body_of (spec.looping (spec.stmt self.now.depth) (input ts.old)) result
+            (input ts.new) }
     {
         let e = head(self.alloc, ts)?;
         let a = self.nested(ts)?;
@@ -276,7 +280,8 @@ impl<F: Fn(Global, &mut Cursor<'_>, usize) -> Result<Body, SyntaxRefusal>> State
     #[tactic(auto, unfolding(pawk_syntax_program::specs::StatementParse::doing))]
     fn doing(&self, ts: &mut Cursor<'_>) -> Result<Body, SyntaxRefusal>
         requires { Nests self.now.depth (F.pre self.now.statement) (F.post self.now.statement) }
-        ensures { Gives body_of (spec.doing (spec.stmt self.now.depth) (input ts.old)) result (input ts.new) }
+        ensures { Gives body_of (spec.doing (spec.stmt self.now.depth) (input ts.old)) result
+            (input ts.new) }
     {
         ts.skip_lines();
         let a = self.nested(ts)?;
@@ -291,7 +296,8 @@ impl<F: Fn(Global, &mut Cursor<'_>, usize) -> Result<Body, SyntaxRefusal>> State
     #[tactic(auto, unfolding(pawk_syntax_program::specs::StatementParse::walking))]
     fn walking(&self, ts: &mut Cursor<'_>, names: (Name, Name)) -> Result<Body, SyntaxRefusal>
         requires { Nests self.now.depth (F.pre self.now.statement) (F.post self.now.statement) }
-        ensures { Gives body_of (spec.walking (spec.stmt self.now.depth) (names_of names) (input ts.old)) result (input ts.new) }
+        ensures { Gives body_of (spec.walking (spec.stmt self.now.depth) (names_of names)
+            (input ts.old)) result (input ts.new) }
     {
         ts.skip_lines();
         let body = self.nested(ts)?;
@@ -301,7 +307,8 @@ impl<F: Fn(Global, &mut Cursor<'_>, usize) -> Result<Body, SyntaxRefusal>> State
     #[tactic(auto, unfolding(pawk_syntax_program::specs::StatementParse::counting))]
     fn counting(&self, ts: &mut Cursor<'_>) -> Result<Body, SyntaxRefusal>
         requires { Nests self.now.depth (F.pre self.now.statement) (F.post self.now.statement) }
-        ensures { Gives body_of (spec.counting (spec.stmt self.now.depth) (input ts.old)) result (input ts.new) }
+        ensures { Gives body_of (spec.counting (spec.stmt self.now.depth) (input ts.old)) result
+            (input ts.new) }
     {
         let none_here = ts.sees(Mark::Semicolon);
         let a = maybe(self.alloc, ts, none_here)?;
@@ -320,7 +327,8 @@ impl<F: Fn(Global, &mut Cursor<'_>, usize) -> Result<Body, SyntaxRefusal>> State
     #[tactic(auto, unfolding(pawk_syntax_program::specs::StatementParse::for_on))]
     fn for_on(&self, ts: &mut Cursor<'_>) -> Result<Body, SyntaxRefusal>
         requires { Nests self.now.depth (F.pre self.now.statement) (F.post self.now.statement) }
-        ensures { Gives body_of (spec.for_on (spec.stmt self.now.depth) (input ts.old)) result (input ts.new) }
+        ensures { Gives body_of (spec.for_on (spec.stmt self.now.depth) (input ts.old)) result
+            (input ts.new) }
     {
         ts.expect(Mark::LeftParenthesis, true)?;
         let mut ahead = *ts;
@@ -336,7 +344,8 @@ impl<F: Fn(Global, &mut Cursor<'_>, usize) -> Result<Body, SyntaxRefusal>> State
 
     #[tactic(auto, unfolding(pawk_syntax_program::specs::StatementParse::other))]
     fn other(&self, ts: &mut Cursor<'_>, compares: bool) -> Result<Body, SyntaxRefusal>
-        ensures { Gives body_of (spec.other (spec.stmt self.now.depth) (input ts.old)) result (input ts.new) }
+        ensures { Gives body_of (spec.other (spec.stmt self.now.depth) (input ts.old)) result
+            (input ts.new) }
     {
         let line = simple(self.alloc, ts)?;
         end(ts, compares)?;
@@ -345,7 +354,8 @@ impl<F: Fn(Global, &mut Cursor<'_>, usize) -> Result<Body, SyntaxRefusal>> State
 
     fn by_mark(&self, ts: &mut Cursor<'_>, sign: Mark) -> Result<Body, SyntaxRefusal>
         requires { Nests self.now.depth (F.pre self.now.statement) (F.post self.now.statement) }
-        ensures { Gives body_of (spec.by_mark (spec.stmt self.now.depth) sign (input ts.old)) result (input ts.new) }
+        ensures { Gives body_of (spec.by_mark (spec.stmt self.now.depth) sign (input ts.old))
+            result (input ts.new) }
     {
         match sign {
             Mark::Semicolon => {
@@ -383,7 +393,8 @@ impl<F: Fn(Global, &mut Cursor<'_>, usize) -> Result<Body, SyntaxRefusal>> State
     #[tactic(auto, unfolding(pawk_syntax_program::specs::StatementParse::one))]
     fn one(&self, ts: &mut Cursor<'_>) -> Result<Body, SyntaxRefusal>
         requires { Nests self.now.depth (F.pre self.now.statement) (F.post self.now.statement) }
-        ensures { Gives body_of (spec.one (spec.stmt self.now.depth) (input ts.old)) result (input ts.new) }
+        ensures { Gives body_of (spec.one (spec.stmt self.now.depth) (input ts.old)) result
+            (input ts.new) }
     {
         match ts.rest {
             [] => Err(ts.refuse(true)),
