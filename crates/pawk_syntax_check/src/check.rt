@@ -27,7 +27,8 @@ use std::alloc::{AllocError, Global};
 /// The first fault among mentions of an item.
 fn fault_among(functions: &Functions<'_>, item: &Item, mentions: &[Mention<'_>]) -> Option<Fault>
     ensures { is_none result ≡
-        list_all (fits (function_under functions.now) (part item.now)) (map mention_view mentions.now) }
+        list_all (fits (function_under functions.now) (part item.now))
+        (map mention_view mentions.now) }
 {
     let mut first = None;
     for mention in mentions {

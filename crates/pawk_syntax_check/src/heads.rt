@@ -91,7 +91,8 @@ fn start(functions: &Functions<'_>, number: usize, item: &Item) -> usize {
 
 /// What is at fault with the head of the item of this number.
 pub fn head_fault(functions: &Functions<'_>, number: usize, item: &Item) -> Option<Fault>
-    ensures { is_none result ≡ spec.head_fits (function_under functions.now) number (part item.now) }
+    ensures { is_none result ≡
+        spec.head_fits (function_under functions.now) number (part item.now) }
 {
     unless(
         head_fits(functions, number, item),

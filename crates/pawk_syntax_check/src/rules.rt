@@ -141,7 +141,8 @@ pub fn unless(is_met: bool, cause: Cause, start: usize) -> Option<Fault>
 
 /// Whether a function of this name takes so many arguments.
 fn is_call(functions: &Functions<'_>, name: &Name, count: usize) -> bool
-    ensures { result ≡ calls.takes_arguments (function_under functions.now name.now.text.items) count }
+    ensures { result ≡
+        calls.takes_arguments (function_under functions.now name.now.text.items) count }
 {
     match functions.get(name.text.as_slice()) {
         None => false,
