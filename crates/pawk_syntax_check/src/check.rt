@@ -8,7 +8,7 @@ ghost use Rattle.pawk_token.specs.declared.refusal.SyntaxRefusal.TheVariants as 
 ghost use Rattle.pawk_syntax_program.specs.Item.{part};
 ghost use Rattle.pawk_syntax_uses.specs.Functions.{function_of};
 ghost use Rattle.pawk_syntax_uses.specs.Views.{mention_view};
-ghost use Rattle.pawk_syntax_uses.specs.FunctionViews.{found};
+ghost use Rattle.pawk_syntax_uses.specs.FunctionViews.{function_under};
 ghost use Rattle.pawk_syntax_kinds.specs.Demands.{KindsFit};
 ghost use Rattle.pawk_syntax_check.specs.Fits.{fits, item_fits, items_fit, Fits};
 
@@ -27,7 +27,8 @@ use std::alloc::{AllocError, Global};
 /// The first fault among mentions of an item.
 fn fault_among(functions: &Functions<'_>, item: &Item, mentions: &[Mention<'_>]) -> Option<Fault>
     ensures { is_none result ≡
-        list_all (fits (found functions.now) (part item.now)) (map mention_view mentions.now) }
+        list_all (fits (function_under functions.now) (part item.now))
+        (map mention_view mentions.now) }
 {
     let mut first = None;
     for mention in mentions {
@@ -44,7 +45,7 @@ fn fault_of(
     item: &Item,
 ) -> Result<Option<Fault>, AllocError>
     ensures { IfOk result (λ o. is_none o ≡
-        item_fits (found functions.now) number (part item.now)) }
+        item_fits (function_under functions.now) number (part item.now)) }
 {
     let mentions = mentions(alloc, item)?;
     let head = head_fault(functions, number, item);
@@ -59,7 +60,7 @@ fn fault_in(
     items: &[Item],
 ) -> Result<Option<Fault>, AllocError>
     ensures { IfOk result (λ o. is_none o ≡
-        items_fit (found functions.now) 1 (map part items.now)) }
+        items_fit (function_under functions.now) 1 (map part items.now)) }
 {
     let mut first = None;
     for (index, item) in items.iter().enumerate() {
@@ -75,7 +76,7 @@ fn fault_of_kinds<'t>(
     functions: &Functions<'t>,
     items: &'t [Item],
 ) -> Result<Option<Fault>, AllocError>
-    requires { (x : Text) → found functions.now x ≡ function_of (map part items.now) x }
+    requires { (x : Text) → function_under functions.now x ≡ function_of (map part items.now) x }
     ensures fit { IfOk result (λ o. is_none o ≡ true → KindsFit (map part items.now)) }
     ensures unfit { IfOk result (λ o. is_none o ≡ false → KindsFit (map part items.now) → ⊥) }
 {

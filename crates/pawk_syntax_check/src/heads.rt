@@ -5,7 +5,7 @@ ghost use Rattle.std.specs.Option.{is_none};
 ghost use Rattle.std.specs.List.{list_any};
 ghost use Rattle.std.specs.Str.{bytes_eq};
 ghost use Rattle.pawk_syntax_program.specs.Item.{part, texts};
-ghost use Rattle.pawk_syntax_uses.specs.FunctionViews.{found};
+ghost use Rattle.pawk_syntax_uses.specs.FunctionViews.{function_under};
 ghost use Rattle.pawk_syntax_check.specs.Names as spec;
 
 use crate::fault::Fault;
@@ -18,7 +18,7 @@ use pawk_token::vocabulary::is_variable;
 
 /// Whether the function that is found under this name is the one of this item.
 pub fn is_item(functions: &Functions<'_>, number: usize, name: &Name) -> bool
-    ensures { result ≡ spec.is_item number (found functions.now name.now.text.items) }
+    ensures { result ≡ spec.is_item number (function_under functions.now name.now.text.items) }
 {
     match functions.get(name.text.as_slice()) {
         None => false,
@@ -39,7 +39,7 @@ pub fn is_among(names: &[Name], name: &Name) -> bool
 #[tactic(auto, using(crate::proofs::Parameters::among_names))]
 fn fits_parameter(functions: &Functions<'_>, others: &[Name], name: &Name) -> bool
     ensures { result ≡
-        spec.fits_parameter (found functions.now) (texts others.now) name.now.text.items }
+        spec.fits_parameter (function_under functions.now) (texts others.now) name.now.text.items }
 {
     !is_among(others, name)
         && !is_variable(name.text.as_slice())
@@ -48,7 +48,7 @@ fn fits_parameter(functions: &Functions<'_>, others: &[Name], name: &Name) -> bo
 
 /// Whether parameters have names of their own.
 fn fit_parameters(functions: &Functions<'_>, parameters: &[Name]) -> bool
-    ensures { result ≡ spec.fit_parameters (found functions.now) (texts parameters.now) }
+    ensures { result ≡ spec.fit_parameters (function_under functions.now) (texts parameters.now) }
 {
     for (index, name) in parameters.iter().enumerate() {
         if !fits_parameter(functions, &parameters[index + 1..], name) {
@@ -60,7 +60,7 @@ fn fit_parameters(functions: &Functions<'_>, parameters: &[Name]) -> bool
 
 /// Whether the head of the item of this number, if it is a function, has names of its own.
 fn head_fits(functions: &Functions<'_>, number: usize, item: &Item) -> bool
-    ensures { result ≡ spec.head_fits (found functions.now) number (part item.now) }
+    ensures { result ≡ spec.head_fits (function_under functions.now) number (part item.now) }
 {
     match item {
         Item::Function(name, parameters, _) => {
@@ -91,7 +91,8 @@ fn start(functions: &Functions<'_>, number: usize, item: &Item) -> usize {
 
 /// What is at fault with the head of the item of this number.
 pub fn head_fault(functions: &Functions<'_>, number: usize, item: &Item) -> Option<Fault>
-    ensures { is_none result ≡ spec.head_fits (found functions.now) number (part item.now) }
+    ensures { is_none result ≡
+        spec.head_fits (function_under functions.now) number (part item.now) }
 {
     unless(
         head_fits(functions, number, item),

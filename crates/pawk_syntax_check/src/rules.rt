@@ -6,7 +6,7 @@ ghost use Rattle.pawk_token.specs.Vocabulary as vocabulary;
 ghost use Rattle.pawk_syntax_tree.specs.Tree.{view, views, trees};
 ghost use Rattle.pawk_syntax_program.specs.Item.{part};
 ghost use Rattle.pawk_syntax_uses.specs.Views.{mention_view};
-ghost use Rattle.pawk_syntax_uses.specs.FunctionViews.{found};
+ghost use Rattle.pawk_syntax_uses.specs.FunctionViews.{function_under};
 ghost use Rattle.pawk_syntax_check.specs.Targets as targets;
 ghost use Rattle.pawk_syntax_check.specs.Calls as calls;
 ghost use Rattle.pawk_syntax_check.specs.Words as words;
@@ -141,7 +141,8 @@ pub fn unless(is_met: bool, cause: Cause, start: usize) -> Option<Fault>
 
 /// Whether a function of this name takes so many arguments.
 fn is_call(functions: &Functions<'_>, name: &Name, count: usize) -> bool
-    ensures { result ≡ calls.takes_arguments (found functions.now name.now.text.items) count }
+    ensures { result ≡
+        calls.takes_arguments (function_under functions.now name.now.text.items) count }
 {
     match functions.get(name.text.as_slice()) {
         None => false,
@@ -151,7 +152,7 @@ fn is_call(functions: &Functions<'_>, name: &Name, count: usize) -> bool
 
 /// A name that is no function's stands here.
 fn other_than_function(functions: &Functions<'_>, name: &Name) -> Option<Fault>
-    ensures { is_none result ≡ is_none (found functions.now name.now.text.items) }
+    ensures { is_none result ≡ is_none (function_under functions.now name.now.text.items) }
 {
     unless(
         functions.get(name.text.as_slice()).is_none(),
@@ -174,7 +175,7 @@ fn other_than_run_variable(name: &Name) -> Option<Fault>
 /// What is at fault with a mention of an item.
 pub fn fault(functions: &Functions<'_>, item: &Item, mention: Mention<'_>) -> Option<Fault>
     ensures { is_none result ≡
-        fits (found functions.now) (part item.now) (mention_view mention.entry) }
+        fits (function_under functions.now) (part item.now) (mention_view mention.entry) }
 {
     match mention {
         Mention::Array(name) => other_than_function(functions, name),

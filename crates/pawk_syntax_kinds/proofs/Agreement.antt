@@ -34,7 +34,7 @@ below_all t (d ∷ ds) h = (below_one t d (head t d ds h), below_all t ds (tail 
 -- ---- from marks to kinds
 
 number_is : (t : Variables) → IsTable t → (v : Variable) → Names t v → number_of t (key_view v.key) ≡ Some v.number
-number_is t h v n = let P : Name → Type 0 = λ x. number_of t x ≡ Some v.number in subst P n.1 (h.listed v.number n.0)
+number_is t h v n = let P : Name → Type 0 = λ x. number_of t x ≡ Some v.number in subst P n.1 (h.has_number v.number n.0)
 
 kind_is : (t : Variables) (m : List Bool) → IsTable t → (v : Variable) → Names t v → kinds_of t m (key_view v.key) ≡ is_array m v
 kind_is t m h v n = ap (λ o. if is_given (key_view v.key) then false else mark_of m o) (number_is t h v n)

@@ -7,7 +7,7 @@ use Rattle.std.proofs.lemmas.Bool.{cases_eq}
 use lib.ListN.{replicate}
 use Rattle.pawk_syntax_kinds.specs.declared.demand.Demand.{Demand}
 use Rattle.pawk_syntax_kinds.specs.declared.demand.Demand.TheVariants.{Array, Scalar, Alike}
-use Rattle.pawk_syntax_kinds.specs.Marks.{is_marked, mark, step, is_settled, steps, changes, IsBelow, AreBelow, unmarked, meets_numbers, IsForced}
+use Rattle.pawk_syntax_kinds.specs.Marks.{is_marked, mark, step, is_settled, steps, changes, IsBelow, AreBelow, unmarked_count, meets_numbers, IsForced}
 
 -- ---- one mark
 
@@ -35,7 +35,7 @@ forced_at k m i f h false e =
 forced-mark : (k : ℕ → Bool) (m : List Bool) (i : ℕ) → IsForced k m → k i ≡ true → IsForced k (mark m i)
 forced-mark k m i f h = forced_at k m i f h (is_marked m i) refl
 
-less-mark : (m : List Bool) (i : ℕ) → i < length m → is_marked m i ≡ false → unmarked (mark m i) < unmarked m
+less-mark : (m : List Bool) (i : ℕ) → i < length m → is_marked m i ≡ false → unmarked_count (mark m i) < unmarked_count m
 less-mark m i h e =
     let sums = sum_by-set (λ b. if b then 0 else 1) m i true false h in
     let was : ◌≡◌ {A = ℕ} (if is_marked m i then 0 else 1) 1 = rw e refl in
@@ -89,13 +89,13 @@ forced-step k (Alike v w) m f e = forced_two k m v.number w.number f e (is_marke
 
 less_two : (m : List Bool) (i j : ℕ) → i < length m → j < length m →
     (a b : Bool) → is_marked m i ≡ a → is_marked m j ≡ b → (if a then b else not b) ≡ false →
-    unmarked (if a then mark m j else (if b then mark m i else m)) < unmarked m
+    unmarked_count (if a then mark m j else (if b then mark m i else m)) < unmarked_count m
 less_two m i j g h true true p q e = cc
 less_two m i j g h true false p q e = less-mark m j h q
 less_two m i j g h false true p q e = less-mark m i g p
 less_two m i j g h false false p q e = cc
 
-less-step : (d : Demand) (m : List Bool) → IsBelow (length m) d → is_settled m d ≡ false → unmarked (step d m) < unmarked m
+less-step : (d : Demand) (m : List Bool) → IsBelow (length m) d → is_settled m d ≡ false → unmarked_count (step d m) < unmarked_count m
 less-step (Array v) m h e = less-mark m v.number h e
 less-step (Scalar v) m h e = cc
 less-step (Alike v w) m h e = less_two m v.number w.number h.0 h.1 (is_marked m v.number) (is_marked m w.number) refl refl e
@@ -133,24 +133,24 @@ forced-steps k (d ∷ ds) m f e =
     let both = all_head (meets_numbers k d) (list_all (meets_numbers k) ds) e in
     forced-steps k ds (step d m) (forced-step k d m f both.0) both.1
 
-at_most_one : (d : Demand) (m : List Bool) → IsBelow (length m) d → (s : Bool) → is_settled m d ≡ s → unmarked (step d m) ≤ unmarked m
+at_most_one : (d : Demand) (m : List Bool) → IsBelow (length m) d → (s : Bool) → is_settled m d ≡ s → unmarked_count (step d m) ≤ unmarked_count m
 at_most_one d m h true e = rw (step_settled d m e) (omega arith)
 at_most_one d m h false e = omega (arith, less-step d m h e)
 
-at_most : (ds : List Demand) (m : List Bool) → AreBelow (length m) ds → unmarked (steps ds m) ≤ unmarked m
+at_most : (ds : List Demand) (m : List Bool) → AreBelow (length m) ds → unmarked_count (steps ds m) ≤ unmarked_count m
 at_most [] m h = omega arith
 at_most (d ∷ ds) m h =
     omega (arith, at_most ds (step d m) (below_step ds d m h.1), at_most_one d m h.0 (is_settled m d) refl)
 
 less_on : (ds : List Demand) (d : Demand) (m : List Bool) → IsBelow (length m) d → AreBelow (length m) ds →
-    ((n : List Bool) → AreBelow (length n) ds → changes ds n ≡ true → unmarked (steps ds n) < unmarked n) →
-    (s : Bool) → is_settled m d ≡ s → (not s || changes ds (step d m)) ≡ true → unmarked (steps ds (step d m)) < unmarked m
+    ((n : List Bool) → AreBelow (length n) ds → changes ds n ≡ true → unmarked_count (steps ds n) < unmarked_count n) →
+    (s : Bool) → is_settled m d ≡ s → (not s || changes ds (step d m)) ≡ true → unmarked_count (steps ds (step d m)) < unmarked_count m
 less_on ds d m g h rest false p e = omega (arith, less-step d m g p, at_most ds (step d m) (below_step ds d m h))
 less_on ds d m g h rest true p e =
     let others = rest (step d m) (below_step ds d m h) e in
     omega (arith, others, at_most_one d m g true p)
 
-pub less-steps : (ds : List Demand) (m : List Bool) → AreBelow (length m) ds → changes ds m ≡ true → unmarked (steps ds m) < unmarked m
+pub less-steps : (ds : List Demand) (m : List Bool) → AreBelow (length m) ds → changes ds m ≡ true → unmarked_count (steps ds m) < unmarked_count m
 less-steps [] m h e = cc
 less-steps (d ∷ ds) m h e = less_on ds d m h.0 h.1 (less-steps ds) (is_settled m d) refl e
 

@@ -20,8 +20,8 @@ use Rattle.pawk_syntax_kinds.specs.Tables.{Name, key_view, names, nth, number_of
 module _ (xs : List Name) (k : Name) (old new : Name → Option ℕ) (same : Name → Bool)
     (is_new : (v : Name) → new v ≡ cond (same v) (Some (length xs)) (old v))
     (is_same : (v : Name) → same v ≡ true → v ≡ k) (is_self : same k ≡ true) (absent : old k ≡ None)
-    (right : (v : Name) (i : ℕ) → old v ≡ Some i → (i < length xs) × (nth xs i ≡ v))
-    (listed : (i : ℕ) → i < length xs → old (nth xs i) ≡ Some i) where
+    (has_name : (v : Name) (i : ℕ) → old v ≡ Some i → (i < length xs) × (nth xs i ≡ v))
+    (has_number : (i : ℕ) → i < length xs → old (nth xs i) ≡ Some i) where
   last : nth (xs ++ k ∷ []) (length xs) ≡ k
   last = get_or-append_seam xs k [] (0, [])
 
@@ -34,7 +34,7 @@ module _ (xs : List Name) (k : Name) (old new : Name → Option ℕ) (same : Nam
       let at : length xs ≡ i = cc in
       (omega (arith, at, more), rw (← at, last) (sym (is_same v e)))
   right_by v i false e h =
-      let there = right v i h in
+      let there = has_name v i h in
       (omega (arith, there.0, more), rw (get_or-append xs (k ∷ []) (0, []) i there.0) there.1)
 
   pub right_on : (v : Name) (i : ℕ) → new v ≡ Some i → (i < length (xs ++ k ∷ [])) × (nth (xs ++ k ∷ []) i ≡ v)
@@ -43,9 +43,9 @@ module _ (xs : List Name) (k : Name) (old new : Name → Option ℕ) (same : Nam
   old_by : (i : ℕ) (b : Bool) → i < length xs → same (nth xs i) ≡ b → cond b (Some (length xs)) (old (nth xs i)) ≡ Some i
   old_by i true h e =
       let P : Name → Type 0 = λ v. old v ≡ Some i in
-      let there : old k ≡ Some i = subst P (is_same (nth xs i) e) (listed i h) in
+      let there : old k ≡ Some i = subst P (is_same (nth xs i) e) (has_number i h) in
       cc
-  old_by i false h e = listed i h
+  old_by i false h e = has_number i h
 
   listed_by : (i : ℕ) → (i < length xs) ⊎ (i ≡ length xs) → new (nth (xs ++ k ∷ []) i) ≡ Some i
   listed_by i (inl h) = rw (get_or-append xs (k ∷ []) (0, []) i h) (is_new (nth xs i) ∙ old_by i (same (nth xs i)) h refl)
@@ -85,8 +85,8 @@ add_key t n k h e g absent =
     let size : length t.keys.items ≡ length (names t) = sym (length-map t.keys.items key_view) in
     let new : (v : Name) → number_of n v ≡ cond (is_key k v) (Some (length (names t))) (number_of t v) =
     λ v. rw (← size) (g v) in
-    let right = right_on (names t) (key_view k) (number_of t) (number_of n) (is_key k) new (is_key_same k) (is_key_self k) absent h.right h.listed in
-    let listed = listed_on (names t) (key_view k) (number_of t) (number_of n) (is_key k) new (is_key_same k) (is_key_self k) absent h.right h.listed in
+    let has_name = right_on (names t) (key_view k) (number_of t) (number_of n) (is_key k) new (is_key_same k) (is_key_self k) absent h.has_name h.has_number in
+    let has_number = listed_on (names t) (key_view k) (number_of t) (number_of n) (is_key k) new (is_key_same k) (is_key_self k) absent h.has_name h.has_number in
     let P : List Name → Type 0 = λ xs. (v : Name) (i : ℕ) → number_of n v ≡ Some i → (i < length xs) × (nth xs i ≡ v) in
     let Q : List Name → Type 0 = λ xs. (i : ℕ) → i < length xs → number_of n (nth xs i) ≡ Some i in
-    record { right = subst P (sym more) right; listed = subst Q (sym more) listed }
+    record { has_name = subst P (sym more) has_name; has_number = subst Q (sym more) has_number }

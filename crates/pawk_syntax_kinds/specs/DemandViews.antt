@@ -19,8 +19,8 @@ Speaks t (code.Array v) = Names t v
 Speaks t (code.Scalar v) = Names t v
 Speaks t (code.Alike v w) = Names t v × Names t w
 
-abbrev pub asked : Demands → List Demand
-asked d = map demand_view d.list.items
+abbrev pub demands_in : Demands → List Demand
+demands_in d = map demand_view d.list.items
 
 pub record AreNumbered (d : Demands) : Type 0 where
   pub table : IsTable d.variables

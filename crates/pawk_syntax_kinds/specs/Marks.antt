@@ -44,8 +44,8 @@ AreBelow n [] = Unit {0}
 AreBelow n (d ∷ ds) = IsBelow n d × AreBelow n ds
 
 -- how many are not marked
-abbrev pub unmarked : List Bool → ℕ
-unmarked m = sum_by (λ b. if b then 0 else 1) m
+abbrev pub unmarked_count : List Bool → ℕ
+unmarked_count m = sum_by (λ b. if b then 0 else 1) m
 
 -- kinds of numbers meet a demand
 abbrev pub meets_numbers : (ℕ → Bool) → Demand → Bool

@@ -29,8 +29,8 @@ number_of t v = get_by (λ k. ordering_then (nat_cmp v.0 k.scope) (slice_cmp nat
 
 -- each name has one number, and each number one name
 pub record IsTable (t : Variables) : Type 0 where
-  pub right : (v : Name) (i : ℕ) → number_of t v ≡ Some i → (i < length (names t)) × (nth (names t) i ≡ v)
-  pub listed : (i : ℕ) → i < length (names t) → number_of t (nth (names t) i) ≡ Some i
+  pub has_name : (v : Name) (i : ℕ) → number_of t v ≡ Some i → (i < length (names t)) × (nth (names t) i ≡ v)
+  pub has_number : (i : ℕ) → i < length (names t) → number_of t (nth (names t) i) ≡ Some i
 
 -- the variable has its name's number
 abbrev pub Names : Variables → Code → Type 0

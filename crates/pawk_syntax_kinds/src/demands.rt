@@ -7,10 +7,10 @@ ghost use Rattle.std.specs.Str.{bytes_eq};
 ghost use Rattle.pawk_syntax_program.specs.Item.{part};
 ghost use Rattle.pawk_syntax_uses.specs.Mentions.{of_part};
 ghost use Rattle.pawk_syntax_uses.specs.Views.{mention_view};
-ghost use Rattle.pawk_syntax_uses.specs.FunctionViews.{found};
+ghost use Rattle.pawk_syntax_uses.specs.FunctionViews.{function_under};
 ghost use Rattle.pawk_syntax_kinds.specs.Tables.{key_view, Names, IsTable, Extends};
 ghost use Rattle.pawk_syntax_kinds.specs.Demands as spec;
-ghost use Rattle.pawk_syntax_kinds.specs.DemandViews.{asked, demand_view, AreNumbered, Speaks};
+ghost use Rattle.pawk_syntax_kinds.specs.DemandViews.{demands_in, demand_view, AreNumbered, Speaks};
 
 use crate::demand::Demand;
 use crate::variables::{Key, Variable, Variables};
@@ -68,7 +68,7 @@ pub fn name_in<'t>(number: usize, item: &Item, name: &'t Name) -> Key<'t>
 /// The parameter at this place of a function, counted from 0, if they are there.
 fn parameter<'t>(functions: &Functions<'t>, function: &Name, place: usize) -> Option<Key<'t>>
     ensures { option_map key_view result ≡
-        spec.parameter (found functions.now function.now.text.items) place }
+        spec.parameter (function_under functions.now function.now.text.items) place }
 {
     let function = functions.get(function.text.as_slice())?;
     let name = function.parameters.get(place)?;
@@ -82,7 +82,7 @@ impl<'t> Demands<'t> {
     /// Nothing is asked.
     fn none(alloc: Global) -> Demands<'t>
         ensures numbered { AreNumbered result }
-        ensures asked { asked result ≡ [] }
+        ensures demands { demands_in result ≡ [] }
     {
         Demands {
             variables: Variables::new(alloc),
@@ -95,7 +95,7 @@ impl<'t> Demands<'t> {
     fn array(&mut self, key: Key<'t>) -> Result<(), AllocError>
         requires { AreNumbered self.old }
         ensures numbered { OnOk result (AreNumbered self.new) }
-        ensures asked { OnOk result (asked self.new ≡ asked self.old ++
+        ensures demands { OnOk result (demands_in self.new ≡ demands_in self.old ++
             spec.array_at (key_view key.entry) ∷ []) }
     {
         let variable = self.variables.variable(key)?;
@@ -108,7 +108,7 @@ impl<'t> Demands<'t> {
     fn scalar(&mut self, key: Key<'t>) -> Result<(), AllocError>
         requires { AreNumbered self.old }
         ensures numbered { OnOk result (AreNumbered self.new) }
-        ensures asked { OnOk result (asked self.new ≡ asked self.old ++
+        ensures demands { OnOk result (demands_in self.new ≡ demands_in self.old ++
             spec.scalar_at (key_view key.entry) ∷ []) }
     {
         let variable = self.variables.variable(key)?;
@@ -121,7 +121,7 @@ impl<'t> Demands<'t> {
     fn alike(&mut self, key: Key<'t>, other: Key<'t>) -> Result<(), AllocError>
         requires { AreNumbered self.old }
         ensures numbered { OnOk result (AreNumbered self.new) }
-        ensures asked { OnOk result (asked self.new ≡ asked self.old ++
+        ensures demands { OnOk result (demands_in self.new ≡ demands_in self.old ++
             spec.alike (key_view key.entry) (key_view other.entry) ∷ []) }
     {
         let variable = self.variables.variable(key)?;
@@ -140,8 +140,8 @@ impl<'t> Demands<'t> {
     ) -> Result<(), AllocError>
         requires { AreNumbered self.old }
         ensures numbered { OnOk result (AreNumbered self.new) }
-        ensures asked { OnOk result (asked self.new ≡ asked self.old ++
-            spec.demands_of (found functions.now) number (part item.now)
+        ensures demands { OnOk result (demands_in self.new ≡ demands_in self.old ++
+            spec.demands_of (function_under functions.now) number (part item.now)
             (mention_view mention.entry)) }
     {
         match mention {
@@ -173,8 +173,8 @@ impl<'t> Demands<'t> {
     ) -> Result<(), AllocError>
         requires { AreNumbered self.old }
         ensures numbered { OnOk result (AreNumbered self.new) }
-        ensures asked { OnOk result (asked self.new ≡ asked self.old ++
-            flat_map (spec.demands_of (found functions.now) number (part item.now))
+        ensures demands { OnOk result (demands_in self.new ≡ demands_in self.old ++
+            flat_map (spec.demands_of (function_under functions.now) number (part item.now))
             (of_part (part item.now))) }
     {
         let mentions = mentions(alloc, item)?;
@@ -191,8 +191,8 @@ impl<'t> Demands<'t> {
         items: &'t [Item],
     ) -> Result<Demands<'t>, AllocError>
         ensures numbered { IfOk result AreNumbered }
-        ensures asked { IfOk result (λ d. asked d ≡
-            spec.demands_from (found functions.now) 1 (map part items.now)) }
+        ensures demands { IfOk result (λ d. demands_in d ≡
+            spec.demands_from (function_under functions.now) 1 (map part items.now)) }
     {
         let mut demands = Demands::none(alloc);
         for (index, item) in items.iter().enumerate() {

@@ -6,7 +6,7 @@ ghost use Rattle.std.specs.List.{list_all, All};
 ghost use Rattle.pawk_token.specs.Bytes.{Text};
 ghost use Rattle.pawk_syntax_program.specs.Item.{part};
 ghost use Rattle.pawk_syntax_uses.specs.Functions.{function_of};
-ghost use Rattle.pawk_syntax_uses.specs.FunctionViews.{found};
+ghost use Rattle.pawk_syntax_uses.specs.FunctionViews.{function_under};
 ghost use Rattle.pawk_syntax_kinds.specs.Demands.{KindsFit};
 ghost use Rattle.pawk_syntax_kinds.specs.DemandViews.{AreNumbered};
 ghost use Rattle.pawk_syntax_kinds.specs.Marks as marking;
@@ -74,7 +74,7 @@ pub fn clash<'t>(
     functions: &Functions<'t>,
     items: &'t [Item],
 ) -> Result<Option<usize>, AllocError>
-    requires { (x : Text) → found functions.now x ≡ function_of (map part items.now) x }
+    requires { (x : Text) → function_under functions.now x ≡ function_of (map part items.now) x }
     ensures fit { IfOk result (λ o. is_none o ≡ true → KindsFit (map part items.now)) }
     ensures unfit { IfOk result (λ o. is_none o ≡ false → KindsFit (map part items.now) → ⊥) }
 {

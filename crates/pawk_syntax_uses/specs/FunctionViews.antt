@@ -13,5 +13,5 @@ abbrev pub function_view : Function → ℕ × List Text
 function_view f = (f.scope, texts f.parameters.now)
 
 -- the function that is found under a name
-abbrev pub found : Functions → Text → Option (ℕ × List Text)
-found fs x = option_map function_view (get_by (λ k. slice_cmp nat_cmp x k.now) fs.map)
+abbrev pub function_under : Functions → Text → Option (ℕ × List Text)
+function_under fs x = option_map function_view (get_by (λ k. slice_cmp nat_cmp x k.now) fs.map)

@@ -5,7 +5,7 @@ ghost use Rattle.std.specs.Option.{option_map};
 ghost use Rattle.pawk_token.specs.Bytes.{Text};
 ghost use Rattle.pawk_syntax_program.specs.Item.{part};
 ghost use Rattle.pawk_syntax_uses.specs.Functions.{or_else, function_at, function_of};
-ghost use Rattle.pawk_syntax_uses.specs.FunctionViews.{function_view, found};
+ghost use Rattle.pawk_syntax_uses.specs.FunctionViews.{function_view, function_under};
 
 use pawk_syntax_program::item::Item;
 use pawk_syntax_tree::tree::Name;
@@ -28,7 +28,8 @@ pub struct Functions<'t> {
 impl<'t> Functions<'t> {
     /// The functions that these items define.
     pub fn new(alloc: Global, items: &'t [Item]) -> Result<Functions<'t>, AllocError>
-        ensures { IfOk result (λ fs. (x : Text) → found fs x ≡ function_of (map part items.now) x) }
+        ensures { IfOk result (λ fs. (x : Text) → function_under fs x ≡
+            function_of (map part items.now) x) }
     {
         let mut functions = Functions {
             map: BTreeMap::new(alloc),
@@ -41,8 +42,8 @@ impl<'t> Functions<'t> {
 
     /// Adds what an item of this number defines, if its name is new.
     fn add(&mut self, scope: usize, item: &'t Item) -> Result<(), AllocError>
-        ensures { OnOk result ((x : Text) → found self.new x ≡
-            or_else (found self.old x) (function_at scope (part item.now) x)) }
+        ensures { OnOk result ((x : Text) → function_under self.new x ≡
+            or_else (function_under self.old x) (function_at scope (part item.now) x)) }
     {
         if let Item::Function(name, parameters, _) = item {
             if !self.map.contains_key(name.text.as_slice()) {
@@ -55,7 +56,7 @@ impl<'t> Functions<'t> {
 
     /// The function of this name.
     pub fn get(&self, name: &[u8]) -> Option<Function<'t>>
-        ensures { option_map function_view result ≡ found self.now name.now }
+        ensures { option_map function_view result ≡ function_under self.now name.now }
     {
         self.map.get(name).copied()
     }

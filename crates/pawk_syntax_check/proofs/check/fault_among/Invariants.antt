@@ -3,10 +3,10 @@ use Rattle.std.specs.Option.{is_none}
 use Rattle.std.specs.List.{list_all}
 use Rattle.pawk_syntax_program.specs.Item.{part}
 use Rattle.pawk_syntax_uses.specs.Views.{mention_view}
-use Rattle.pawk_syntax_uses.specs.FunctionViews.{found}
+use Rattle.pawk_syntax_uses.specs.FunctionViews.{function_under}
 use Rattle.pawk_syntax_check.specs.Fits.{fits}
 use Rattle.pawk_syntax_check.proofs.check.fault_among.Given as goal
 
 abbrev pub invariant-loop-mention : goal.invariant-loop-mention
 invariant-loop-mention l =
-    is_none l.first ≡ list_all (λ m. fits (found l.functions) (part l.item) (mention_view m)) (take l.mention-index l.mentions)
+    is_none l.first ≡ list_all (λ m. fits (function_under l.functions) (part l.item) (mention_view m)) (take l.mention-index l.mentions)

@@ -1,8 +1,8 @@
 use Rattle.std.proofs.Common.{◌≡◌, drop}
 use Rattle.pawk_syntax_program.specs.Item.{texts}
-use Rattle.pawk_syntax_uses.specs.FunctionViews.{found}
+use Rattle.pawk_syntax_uses.specs.FunctionViews.{function_under}
 use Rattle.pawk_syntax_check.specs.Names.{fit_parameters}
 use Rattle.pawk_syntax_check.proofs.heads.fit_parameters.Given as goal
 
 abbrev pub invariant-loop-index : goal.invariant-loop-index
-invariant-loop-index l = fit_parameters (found l.functions) (texts (drop l.index l.parameters)) ≡ fit_parameters (found l.functions) (texts l.parameters)
+invariant-loop-index l = fit_parameters (function_under l.functions) (texts (drop l.index l.parameters)) ≡ fit_parameters (function_under l.functions) (texts l.parameters)

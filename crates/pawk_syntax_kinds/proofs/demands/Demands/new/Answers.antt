@@ -1,5 +1,5 @@
 use Rattle.std.proofs.Common.{◌<◌, length, append_assoc, arith}
-use Rattle.pawk_syntax_uses.specs.FunctionViews.{found}
+use Rattle.pawk_syntax_uses.specs.FunctionViews.{function_under}
 use Rattle.pawk_syntax_kinds.proofs.Lists.{one_more_item}
 use Rattle.pawk_syntax_kinds.proofs.demands.Demands.new.Goals as goal
 
@@ -7,8 +7,8 @@ pub loop-index-preserved : goal.loop-index-preserved
 loop-index-preserved c =
     let items = c.args.items.now in
     let below : c.loop-index.index < length items = omega arith in
-    let more = rw (← c.index-items-index.is) at (one_more_item (found c.args.functions.now) items c.loop-index.index c.index-items-index.result below) in
+    let more = rw (← c.index-items-index.is) at (one_more_item (function_under c.args.functions.now) items c.loop-index.index c.index-items-index.result below) in
     record {
       numbered = c.in_ok-add_item.ensures.numbered;
-      asked_so_far = rw (c.in_ok-add_item.ensures.asked, append_assoc, ← more) c.loop-index.invariant.asked_so_far;
+      demands_so_far = rw (c.in_ok-add_item.ensures.demands, append_assoc, ← more) c.loop-index.invariant.demands_so_far;
     }

@@ -2,9 +2,9 @@ use Rattle.std.proofs.Common.{◌≡◌, ◌+◌, map, drop}
 use Rattle.pawk_token.specs.Bytes.{Text}
 use Rattle.pawk_syntax_program.specs.Item.{part}
 use Rattle.pawk_syntax_uses.specs.Functions.{or_else, function_from, function_of}
-use Rattle.pawk_syntax_uses.specs.FunctionViews.{found}
+use Rattle.pawk_syntax_uses.specs.FunctionViews.{function_under}
 use Rattle.pawk_syntax_uses.proofs.functions.Functions.new.Given as goal
 
 abbrev pub invariant-loop-index : goal.invariant-loop-index
 invariant-loop-index l = (x : Text) →
-    or_else (found l.functions x) (function_from (l.index + 1) (map part (drop l.index l.items)) x) ≡ function_of (map part l.items) x
+    or_else (function_under l.functions x) (function_from (l.index + 1) (map part (drop l.index l.items)) x) ≡ function_of (map part l.items) x
