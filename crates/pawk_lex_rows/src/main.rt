@@ -15,149 +15,119 @@ use pawk_lex::refusal::SyntaxRefusal;
 use pawk_lex::token::{Mark, Token, Value};
 use pawk_lex::token_list::TokenList;
 use pawk_lex::vocabulary::{is_run_variable, is_variable};
+use pawk_rows::{cell, decode, push_decimal, push_encoded};
 use std::alloc::{AllocError, Global};
 use std::io::{self, BufRead, BufReader};
 
 /// How many bytes the text of a row `size` has at least.
 const SIZE: usize = 10_000_000;
 
-/// What comes before the first tab, and what comes after it.
-fn cut(row: &[u8]) -> (&[u8], &[u8]) {
-    match row.iter().position(|byte| *byte == b'\t') {
-        Some(tab) => (&row[..tab], &row[tab + 1..]),
-        None => (row, &[]),
-    }
-}
-
-/// The bytes that a field stands for.
-fn decode(alloc: Global, mut field: &[u8]) -> Result<Vec<u8>, AllocError> {
-    let mut text = Vec::new(alloc);
-    for _turn in 0..field.len() {
-        match field {
-            [b'\\', high, middle, low, rest @ ..] => {
-                text.push(high % 4 * 64 + middle % 8 * 8 + low % 8)?;
-                field = rest;
-            }
-            [byte, rest @ ..] => {
-                text.push(*byte)?;
-                field = rest;
-            }
-            [] => break,
-        }
-    }
-    Ok(text)
-}
-
-/// Appends a digit.
-fn push_digit(shown: &mut String, digit: u8) -> Result<(), AllocError> {
-    shown.push(char::from(b'0' + digit % 8))
-}
-
-/// Appends bytes: printable ones but a backslash as they are, any other by three octal digits.
-fn push_bytes(shown: &mut String, bytes: &[u8]) -> Result<(), AllocError> {
+/// Adds bytes as a row writes them, and blanks as octal digits too.
+fn push_bytes(bytes: &[u8], out: &mut Vec<u8>) -> Result<(), AllocError> {
     for byte in bytes {
-        if matches!(byte, b'!'..=b'~') && *byte != b'\\' {
-            shown.push(char::from(*byte))?;
+        if *byte == b' ' {
+            out.extend_from_slice(b"\\040")?;
         } else {
-            shown.push('\\')?;
-            push_digit(shown, byte / 64)?;
-            push_digit(shown, byte / 8)?;
-            push_digit(shown, *byte)?;
+            push_encoded(&[*byte], out)?;
         }
     }
     Ok(())
 }
 
-/// Appends a value: a numeral after `#`, a name after `n:`, a name before `(` after `f:`, a built-in
+/// Adds bytes between two others, or behind what tells their kind.
+fn push_between(
+    front: &[u8],
+    bytes: &[u8],
+    back: &[u8],
+    out: &mut Vec<u8>,
+) -> Result<(), AllocError> {
+    out.extend_from_slice(front)?;
+    push_bytes(bytes, out)?;
+    out.extend_from_slice(back)
+}
+
+/// Adds a value: a numeral after `#`, a name after `n:`, a name before `(` after `f:`, a built-in
 /// function after `b:`, and any other token as it is written.
-fn push_value(alloc: Global, shown: &mut String, value: &Value) -> Result<(), AllocError> {
+fn push_value(alloc: Global, value: &Value, out: &mut Vec<u8>) -> Result<(), AllocError> {
     match value {
-        Value::Number(number) => shown.push_str(format!(in alloc; "#{number}")?.as_str()),
-        Value::String(bytes) => {
-            shown.push('"')?;
-            push_bytes(shown, bytes.as_slice())?;
-            shown.push('"')
+        Value::Number(number) => {
+            out.extend_from_slice(format!(in alloc; "#{number}")?.as_bytes())
         }
-        Value::Ere(bytes) => {
-            shown.push('/')?;
-            push_bytes(shown, bytes.as_slice())?;
-            shown.push('/')
-        }
-        Value::Name(name) => {
-            shown.push_str("n:")?;
-            push_bytes(shown, name.as_slice())
-        }
-        Value::FunctionName(name) => {
-            shown.push_str("f:")?;
-            push_bytes(shown, name.as_slice())
-        }
-        Value::Builtin(function) => {
-            shown.push_str("b:")?;
-            push_bytes(shown, function.name())
-        }
-        Value::Mark(Mark::Newline) => shown.push_str("NL"),
-        Value::Mark(mark) => push_bytes(shown, mark.text()),
+        Value::String(bytes) => push_between(b"\"", bytes.as_slice(), b"\"", out),
+        Value::Ere(bytes) => push_between(b"/", bytes.as_slice(), b"/", out),
+        Value::Name(name) => push_between(b"n:", name.as_slice(), b"", out),
+        Value::FunctionName(name) => push_between(b"f:", name.as_slice(), b"", out),
+        Value::Builtin(function) => push_between(b"b:", function.name(), b"", out),
+        Value::Mark(Mark::Newline) => out.extend_from_slice(b"NL"),
+        Value::Mark(mark) => push_bytes(mark.text(), out),
     }
 }
 
-/// Appends a token with its span, and a blank.
-fn push_token(alloc: Global, shown: &mut String, token: &Token) -> Result<(), AllocError> {
-    let (start, end) = (token.span.start, token.span.end);
-    shown.push_str(format!(in alloc; "{start}-{end}:")?.as_str())?;
-    push_value(alloc, shown, &token.value)?;
-    shown.push(' ')
+/// Adds a token with its span, and a blank.
+fn push_token(alloc: Global, token: &Token, out: &mut Vec<u8>) -> Result<(), AllocError> {
+    push_decimal(token.span.start as u64, out)?;
+    out.extend_from_slice(b"-")?;
+    push_decimal(token.span.end as u64, out)?;
+    out.extend_from_slice(b":")?;
+    push_value(alloc, &token.value, out)?;
+    out.extend_from_slice(b" ")
 }
 
-/// The refusal as `!NUMBER@PLACE`, or `!NUMBER` where it has no place.
-fn told(alloc: Global, refusal: SyntaxRefusal) -> Result<String, AllocError> {
-    let number = refusal.number();
+/// Adds a refusal as `!NUMBER@PLACE`, or `!NUMBER` where it has no place.
+fn push_refusal(refusal: SyntaxRefusal, out: &mut Vec<u8>) -> Result<(), AllocError> {
+    out.extend_from_slice(b"!")?;
+    push_decimal(u64::from(refusal.number()), out)?;
     match refusal.place() {
-        Some(place) => format!(in alloc; "!{number}@{place}"),
-        None => format!(in alloc; "!{number}"),
+        Some(place) => {
+            out.extend_from_slice(b"@")?;
+            push_decimal(place as u64, out)
+        }
+        None => Ok(()),
     }
 }
 
-fn text_row(alloc: Global, text: &[u8]) -> Result<String, AllocError> {
-    let mut shown = String::new(alloc);
-    let mut lexer = Lexer::new(alloc, text);
+/// Adds what ends a list of tokens.
+fn push_end(refusal: Option<SyntaxRefusal>, out: &mut Vec<u8>) -> Result<(), AllocError> {
+    match refusal {
+        Some(refusal) => push_refusal(refusal, out),
+        None => out.extend_from_slice(b"end"),
+    }
+}
+
+/// Adds the tokens of a lexer, and what ends them.
+fn push_tokens(alloc: Global, lexer: &mut Lexer<'_>, out: &mut Vec<u8>) -> Result<(), AllocError> {
     for _turn in 0..u64::MAX {
         match lexer.next() {
-            Ok(Some(token)) => push_token(alloc, &mut shown, &token)?,
-            Ok(None) => {
-                shown.push_str("end")?;
-                break;
-            }
-            Err(refusal) => {
-                shown.push_str(told(alloc, refusal)?.as_str())?;
-                break;
-            }
+            Ok(Some(token)) => push_token(alloc, &token, out)?,
+            Ok(None) => return push_end(None, out),
+            Err(refusal) => return push_end(Some(refusal), out),
         }
     }
-    shown.push_str(match lexer.next() {
-        Ok(Some(_)) => format!(in alloc; " (token)")?,
-        Ok(None) => format!(in alloc; " (end)")?,
-        Err(again) => format!(in alloc; " ({again})")?,
-    }
-    .as_str())?;
-    Ok(shown)
+    Ok(())
 }
 
-fn list_row(alloc: Global, text: &[u8]) -> Result<String, AllocError> {
+/// Adds the tokens of a text, and what the lexer answers when it is asked again.
+fn push_text(alloc: Global, text: &[u8], out: &mut Vec<u8>) -> Result<(), AllocError> {
+    let mut lexer = Lexer::new(alloc, text);
+    push_tokens(alloc, &mut lexer, out)?;
+    match lexer.next() {
+        Ok(Some(_)) => out.extend_from_slice(b" (token)"),
+        Ok(None) => out.extend_from_slice(b" (end)"),
+        Err(again) => out.extend_from_slice(format!(in alloc; " ({again})")?.as_bytes()),
+    }
+}
+
+/// Adds the tokens of a text as one list, and what ends it.
+fn push_list(alloc: Global, text: &[u8], out: &mut Vec<u8>) -> Result<(), AllocError> {
     let list = TokenList::read(alloc, text)?;
-    let mut shown = String::new(alloc);
     for token in &list.tokens {
-        push_token(alloc, &mut shown, token)?;
+        push_token(alloc, token, out)?;
     }
-    match list.refusal {
-        Some(refusal) => shown.push_str(told(alloc, refusal)?.as_str())?,
-        None => shown.push_str("end")?,
-    }
-    Ok(shown)
+    push_end(list.refusal, out)
 }
 
-fn size_row(alloc: Global, fields: &[u8]) -> Result<String, AllocError> {
-    let (front, fields) = cut(fields);
-    let (text, back) = cut(fields);
+/// A text of at least ten million bytes: one again and again behind another.
+fn long_text(alloc: Global, front: &[u8], text: &[u8]) -> Result<Vec<u8>, AllocError> {
     let mut whole = decode(alloc, front)?;
     let text = decode(alloc, text)?;
     for _turn in 0..SIZE {
@@ -166,8 +136,12 @@ fn size_row(alloc: Global, fields: &[u8]) -> Result<String, AllocError> {
         }
         whole.extend_from_slice(text.as_slice())?;
     }
-    whole.extend_from_slice(decode(alloc, back)?.as_slice())?;
-    let mut lexer = Lexer::new(alloc, whole.as_slice());
+    Ok(whole)
+}
+
+/// How many tokens a text has.
+fn count_tokens(alloc: Global, text: &[u8]) -> u64 {
+    let mut lexer = Lexer::new(alloc, text);
     let mut count = 0;
     for turn in 0..u64::MAX {
         match lexer.next() {
@@ -175,43 +149,62 @@ fn size_row(alloc: Global, fields: &[u8]) -> Result<String, AllocError> {
             _ => break,
         }
     }
-    format!(in alloc; "{count}")
+    count
 }
 
-fn word_row(alloc: Global, word: &[u8]) -> Result<String, AllocError> {
+/// Adds how many tokens the text of a row `size` has.
+fn push_size(alloc: Global, row: &[u8], out: &mut Vec<u8>) -> Result<(), AllocError> {
+    let mut whole = long_text(alloc, cell(row, 1), cell(row, 2))?;
+    whole.extend_from_slice(decode(alloc, cell(row, 3))?.as_slice())?;
+    push_decimal(count_tokens(alloc, whole.as_slice()), out)
+}
+
+/// What a name is.
+fn kind_of(word: &[u8]) -> &'static [u8] {
     if is_run_variable(word) {
-        format!(in alloc; "set by the run")
+        b"set by the run"
     } else if is_variable(word) {
-        format!(in alloc; "assignable")
+        b"assignable"
     } else {
-        format!(in alloc; "no variable")
+        b"no variable"
     }
 }
 
-fn memory_row(alloc: Global) -> Result<String, AllocError> {
+/// Adds how want of memory is told.
+fn push_memory(alloc: Global, out: &mut Vec<u8>) -> Result<(), AllocError> {
     let memory = SyntaxRefusal::Memory;
-    let number = told(alloc, memory)?;
-    format!(in alloc; "{} ({memory})", number.as_str())
+    push_refusal(memory, out)?;
+    out.extend_from_slice(format!(in alloc; " ({memory})")?.as_bytes())
+}
+
+/// Adds the answer to a row.
+fn push_answer(alloc: Global, row: &[u8], out: &mut Vec<u8>) -> Result<(), AllocError> {
+    match cell(row, 0) {
+        b"text" => push_text(alloc, decode(alloc, cell(row, 1))?.as_slice(), out),
+        b"list" => push_list(alloc, decode(alloc, cell(row, 1))?.as_slice(), out),
+        b"size" => push_size(alloc, row, out),
+        b"word" => out.extend_from_slice(kind_of(cell(row, 1))),
+        b"memory" => push_memory(alloc, out),
+        _ => out.extend_from_slice(b"no such row"),
+    }
 }
 
 /// The answer to a row.
-fn answer(alloc: Global, row: &[u8]) -> Result<String, AllocError> {
-    let (asked, fields) = cut(row);
-    match asked {
-        b"text" => text_row(alloc, decode(alloc, fields)?.as_slice()),
-        b"list" => list_row(alloc, decode(alloc, fields)?.as_slice()),
-        b"size" => size_row(alloc, fields),
-        b"word" => word_row(alloc, fields),
-        b"memory" => memory_row(alloc),
-        _ => format!(in alloc; "no such row"),
-    }
+fn answer(alloc: Global, row: &[u8]) -> Result<Vec<u8>, AllocError> {
+    let mut out = Vec::new(alloc);
+    push_answer(alloc, row, &mut out)?;
+    Ok(out)
 }
 
 fn main(rt: HostRuntime) -> io::Result<()> {
     let alloc = rt.alloc();
     for line in BufReader::new(alloc, rt.reader())?.lines(alloc) {
-        let answer = answer(alloc, line?.as_str().as_bytes())?;
-        println!(rt; "{}", answer.as_str())?;
+        let row = line?;
+        let answer = answer(alloc, row.as_str().as_bytes())?;
+        println!(rt;
+            "{}",
+            str::from_utf8(answer.as_slice()).unwrap_or("not a text")
+        )?;
     }
     Ok(())
 }
