@@ -6,8 +6,8 @@ use Rattle.pawk_machine.specs.Regex.{Takes}
 use Rattle.pawk_machine.specs.Tree.{regex_of}
 
 -- the matcher is one of this expression: what it takes is what the expression matches
-abbrev pub IsFor : Pattern → Node → Type 0
-IsFor e node = (s : List ℕ) (i j : ℕ) → Takes (regex_of node) s i j ↔ Matches e s i j
+pub record IsFor (e : Pattern) (node : Node) : Type 0 where
+  pub same : (s : List ℕ) (i j : ℕ) → Takes (regex_of node) s i j ↔ Matches e s i j
 
 -- what was found is the leftmost and longest match of the expression from a place of the text on, or that there is none
 abbrev pub IsAnswer : Pattern → List ℕ → ℕ → Option (ℕ × ℕ) → Type 0

@@ -14,17 +14,17 @@ use Rattle.pawk_ere.proofs.Needed.{none_filtered}
 use Rattle.pawk_ere.proofs.matcher.Matcher.find.Goals as goal
 
 answers : (r : Result (Option (ℕ × ℕ)) AllocError) (e : Pattern) (node : Node) (text : List ℕ) (start : ℕ) → IsFor e node → IfOk r (λ found. IsFound (Takes (regex_of node) text) start found) → IfOk r (λ found. IsAnswer e text start found)
-answers (Ok found) e node text start for h = found_map (Takes (regex_of node) text) (Matches e text) start found (for text) h
+answers (Ok found) e node text start for h = found_map (Takes (regex_of node) text) (Matches e text) start found (for.same text) h
 answers (Err why) e node text start for h = tt
 
 pub returns-in-Literal-clause-answer : goal.returns-in-Literal-clause-answer
 returns-in-Literal-clause-answer c = λ e for.
-    found_map (Takes (regex_of c.self.inside.node) c.args.text.now) (Matches e c.args.text.now) c.args.from c.search_literal.result (subst (λ n. IsFor e n) (sym c.self.view_is) for c.args.text.now)
+    found_map (Takes (regex_of c.self.inside.node) c.args.text.now) (Matches e c.args.text.now) c.args.from c.search_literal.result ((subst (λ n. IsFor e n) (sym c.self.view_is) for).same c.args.text.now)
     (c.search_literal.ensures (regex_of c.self.inside.node) (subst (IsPrefilter (regex_of c.self.inside.node)) c.in-Literal.is c.self.invariant.tells))
 
 pub returns-then-lacks_words-clause-answer : goal.returns-then-lacks_words-clause-answer
 returns-then-lacks_words-clause-answer c = λ e for.
-    found_map (Takes (regex_of c.self.inside.node) c.args.text.now) (Matches e c.args.text.now) c.args.from None (subst (λ n. IsFor e n) (sym c.self.view_is) for c.args.text.now)
+    found_map (Takes (regex_of c.self.inside.node) c.args.text.now) (Matches e c.args.text.now) c.args.from None ((subst (λ n. IsFor e n) (sym c.self.view_is) for).same c.args.text.now)
     (found_none (regex_of c.self.inside.node) c.args.text.now c.args.from
     (none_filtered (regex_of c.self.inside.node) c.args.text.now c.args.from c.self.inside.prefilter _ c.deref-then-from-eq0.result.now c.if-from-eq0.true c.in-Words.is c.deref-then-from-eq0.ensures.value c.self.invariant.tells (c.lacks_words.ensures.some c.if-lacks_words.true) (c.lacks_words.ensures.none c.if-lacks_words.true)))
 
@@ -39,5 +39,5 @@ search_run-requires-clause-some c =
 pub returns-in-Run-clause-answer : goal.returns-in-Run-clause-answer
 returns-in-Run-clause-answer c = λ e for.
     let tells = subst (IsPrefilter (regex_of c.self.inside.node)) c.in-Run.is c.self.invariant.tells in
-    found_map (Takes (regex_of c.self.inside.node) c.args.text.now) (Matches e c.args.text.now) c.args.from c.search_run.result (subst (λ n. IsFor e n) (sym c.self.view_is) for c.args.text.now)
+    found_map (Takes (regex_of c.self.inside.node) c.args.text.now) (Matches e c.args.text.now) c.args.from c.search_run.result ((subst (λ n. IsFor e n) (sym c.self.view_is) for).same c.args.text.now)
     (c.search_run.ensures (regex_of c.self.inside.node) (subst (λ (set : Members). IsRun (regex_of c.self.inside.node) (members_of set) c.in-Run.count) (sym c.deref.ensures) tells.0))

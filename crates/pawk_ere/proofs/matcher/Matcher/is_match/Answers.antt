@@ -14,7 +14,7 @@ use Rattle.pawk_ere.proofs.Needed.{none_filtered}
 use Rattle.pawk_ere.proofs.matcher.Matcher.is_match.Goals as goal
 
 answers : (r : Result Bool AllocError) (e : Pattern) (node : Node) (text : List ℕ) (start : ℕ) → IsFor e node → IfOk r (λ told. IsTrue told ↔ HasMatch (Takes (regex_of node) text) start) → IfOk r (λ told. IsTrue told ↔ HasMatch (Matches e text) start)
-answers (Ok told) e node text start for h = match_map (Takes (regex_of node) text) (Matches e text) start told (for text) h
+answers (Ok told) e node text start for h = match_map (Takes (regex_of node) text) (Matches e text) start told (for.same text) h
 answers (Err why) e node text start for h = tt
 
 -- nothing is told where there is no match
@@ -23,12 +23,12 @@ no_match R start none = (λ h. cc, λ m. absurd (none m.0 m.1 m.2 m.3))
 
 pub returns-in-Literal-clause-answer : goal.returns-in-Literal-clause-answer
 returns-in-Literal-clause-answer c = λ e for.
-    match_map (Takes (regex_of c.self.inside.node) c.args.text.now) (Matches e c.args.text.now) c.args.from c.has_literal.result (subst (λ n. IsFor e n) (sym c.self.view_is) for c.args.text.now)
+    match_map (Takes (regex_of c.self.inside.node) c.args.text.now) (Matches e c.args.text.now) c.args.from c.has_literal.result ((subst (λ n. IsFor e n) (sym c.self.view_is) for).same c.args.text.now)
     (c.has_literal.ensures (regex_of c.self.inside.node) (subst (IsPrefilter (regex_of c.self.inside.node)) c.in-Literal.is c.self.invariant.tells))
 
 pub returns-then-lacks_words-clause-answer : goal.returns-then-lacks_words-clause-answer
 returns-then-lacks_words-clause-answer c = λ e for.
-    match_map (Takes (regex_of c.self.inside.node) c.args.text.now) (Matches e c.args.text.now) c.args.from false (subst (λ n. IsFor e n) (sym c.self.view_is) for c.args.text.now)
+    match_map (Takes (regex_of c.self.inside.node) c.args.text.now) (Matches e c.args.text.now) c.args.from false ((subst (λ n. IsFor e n) (sym c.self.view_is) for).same c.args.text.now)
     (no_match (Takes (regex_of c.self.inside.node) c.args.text.now) c.args.from
     (none_filtered (regex_of c.self.inside.node) c.args.text.now c.args.from c.self.inside.prefilter _ c.deref-then-from-eq0.result.now c.if-from-eq0.true c.in-Words.is c.deref-then-from-eq0.ensures.value c.self.invariant.tells (c.lacks_words.ensures.some c.if-lacks_words.true) (c.lacks_words.ensures.none c.if-lacks_words.true)))
 
@@ -43,5 +43,5 @@ has_run-requires-clause-some c =
 pub returns-in-Run-clause-answer : goal.returns-in-Run-clause-answer
 returns-in-Run-clause-answer c = λ e for.
     let tells = subst (IsPrefilter (regex_of c.self.inside.node)) c.in-Run.is c.self.invariant.tells in
-    match_map (Takes (regex_of c.self.inside.node) c.args.text.now) (Matches e c.args.text.now) c.args.from c.has_run.result (subst (λ n. IsFor e n) (sym c.self.view_is) for c.args.text.now)
+    match_map (Takes (regex_of c.self.inside.node) c.args.text.now) (Matches e c.args.text.now) c.args.from c.has_run.result ((subst (λ n. IsFor e n) (sym c.self.view_is) for).same c.args.text.now)
     (c.has_run.ensures (regex_of c.self.inside.node) (subst (λ (set : Members). IsRun (regex_of c.self.inside.node) (members_of set) c.in-Run.count) (sym c.deref.ensures) tells.0))

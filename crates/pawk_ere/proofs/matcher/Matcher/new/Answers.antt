@@ -7,8 +7,10 @@ use Rattle.pawk_machine.proofs.Turns.{expand_is, expand_if}
 use Rattle.pawk_ere.proofs.matcher.Matcher.new.Goals as goal
 
 pub returns : goal.returns
-returns c = λ s i j.
-    let same : regex_of c.in_ok-node.node ≡ expand (expression c.args.ere.now) = c.in_ok-node.ensures ∙ ap expand c.root.ensures in (
-      λ t. expand_is (expression c.args.ere.now) s i j (subst (λ r. Takes r s i j) same t),
-      λ m. subst (λ r. Takes r s i j) (sym same) (expand_if (expression c.args.ere.now) s i j m),
-    )
+returns c = record {
+  same = λ s i j.
+      let same : regex_of c.in_ok-node.node ≡ expand (expression c.args.ere.now) = c.in_ok-node.ensures ∙ ap expand c.root.ensures in (
+        λ t. expand_is (expression c.args.ere.now) s i j (subst (λ r. Takes r s i j) same t),
+        λ m. subst (λ r. Takes r s i j) (sym same) (expand_if (expression c.args.ere.now) s i j m),
+      );
+}
