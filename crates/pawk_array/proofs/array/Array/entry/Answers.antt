@@ -1,0 +1,28 @@
+use Rattle.std.proofs.Common.{inl, sym, ◌∙◌, ap}
+use Rattle.std.specs.Option.{option_copied_mut}
+use Rattle.pawk_value.specs.Value.{shown}
+use Rattle.pawk_array.specs.Entries.{found, put, value_of}
+use Rattle.pawk_array.specs.ArrayViews.{entries_of}
+use Rattle.pawk_array.proofs.PairsLemmas.{put_written, value_at, value_touched, put-put, rise-entries_of}
+use Rattle.pawk_array.proofs.array.Array.entry.Goals as goal
+
+pub returns : goal.returns
+returns c =
+    let k = c.args.key.now in
+    let m = c.place_of.new.map in
+    let old = c.self.inside.map.entries in
+    let place = c.in_ok-place.place in
+    let unique = c.get_index_mut.ensures.unique in
+    let at = c.in_ok-place.ensures.place in
+    let touched_by = c.in_ok-place.ensures.touched in
+    let value = value_at m unique place k c.unwrap.result.now at (sym c.get_index_mut.ensures.value ∙ ap option_copied_mut c.unwrap.ensures) in (
+      (λ i. inl (
+        c.unwrap.result.ghost_name,
+        λ w.
+            (put_written m unique place k w at
+            ∙ ap (put k (shown w)) touched_by
+            ∙ put-put k (shown w) (value_of (found k (entries_of old))) (entries_of old) (rise-entries_of old)
+            ∙ ap (put k (shown w)) c.self.view_is) i,
+      )),
+      record { writes_back = tt; value = value_touched k (entries_of old) (entries_of m.entries) (shown c.unwrap.result.now) touched_by value ∙ ap (λ es. value_of (found k es)) c.self.view_is },
+    )

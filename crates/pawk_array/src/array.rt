@@ -1,0 +1,180 @@
+//! Arrays.
+
+ghost use Rattle.std.specs.Prelude.{◌≡◌, ◌≤◌, [], ◌↔◌, length, IsTrue, IfOk, OnOk, OnErr, is_some};
+ghost use Rattle.std.specs.List.{All};
+ghost use Rattle.std.specs.Option.{option_map};
+ghost use Rattle.std.specs.Borrow.{sem};
+ghost use Rattle.pawk_value.specs.Value.{lent_value, shown, Uninit};
+ghost use Rattle.pawk_array.specs.Entries.{found, put, without, value_of, touched, pieces_of};
+ghost use Rattle.pawk_array.specs.ArrayViews.{entries_of, HasKeyAt};
+ghost use Rattle.pawk_array.specs.Lending.{LendsElement, EndsTouched};
+
+use indexmap::IndexMap;
+use itoa::Buffer;
+use pawk_value::{Value, ValueRef, assign, copy_value, lend};
+use std::alloc::{AllocError, Global};
+use std::marker::Model;
+use std::ops::Range;
+
+/// The elements of an array by their keys (POSIX.1-2017, awk, "Variables and Special Variables").
+/// Contracts see the elements in the order of the bytes of their keys.
+#[derive(Drop)]
+pub struct Array {
+    alloc: Global,
+    map: IndexMap<Vec<u8>, Value>,
+}
+
+impl Model for Array {
+    ghost use Rattle.pawk_array.specs.Entries.{Entries};
+
+    ghost Value = { Entries };
+
+    ghost use Rattle.pawk_array.specs.ArrayViews.{entries_of};
+
+    ghost view = { λ a. entries_of a.map.entries };
+}
+
+/// The place of a key among the pairs; a key that is missing is added, with the uninitialised value.
+fn place_of(
+    alloc: Global,
+    map: &mut IndexMap<Vec<u8>, Value>,
+    key: &[u8],
+) -> Result<usize, AllocError>
+    ensures place { IfOk result (λ place. HasKeyAt map.new.entries place key.now) }
+    ensures touched { OnOk result
+        (entries_of map.new.entries ≡ touched key.now (entries_of map.old.entries)) }
+    ensures err { OnErr result (map.new.entries ≡ map.old.entries) }
+{
+    match map.get_index_of(key) {
+        Some(place) => Ok(place),
+        None => {
+            let key = Vec::from_slice(alloc, key)?;
+            let (place, _) = map.insert_full(key, Value::Uninit)?;
+            Ok(place)
+        }
+    }
+}
+
+/// Puts a copy of a pair among the pairs.
+fn insert_copy(
+    alloc: Global,
+    map: &mut IndexMap<Vec<u8>, Value>,
+    key: &[u8],
+    value: &Value,
+) -> Result<(), AllocError>
+    ensures { OnOk result (entries_of map.new.entries
+        ≡ put key.now (shown value.now) (entries_of map.old.entries)) }
+{
+    let key = Vec::from_slice(alloc, key)?;
+    let value = copy_value(alloc, value)?;
+    map.insert(key, value)?;
+    Ok(())
+}
+
+impl Array {
+    /// An array without elements.
+    pub fn new(alloc: Global) -> Array
+        ensures { result ≡ [] }
+    {
+        Array {
+            alloc,
+            map: IndexMap::new(alloc),
+        }
+    }
+
+    /// How many elements there are.
+    pub fn len(&self) -> usize
+        ensures { result ≡ length self.now }
+    {
+        self.map.len()
+    }
+
+    /// The value of an element, if it is there. None is made.
+    pub fn get(&self, key: &[u8]) -> Option<ValueRef<'_>>
+        ensures { option_map lent_value result ≡ found key.now self.now }
+    {
+        match self.map.get(key) {
+            None => None,
+            Some(value) => Some(lend(value)),
+        }
+    }
+
+    /// Whether an element is there. None is made.
+    pub fn contains(&self, key: &[u8]) -> bool
+        ensures { result ≡ is_some (found key.now self.now) }
+    {
+        self.map.contains_key(key)
+    }
+
+    /// Takes an element away, if it is there.
+    pub fn remove(&mut self, key: &[u8])
+        ensures { self.new ≡ without key.now self.old }
+    {
+        let _ = self.map.swap_remove(key);
+    }
+
+    /// Takes all elements away.
+    pub fn clear(&mut self)
+        ensures { self.new ≡ [] }
+    {
+        self.map.clear();
+    }
+
+    /// An element, lent for a change. One that is missing is made, uninitialised; memory is refused
+    /// only then, and the array is as before.
+    pub fn entry(&mut self, key: &[u8]) -> Result<&mut Value, AllocError>
+        ensures* writes_back { sem 𝓛 (LendsElement self.entry key.now result) }
+        ensures value { IfOk result (λ v. shown v.now ≡ value_of (found key.now self.old)) }
+    {
+        let place = place_of(self.alloc, &mut self.map, key)?;
+        Ok(self.map.get_index_mut(place).unwrap())
+    }
+
+    /// The value of an element. One that is missing is made, uninitialised; memory is refused only then,
+    /// and the array is as before.
+    pub fn touch(&mut self, key: &[u8]) -> Result<ValueRef<'_>, AllocError>
+        ensures* touched { sem 𝓛 (EndsTouched self.entry key.now result) }
+        ensures value { IfOk result (λ v. lent_value v ≡ value_of (found key.now self.old)) }
+    {
+        let place = place_of(self.alloc, &mut self.map, key)?;
+        Ok(lend(self.map.get_index(place).unwrap().1))
+    }
+
+    /// Gives an element a value, in the room that it has for its text. After a refusal of memory the
+    /// element has the value that it had, or is uninitialised where it was missing, or still is missing.
+    pub fn set(&mut self, key: &[u8], value: ValueRef<'_>) -> Result<(), AllocError>
+        ensures { OnOk result (self.new ≡ put key.now (lent_value value.entry) self.old) }
+    {
+        let alloc = self.alloc;
+        let element = self.entry(key)?;
+        assign(alloc, element, value)
+    }
+
+    /// Takes all elements away, and gives the keys `1`, `2`, .. the pieces of a text, as candidates.
+    pub fn fill(&mut self, text: &[u8], ranges: &[Range<usize>]) -> Result<(), AllocError>
+        requires { All (λ r. (r.start ≤ r.end) × (r.end ≤ length text.now)) ranges.now }
+        ensures { OnOk result (self.new ≡ pieces_of text.now ranges.now) }
+    {
+        self.clear();
+        for (index, range) in ranges.iter().enumerate() {
+            let mut number = Buffer::new();
+            let key = number.format(index + 1).as_bytes();
+            self.set(key, ValueRef::Maybe(&text[range.start..range.end]))?;
+        }
+        Ok(())
+    }
+
+    /// A copy that holds its own bytes.
+    pub fn copy(&self, alloc: Global) -> Result<Array, AllocError>
+        ensures { IfOk result (λ copy. copy ≡ self.now) }
+    {
+        let mut map = IndexMap::with_capacity(alloc, self.map.len())?;
+        let mut place = self.map.len();
+        while place > 0 {
+            place -= 1;
+            let (key, value) = self.map.get_index(place).unwrap();
+            insert_copy(alloc, &mut map, key.as_slice(), value)?;
+        }
+        Ok(Array { alloc, map })
+    }
+}

@@ -1,0 +1,6 @@
+//! The arrays of awk: elements by their keys, walked in the order of the bytes.
+#![tactic(auto)]
+
+mod array;
+
+pub use array::Array;
