@@ -9,9 +9,10 @@ use Rattle.std.specs.FinMap.{slice_cmp-IsAntisymmetric, nat_cmp-IsAntisymmetric}
 use Rattle.std.specs.FinMap.Entries.{find-put, find-where_key, is_sorted-put, is_sorted-where_key, length-put, same_entries}
 use Rattle.pawk_value.specs.Value.{Val}
 use Rattle.pawk_array.specs.Entries.{Entries, order, Rise, found, put, without}
+use Rattle.std.proofs.lemmas.Slice.Eq.{bytes_eq-Decides}
 use lib.Dec.{T}
 
-holds : (b : Bool) → b ≡ true → T b
+pub holds : (b : Bool) → b ≡ true → T b
 holds true e = tt
 holds false e = subst T (sym e) tt
 
@@ -56,3 +57,10 @@ same_found es fs g h e = same_entries order total same_text es fs (holds _ g) (h
 
 pub length-put_new : (k : List ℕ) (v : Val) (es : Entries) → Rise es → found k es ≡ None → length (put k v es) ≡ length es + 1
 length-put_new k v es h e = length-put order total k v es (holds _ h) ∙ ap (λ o. cond (is_some o) (length es) (length es + 1)) e
+
+pub flip : (k q : List ℕ) → bytes_eq k q ≡ bytes_eq q k
+flip k q = by_cases (bytes_eq k q) (bytes_eq q k) refl refl where
+  by_cases : (a b : Bool) → bytes_eq k q ≡ a → bytes_eq q k ≡ b → bytes_eq k q ≡ bytes_eq q k
+  by_cases true b e f = let same = (bytes_eq-Decides k q).0 e in e ∙ sym ((bytes_eq-Decides q k).1 (sym same))
+  by_cases false true e f = let same = (bytes_eq-Decides q k).0 f in let yes = (bytes_eq-Decides k q).1 (sym same) in cc
+  by_cases false false e f = e ∙ sym f

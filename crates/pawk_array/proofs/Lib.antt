@@ -1,2 +1,3 @@
 pub mod EntriesLemmas
 pub mod PairsLemmas
+pub mod KeysLemmas

@@ -19,7 +19,7 @@ use Rattle.pawk_scalar.specs.declared.values.Value.{Value}
 use Rattle.pawk_scalar.specs.declared.values.Value.TheVariants as value
 use Rattle.pawk_array.specs.Entries.{Entries, Rise, found, put, without, value_of, touched}
 use Rattle.pawk_array.specs.ArrayViews.{entries_of, HasKeyAt}
-use Rattle.pawk_array.proofs.EntriesLemmas.{none_rise, rise-put, rise-without, found-put, found-without, same_found, length-put_new}
+use Rattle.pawk_array.proofs.EntriesLemmas.{flip, none_rise, rise-put, rise-without, found-put, found-without, same_found, length-put_new}
 
 abbrev pub Key : Type 0
 Key = Vec ℕ Global
@@ -87,13 +87,6 @@ found_updated k old new w here others q = by_cases (bytes_eq k q) refl where
       rw (← same) (found-entries_of k new ∙ ap (option_map shown) here)
   by_cases false e =
       found-entries_of q new ∙ ap (option_map shown) (others (has_bytes q) (is_key_test q) (apart k q e)) ∙ sym (found-entries_of q old)
-
-flip : (k q : List ℕ) → bytes_eq k q ≡ bytes_eq q k
-flip k q = by_cases (bytes_eq k q) (bytes_eq q k) refl refl where
-  by_cases : (a b : Bool) → bytes_eq k q ≡ a → bytes_eq q k ≡ b → bytes_eq k q ≡ bytes_eq q k
-  by_cases true b e f = let same = (bytes_eq-Decides k q).0 e in e ∙ sym ((bytes_eq-Decides q k).1 (sym same))
-  by_cases false true e f = let same = (bytes_eq-Decides q k).0 f in let yes = (bytes_eq-Decides k q).1 (sym same) in cc
-  by_cases false false e f = e ∙ sym f
 
 pub put_updated : (k : List ℕ) (old new : Pairs) (w : Value) → lookup (has_bytes k) new ≡ Some w → KeepsOthers same_bytes (has_bytes k) old new →
     entries_of new ≡ put k (shown w) (entries_of old)

@@ -1,3 +1,4 @@
 pub mod Entries
 pub mod ArrayViews
 pub mod Lending
+pub mod Keys

@@ -5,10 +5,11 @@ ghost use Rattle.std.specs.List.{All};
 ghost use Rattle.std.specs.Option.{option_map};
 ghost use Rattle.std.specs.Borrow.{sem};
 ghost use Rattle.pawk_value.specs.Value.{lent_value, shown, Uninit};
-ghost use Rattle.pawk_array.specs.Entries.{found, put, without, value_of, touched, pieces_of};
+ghost use Rattle.pawk_array.specs.Entries.{found, put, without, value_of, touched, pieces_of, keys};
 ghost use Rattle.pawk_array.specs.ArrayViews.{entries_of, HasKeyAt};
 ghost use Rattle.pawk_array.specs.Lending.{LendsElement, EndsTouched};
 
+use crate::keys::Keys;
 use indexmap::IndexMap;
 use itoa::Buffer;
 use pawk_value::{Value, ValueRef, assign, copy_value, lend};
@@ -176,5 +177,18 @@ impl Array {
             insert_copy(alloc, &mut map, key.as_slice(), value)?;
         }
         Ok(Array { alloc, map })
+    }
+
+    /// All keys, in the order of their bytes.
+    pub fn keys(&self, alloc: Global) -> Result<Keys, AllocError>
+        ensures { IfOk result (λ all. all ≡ keys self.now) }
+    {
+        let mut sorted = Vec::with_capacity(alloc, self.map.len())?;
+        for place in 0..self.map.len() {
+            let (key, _) = self.map.get_index(place).unwrap();
+            sorted.push(key.as_slice())?;
+        }
+        sorted.sort_unstable();
+        Keys::of(alloc, sorted.as_slice())
     }
 }

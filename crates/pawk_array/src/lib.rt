@@ -2,5 +2,7 @@
 #![tactic(auto)]
 
 mod array;
+mod keys;
 
 pub use array::Array;
+pub use keys::Keys;
