@@ -9,7 +9,7 @@ pub mod laws;
 mod lexemes;
 pub mod lexer;
 mod scan;
-mod strings;
+pub mod strings;
 pub mod token_list;
 
 pub use pawk_token::{refusal, token, vocabulary};

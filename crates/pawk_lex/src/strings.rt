@@ -50,7 +50,7 @@ fn octal_escape(first: u8, second: u8, third: u8) -> Option<(u8, usize)>
 /// The byte that comes next in a string, and how many bytes write it; `None` where the string
 /// ends: at a quote, a newline, the end of the text or a backslash that begins no escape.
 #[tactic(auto, unfolding(crate::specs::Strings::string_byte))]
-fn string_byte(text: &[u8]) -> Option<(u8, usize)>
+pub fn string_byte(text: &[u8]) -> Option<(u8, usize)>
     ensures value { result ≡ spec.string_byte text.now }
     ensures within { IfSome result (λ p. (1 ≤ p.1) × (p.1 ≤ length text.now)) }
 {

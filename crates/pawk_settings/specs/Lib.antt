@@ -1,0 +1,5 @@
+pub mod Limits
+pub mod Refusals
+pub mod Escapes
+pub mod Assignments
+pub mod SettingsViews
