@@ -2,3 +2,4 @@ pub mod Numbering
 pub mod Lists
 pub mod Marking
 pub mod Agreement
+pub mod Finding

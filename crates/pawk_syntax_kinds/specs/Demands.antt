@@ -67,3 +67,12 @@ pub record AreKinds (ps : List Part) (k : Kinds) : Type 0 where
 -- every name has one kind
 abbrev pub KindsFit : List Part → Type 0
 KindsFit ps = (k : Kinds) × AreKinds ps k
+
+-- the kinds of a program: what is an array by them is one by all kinds that the program may have
+pub record AreKindsOf (ps : List Part) (k : Kinds) : Type 0 where
+  pub kinds : AreKinds ps k
+  pub least : (other : Kinds) → AreKinds ps other → (v : Name) → k v ≡ true → other v ≡ true
+
+-- a program has one choice of kinds at most
+abbrev pub KindsAreUnique : Type 0
+KindsAreUnique = (ps : List Part) (k other : Kinds) → AreKindsOf ps k → AreKindsOf ps other → (v : Name) → k v ≡ other v

@@ -3,3 +3,4 @@ pub mod Demands
 pub mod DemandViews
 pub mod Marks
 pub mod Found
+pub mod KindViews

@@ -1,4 +1,4 @@
-//! Whether every name of a program has one kind.
+//! The kinds of the names of a program, and whether every name has one.
 
 ghost use Rattle.std.specs.Prelude.{◌≡◌, ◌<◌, IfOk, IsTrue, map, length, true, false};
 ghost use Rattle.std.specs.Option.{is_none};
@@ -7,8 +7,10 @@ ghost use Rattle.pawk_token.specs.Bytes.{Text};
 ghost use Rattle.pawk_syntax_program.specs.Item.{part};
 ghost use Rattle.pawk_syntax_uses.specs.Functions.{function_of};
 ghost use Rattle.pawk_syntax_uses.specs.FunctionViews.{function_under};
-ghost use Rattle.pawk_syntax_kinds.specs.Demands.{KindsFit};
+ghost use Rattle.pawk_syntax_kinds.specs.Tables.{key_view};
+ghost use Rattle.pawk_syntax_kinds.specs.Demands.{KindsFit, AreKindsOf, KindsAreUnique};
 ghost use Rattle.pawk_syntax_kinds.specs.DemandViews.{AreNumbered};
+ghost use Rattle.pawk_syntax_kinds.specs.KindViews.{kinds_in, AreFoundFor};
 ghost use Rattle.pawk_syntax_kinds.specs.Marks as marking;
 ghost use Rattle.pawk_syntax_kinds.specs.Found as spec;
 
@@ -16,18 +18,72 @@ use crate::demand::Demand;
 use crate::demands::Demands;
 use crate::marks::marks;
 use crate::places::first_clash;
-use crate::variables::Variable;
+use crate::variables::{Key, Variable};
 use pawk_syntax_program::item::Item;
 use pawk_syntax_uses::functions::Functions;
 use pawk_token::vocabulary::is_variable;
 use std::alloc::{AllocError, Global};
+
+/// Which names of a program are arrays (POSIX.1-2017, awk, "Variables and Special Variables": a name
+/// is a scalar or an array).
+#[derive(Drop)]
+pub struct Kinds<'t> {
+    demands: Demands<'t>,
+    marks: Vec<bool>,
+}
+
+impl<'t> Kinds<'t> {
+    /// The kinds of the names of these items, whose functions are given. Where no kinds meet what the
+    /// items ask, see `clash`, nothing is known of what `is_array` answers.
+    pub fn new(
+        alloc: Global,
+        functions: &Functions<'t>,
+        items: &'t [Item],
+    ) -> Result<Kinds<'t>, AllocError>
+        requires { (x : Text) → function_under functions.now x ≡ function_of (map part items.now) x }
+        ensures kinds { IfOk result (λ k.
+            KindsFit (map part items.now) → AreKindsOf (map part items.now) (kinds_in k)) }
+        ensures found { IfOk result (AreFoundFor (map part items.now)) }
+    {
+        let demands = Demands::new(alloc, functions, items)?;
+        let marks = marks(alloc, demands.list.as_slice(), demands.variables.keys.len())?;
+        Ok(Kinds { demands, marks })
+    }
+
+    /// Whether a name is an array in a scope: the number of an item that is a function, counted from 1,
+    /// where the name is one of its parameters, and 0 for every other name.
+    pub fn is_array(&self, scope: usize, name: &'t [u8]) -> bool
+        ensures { result ≡ kinds_in self.now (scope, name.now) }
+    {
+        let key = Key { scope, name };
+        if is_given(key) {
+            return false;
+        }
+        match self.demands.variables.number(key) {
+            None => false,
+            Some(number) => self.marks.get(number).copied().unwrap_or(false),
+        }
+    }
+}
+
+/// A program has one choice of kinds at most.
+pub fn kinds_are_unique()
+    ensures { KindsAreUnique }
+{}
+
+/// Whether a name in a scope is a variable of the language.
+fn is_given(key: Key<'_>) -> bool
+    ensures { result ≡ spec.is_given (key_view key.entry) }
+{
+    key.scope == 0 && is_variable(key.name)
+}
 
 /// Whether a variable is an array by its mark; a variable of the language is none.
 fn is_array(marks: &[bool], variable: Variable<'_>) -> bool
     requires { variable.number < length marks.now }
     ensures { result ≡ spec.is_array marks.now variable.entry }
 {
-    if variable.key.scope == 0 && is_variable(variable.key.name) {
+    if is_given(variable.key) {
         false
     } else {
         marks[variable.number]
@@ -78,10 +134,9 @@ pub fn clash<'t>(
     ensures fit { IfOk result (λ o. is_none o ≡ true → KindsFit (map part items.now)) }
     ensures unfit { IfOk result (λ o. is_none o ≡ false → KindsFit (map part items.now) → ⊥) }
 {
-    let demands = Demands::new(alloc, functions, items)?;
-    let marks = marks(alloc, demands.list.as_slice(), demands.variables.keys.len())?;
-    if meets_all(marks.as_slice(), demands.list.as_slice()) {
+    let kinds = Kinds::new(alloc, functions, items)?;
+    if meets_all(kinds.marks.as_slice(), kinds.demands.list.as_slice()) {
         return Ok(None);
     }
-    Ok(Some(first_clash(alloc, &demands, marks.as_slice(), items)?))
+    Ok(Some(first_clash(alloc, &kinds.demands, kinds.marks.as_slice(), items)?))
 }

@@ -22,7 +22,7 @@ fn note(places: &mut [usize], number: usize, start: usize) {
 
 /// Notes that a name stands at this byte, if it has a number.
 fn note_name<'t>(places: &mut [usize], variables: &Variables<'t>, key: Key<'t>, start: usize) {
-    if let Some(number) = variables.map.get(&key).copied() {
+    if let Some(number) = variables.number(key) {
         note(places, number, start);
     }
 }

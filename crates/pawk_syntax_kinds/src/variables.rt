@@ -39,6 +39,13 @@ impl<'t> Variables<'t> {
         }
     }
 
+    /// The number of a name in a scope, if it has one.
+    pub fn number(&self, key: Key<'t>) -> Option<usize>
+        ensures { result ≡ number_of self.now (key_view key.entry) }
+    {
+        self.map.get(&key).copied()
+    }
+
     /// The variable of this name in this scope; a new one gets the next number.
     pub fn variable(&mut self, key: Key<'t>) -> Result<Variable<'t>, AllocError>
         requires { IsTable self.old }
@@ -47,7 +54,7 @@ impl<'t> Variables<'t> {
         ensures table { OnOk result (IsTable self.new) }
         ensures more { OnOk result (Extends self.old self.new) }
     {
-        match self.map.get(&key).copied() {
+        match self.number(key) {
             Some(number) => Ok(Variable { key, number }),
             None => self.add(key),
         }

@@ -4,5 +4,5 @@ use Rattle.pawk_syntax_kinds.proofs.variables.Variables.variable.Goals as goal
 
 pub returns-in-Some-clause-number : goal.returns-in-Some-clause-number
 returns-in-Some-clause-number c =
-    let known : number_of c.args.self.now (key_view c.args.key) ≡ Some c.in-Some.number = sym c.get.ensures.value ∙ sym c.copied.ensures ∙ c.in-Some.is in
+    let known : number_of c.args.self.now (key_view c.args.key) ≡ Some c.in-Some.number = sym c.number.ensures ∙ c.in-Some.is in
     c.requires.has_name (key_view c.args.key) c.in-Some.number known
