@@ -1,0 +1,7 @@
+pub mod Expressions
+pub mod ExpressionViews
+pub mod Calm
+pub mod Statements
+pub mod StatementViews
+pub mod Programs
+pub mod ProgramViews
