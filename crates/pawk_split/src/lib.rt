@@ -16,4 +16,4 @@ pub use finder::{Finder, expression_matcher};
 pub use laws::split_law;
 pub use nth::field_by;
 pub use split::{append_fields, count_fields_by, split_fields, split_fields_with};
-pub use walk::FieldWalk;
+pub use walk::{FieldWalk, byte_separator};

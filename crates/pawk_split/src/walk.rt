@@ -17,9 +17,10 @@ use pawk_value::{Fault, Stop};
 use std::marker::Model;
 use std::ops::Range;
 
-/// What an FS of one byte separates by.
+/// What an FS of one byte separates by: a space by runs of blanks, any other byte by itself, in paragraph mode by
+/// newlines too. POSIX.1-2017, awk, "Variables and Special Variables" (`FS`, `RS`).
 #[inline]
-pub(crate) fn byte_separator(byte: u8, paragraph: bool) -> FieldSeparator
+pub fn byte_separator(byte: u8, paragraph: bool) -> FieldSeparator
     ensures { result ≡ separator_of byte paragraph }
 {
     if byte == b' ' {

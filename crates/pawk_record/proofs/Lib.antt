@@ -1,0 +1,4 @@
+pub mod LineLemmas
+pub mod LaidLemmas
+pub mod SplittingLemmas
+pub mod ViewLemmas

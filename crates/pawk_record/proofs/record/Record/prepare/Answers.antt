@@ -1,0 +1,11 @@
+use Rattle.std.proofs.Common.{ap, arith}
+use Rattle.std.proofs.lemmas.Result.{on_ok_weaker}
+use Rattle.pawk_record.specs.Records.{SplitRecord}
+use Rattle.pawk_record.proofs.ViewLemmas.{prepared_by}
+use Rattle.pawk_record.proofs.record.Record.prepare.Goals as goal
+
+pub returns-clause-ready : goal.returns-clause-ready
+returns-clause-ready c = on_ok_weaker c.find.result (prepared_by (record c.self.inside { here = record c.self.inside.here { ranges = c.find.new.ranges }; next = c.find.new.next; splitter = c.find.new.self }) c.args.n) c.find.ensures.enough
+
+pub returns-clause-more : goal.returns-clause-more
+returns-clause-more c = let same = ap (λ (v : SplitRecord). v.found) c.self.view_is in omega (arith, same, c.find.ensures.more)

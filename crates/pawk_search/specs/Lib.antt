@@ -1,0 +1,4 @@
+pub mod ReadEre
+pub mod Search
+pub mod FieldList
+pub mod Laws
