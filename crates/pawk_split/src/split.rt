@@ -5,7 +5,7 @@ ghost use Rattle.pawk_split.specs.FieldsOf.{AddsFields, CountsFields, IfFault, I
 
 use crate::append::append_between;
 use crate::count::count_between;
-use crate::finder::{Finder, expression_matcher};
+use crate::finder::{Finder, expression_matcher, lend_matcher};
 use crate::walk::byte_separator;
 use pawk_ere::Cache;
 use pawk_fields::{append_ranges, count_split};
@@ -84,6 +84,28 @@ fn append_alone(
     append_between(&mut matcher, ranges, text, fs, paragraph)
 }
 
+/// Appends as [`append_fields`] does, with a matcher that a cache lends for the whole record.
+fn append_lent(
+    cache: &mut Cache,
+    ranges: &mut Vec<Range<usize>>,
+    text: &[u8],
+    fs: &[u8],
+    paragraph: bool,
+) -> Result<(), Stop>
+    ensures added { OnOk result
+        (AddsFields fs.now paragraph text.now ranges.old.items ranges.new.items) }
+    ensures fault { IfErr result (λ stop. IfFault stop (IsFaultOf fs.now text.now)) }
+    ensures capacity { cache.new ≡ cache.old }
+{
+    if fs.len() < 2 || text.is_empty() {
+        return append_plain(ranges, text, fs, paragraph);
+    }
+    let mut loan = lend_matcher(cache, fs)?;
+    let answer = append_between(&mut loan.matcher, ranges, text, fs, paragraph);
+    cache.take_back(loan);
+    answer
+}
+
 /// The ranges of a record's fields by any FS, as [`append_fields`] appends them, with its faults.
 ///
 /// POSIX.1-2017, awk, "Variables and Special Variables" (`FS`, `RS`).
@@ -117,7 +139,7 @@ pub fn split_fields_with(
     ensures capacity { cache.new ≡ cache.old }
 {
     let mut ranges = Vec::new(alloc);
-    append_fields(cache, &mut ranges, text, fs, paragraph)?;
+    append_lent(cache, &mut ranges, text, fs, paragraph)?;
     Ok(ranges)
 }
 
