@@ -4,7 +4,7 @@
 #   make demo       build it and run it on three lines: the last line is 6
 #   make test       the whole gate, and then what stands beside it (tests/run)
 #   make bench      compare its user time with that of mawk and gawk, its elapsed time by workers, and the times of
-#                   expressions
+#                   expressions and of fields
 #   make install    put it at $(PREFIX)/bin/pawk (PREFIX is /usr/local)
 #   make clean      remove what was built, and what the proofs keep
 
@@ -45,6 +45,9 @@ bench: build
 	bench/workers $(BENCH_DATA)
 	cd crates/pawk_ere_bench && rt run </dev/null
 	bench/expressions $(BENCH_DATA)
+	@test -e $(BENCH_DATA)/paragraphs.txt || bench/words $(BENCH_DATA)
+	cd crates/pawk_split_bench && rt run </dev/null
+	bench/fields $(BENCH_DATA)
 
 install: build
 	mkdir -p $(DESTDIR)$(PREFIX)/bin

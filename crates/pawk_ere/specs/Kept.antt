@@ -2,6 +2,7 @@
 use Rattle.std.specs.Prelude.{ℕ, List, Contains, Option, Vec}
 use Rattle.std.proofs.Common.{Global}
 use Rattle.pawk_ere.specs.Answers.{IsAnswer, IsFor}
+use Rattle.pawk_ere.specs.declared.loan.Loan.{Loan}
 use Rattle.pawk_machine.specs.declared.node.Node.{Node}
 use Rattle.pawk_pattern.specs.Pattern.{Pattern}
 use Rattle.pawk_pattern.specs.Tokens.{SpellsEre}
@@ -11,6 +12,10 @@ pub record IsOfText (bytes : List ℕ) (matcher : Node) : Type 0 where
   pub pattern : Pattern
   pub spelled : SpellsEre bytes pattern
   pub meaning : IsFor pattern matcher
+
+-- the matcher that is lent is one of its text
+abbrev pub IsOfItsText : Loan → Type 0
+IsOfItsText loan = IsOfText loan.text.items loan.matcher
 
 -- each matcher that is kept is one of its text
 abbrev pub AreOfTexts : List (Vec ℕ Global × Node) → Type 0

@@ -3,10 +3,12 @@
 
 mod cache;
 mod literal;
+mod loan;
 mod matcher;
 mod run;
 mod words;
 
 pub use crate::cache::Cache;
+pub use crate::loan::Loan;
 pub use crate::matcher::Matcher;
 pub use pawk_pattern::{Ere, EreRefusal, laws};

@@ -10,12 +10,13 @@
 //! | `states;EXPRESSION;FROM;TEXT` | the same, and whether the table of states was emptied |
 //! | `all;EXPRESSION` | the same for the texts below from the bytes 0, 1 and 3 on |
 //!
-//! Each question goes to a matcher twice, to `is_match`, and to caches of one expression and of 1,024; where they do not agree
-//! the answer is `differ`. Each call of `pawk_ere` that tells a want of memory is made again, for runs that refuse the Nth
-//! request (`rt try --fail-alloc 1.. <`, with a few rows): whatever was refused, the answers are the same.
+//! Each question goes to a matcher twice, to `is_match`, to caches of one expression and of 1,024, and to a matcher that the
+//! first of them lends; where they do not agree the answer is `differ`. Each call of `pawk_ere` that tells a want of memory is
+//! made again, for runs that refuse the Nth request (`rt try --fail-alloc 1.. <`, with a few rows): whatever was refused, the
+//! answers are the same.
 #![tactic(auto)]
 
-ghost use Rattle.std.specs.Prelude.{◌≤◌, length};
+ghost use Rattle.std.specs.Prelude.{◌≡◌, ◌≤◌, length};
 
 use pawk_ere::{Cache, Ere, EreRefusal, Matcher};
 use pawk_rows::{number, piece, push_decimal, push_parts};
@@ -81,7 +82,9 @@ fn matcher_of(alloc: Global, ere: &Ere) -> Result<Matcher, AllocError> {
 }
 
 /// What a matcher finds, asked again after a want of memory.
-fn find(matcher: &mut Matcher, asked: Question<'_>) -> Result<Option<(usize, usize)>, AllocError> {
+fn find(matcher: &mut Matcher, asked: Question<'_>) -> Result<Option<(usize, usize)>, AllocError>
+    ensures { matcher.new ≡ matcher.old }
+{
     match matcher.find(asked.text, asked.from) {
         Err(AllocError) => matcher.find(asked.text, asked.from),
         answer => answer,
@@ -107,7 +110,21 @@ fn find_cached(
     }
 }
 
-/// Whether the caches give this answer too.
+/// What a matcher finds that a cache lends, asked for again after a want of memory.
+fn find_lent(cache: &mut Cache, asked: Question<'_>) -> Result<Option<(usize, usize)>, EreRefusal> {
+    let mut loan = match cache.lend(asked.pattern) {
+        Err(EreRefusal::Memory) => cache.lend(asked.pattern)?,
+        answer => answer?,
+    };
+    let found = find(&mut loan.matcher, asked);
+    if asked.from == 0 {
+        cache.take_back(loan);
+    }
+    Ok(found?)
+}
+
+/// Whether the caches give this answer too, and the matchers that they lend. A matcher that is lent from byte 0 on is given
+/// back, and any other is not.
 fn are_agreed(
     caches: &mut Caches,
     asked: Question<'_>,
@@ -115,7 +132,8 @@ fn are_agreed(
 ) -> Result<bool, EreRefusal> {
     let small = find_cached(&mut caches.small, asked)?;
     let large = find_cached(&mut caches.large, asked)?;
-    Ok(small == found && large == found)
+    let lent = find_lent(&mut caches.small, asked)?;
+    Ok(small == found && large == found && lent == found)
 }
 
 /// Whether the matcher gives this answer again, and tells whether there is one.

@@ -7,12 +7,8 @@ use Rattle.std.proofs.lemmas.Option.{slice_get_past}
 use Rattle.std.specs.List.{prefix_len}
 use Rattle.pawk_value.specs.Bytes.{is_blank}
 use Rattle.pawk_fields.specs.Fields.{is_not_blank, blank_fields}
+use Rattle.pawk_fields.specs.Words.{fields_left}
 use Rattle.pawk_fields.proofs.FieldsLemmas.{fields_of_word}
-
--- the fields of what is left of a text; a word that has begun is none of them
-abbrev pub fields_left : Bool → List ℕ → List (List ℕ)
-fields_left true s = blank_fields s
-fields_left false s = blank_fields (drop (prefix_len is_not_blank s) s)
 
 -- a blank is no part of a field
 pub left_past_blank : (after_blank : Bool) (b : ℕ) (s : List ℕ) → is_blank b ≡ true → fields_left after_blank (b ∷ s) ≡ blank_fields s
@@ -49,9 +45,9 @@ left_on fs s i n r after_blank blank lt is one left =
     (left_step s i r after_blank blank lt is one)
 
 -- how many fields are left
-pub count_on : (s : List ℕ) (i n r : ℕ) (after_blank blank : Bool) → i < length s → blank ≡ is_blank (slice_index_or s i 0) → r ≡ bool_byte (after_blank && not blank) → n + length (fields_left after_blank (drop i s)) ≡ length (blank_fields s)
-    → (n + r) + length (fields_left blank (drop (i + 1) s)) ≡ length (blank_fields s)
-count_on s i n r after_blank blank lt is one left =
+pub count_on : (total : ℕ) (s : List ℕ) (i n r : ℕ) (after_blank blank : Bool) → i < length s → blank ≡ is_blank (slice_index_or s i 0) → r ≡ bool_byte (after_blank && not blank) → n + length (fields_left after_blank (drop i s)) ≡ total
+    → (n + r) + length (fields_left blank (drop (i + 1) s)) ≡ total
+count_on total s i n r after_blank blank lt is one left =
     ⊎_elim
     (λ x. omega (arith, x.0, ap length x.1, left))
     (λ x. omega (arith, x.0, ap length x.1, left))
@@ -90,6 +86,6 @@ none_later s i n k after_blank end le left =
     let few : length (blank_fields s) - n ≡ 0 = sym (length-drop n (blank_fields s)) ∙ ap length none in
     slice_get_past (blank_fields s) k (omega (arith, few, le))
 
-pub all_begun : (s : List ℕ) (i n : ℕ) (after_blank : Bool) → length s ≤ i → n + length (fields_left after_blank (drop i s)) ≡ length (blank_fields s) → n ≡ length (blank_fields s)
-all_begun s i n after_blank end left =
+pub all_begun : (total : ℕ) (s : List ℕ) (i n : ℕ) (after_blank : Bool) → length s ≤ i → n + length (fields_left after_blank (drop i s)) ≡ total → n ≡ total
+all_begun total s i n after_blank end left =
     let none = ap length (ap (fields_left after_blank) (drop_all i s end) ∙ left_of_nothing after_blank) in omega (arith, none, left)

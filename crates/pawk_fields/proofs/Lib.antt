@@ -2,3 +2,4 @@ pub mod FieldsLemmas
 pub mod FieldWalkLemmas
 pub mod FieldsLawLemmas
 pub mod SplitLemmas
+pub mod WordLanes

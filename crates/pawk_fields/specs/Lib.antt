@@ -1,3 +1,4 @@
 pub mod Fields
+pub mod Words
 pub mod Splits
 pub mod FieldSeparator

@@ -8,6 +8,7 @@ ghost use Rattle.std.specs.Option.{option_copied};
 ghost use Rattle.pawk_value.specs.Bytes.{is_blank};
 ghost use Rattle.pawk_fields.specs.Fields.{is_not_blank, blank_fields, FieldsLaw};
 
+use crate::words::count_words;
 use pawk_value::is_blank_byte;
 use std::marker::Model;
 
@@ -88,21 +89,6 @@ fn field_place(text: &[u8], k: usize) -> Option<usize>
         after_blank = is_blank;
     }
     None
-}
-
-/// How many words a text has, in the same steps for each byte.
-#[inline]
-fn count_words(text: &[u8]) -> usize
-    ensures { result ≡ length (blank_fields text.now) }
-{
-    let mut count = 0;
-    let mut after_blank = true;
-    for byte in text {
-        let is_blank = is_blank_byte(*byte);
-        count += usize::from(after_blank & !is_blank);
-        after_blank = is_blank;
-    }
-    count
 }
 
 /// The fields that are left of a record, in order.

@@ -5,6 +5,7 @@ mod blanks;
 mod count;
 mod field_walk;
 mod separator;
+mod words;
 
 pub use blanks::{BlankFields, count_fields, field, fields, fields_law};
 pub use count::count_split;

@@ -7,7 +7,7 @@ ghost use Rattle.pawk_pattern.specs.Tokens.{SpellsNone};
 ghost use Rattle.pawk_split.specs.FieldWalks.{IsNextMatch};
 ghost use Rattle.pawk_split.specs.FieldsOf.{TellsNone};
 
-use pawk_ere::{Cache, Ere, EreRefusal, Matcher};
+use pawk_ere::{Cache, Ere, EreRefusal, Loan, Matcher};
 use pawk_value::{Fault, Stop};
 use std::alloc::{AllocError, Global};
 
@@ -79,6 +79,20 @@ pub fn expression_matcher(alloc: Global, pattern: &[u8]) -> Result<Matcher, Stop
 {
     match Ere::parse(alloc, pattern) {
         Ok(ere) => Ok(Matcher::new(alloc, &ere)?),
+        Err(why) => Err(stop_of(why)),
+    }
+}
+
+/// A matcher of the expression that a text spells, which a cache lends; fault `ere` where it spells
+/// none.
+pub(crate) fn lend_matcher(cache: &mut Cache, pattern: &[u8]) -> Result<Loan, Stop>
+    ensures text { IfOk result (λ loan. loan.text.items ≡ pattern.now) }
+    ensures matcher { IfOk result (λ loan. IsOfText pattern.now loan.matcher) }
+    ensures fault { IfErr result (TellsNone pattern.now) }
+    ensures capacity { cache.new ≡ cache.old }
+{
+    match cache.lend(pattern) {
+        Ok(loan) => Ok(loan),
         Err(why) => Err(stop_of(why)),
     }
 }

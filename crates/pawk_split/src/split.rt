@@ -5,13 +5,16 @@ ghost use Rattle.pawk_split.specs.FieldsOf.{AddsFields, CountsFields, IfFault, I
 
 use crate::append::append_between;
 use crate::count::count_between;
-use crate::finder::{Finder, expression_matcher};
+use crate::finder::{Finder, expression_matcher, lend_matcher};
 use crate::walk::byte_separator;
 use pawk_ere::Cache;
 use pawk_fields::{append_ranges, count_split};
 use pawk_value::{Fault, Stop};
-use std::alloc::Global;
+use std::alloc::{AllocError, Global};
 use std::ops::Range;
+
+/// Most records have no more fields than this, and their list never grows.
+const FEW_FIELDS: usize = 16;
 
 /// Appends the ranges of a record's fields by an FS that is no expression, or of an empty record.
 fn append_plain(
@@ -84,6 +87,38 @@ fn append_alone(
     append_between(&mut matcher, ranges, text, fs, paragraph)
 }
 
+/// Appends as [`append_fields`] does, with a matcher that a cache lends for the whole record.
+fn append_lent(
+    cache: &mut Cache,
+    ranges: &mut Vec<Range<usize>>,
+    text: &[u8],
+    fs: &[u8],
+    paragraph: bool,
+) -> Result<(), Stop>
+    ensures added { OnOk result
+        (AddsFields fs.now paragraph text.now ranges.old.items ranges.new.items) }
+    ensures fault { IfErr result (λ stop. IfFault stop (IsFaultOf fs.now text.now)) }
+    ensures capacity { cache.new ≡ cache.old }
+{
+    if fs.len() < 2 || text.is_empty() {
+        return append_plain(ranges, text, fs, paragraph);
+    }
+    let mut loan = lend_matcher(cache, fs)?;
+    let answer = append_between(&mut loan.matcher, ranges, text, fs, paragraph);
+    cache.take_back(loan);
+    answer
+}
+
+/// An empty list with room for a few fields, where a record may have any.
+fn list_for(alloc: Global, text: &[u8]) -> Result<Vec<Range<usize>>, AllocError>
+    ensures { IfOk result (λ ranges. ranges.items ≡ []) }
+{
+    if text.is_empty() {
+        return Ok(Vec::new(alloc));
+    }
+    Vec::with_capacity(alloc, FEW_FIELDS)
+}
+
 /// The ranges of a record's fields by any FS, as [`append_fields`] appends them, with its faults.
 ///
 /// POSIX.1-2017, awk, "Variables and Special Variables" (`FS`, `RS`).
@@ -97,7 +132,7 @@ pub fn split_fields(
         (λ ranges. AddsFields fs.now paragraph text.now [] ranges.items) }
     ensures fault { IfErr result (λ stop. IfFault stop (IsFaultOf fs.now text.now)) }
 {
-    let mut ranges = Vec::new(alloc);
+    let mut ranges = list_for(alloc, text)?;
     append_alone(alloc, &mut ranges, text, fs, paragraph)?;
     Ok(ranges)
 }
@@ -116,8 +151,8 @@ pub fn split_fields_with(
     ensures fault { IfErr result (λ stop. IfFault stop (IsFaultOf fs.now text.now)) }
     ensures capacity { cache.new ≡ cache.old }
 {
-    let mut ranges = Vec::new(alloc);
-    append_fields(cache, &mut ranges, text, fs, paragraph)?;
+    let mut ranges = list_for(alloc, text)?;
+    append_lent(cache, &mut ranges, text, fs, paragraph)?;
     Ok(ranges)
 }
 

@@ -10,7 +10,9 @@ use Rattle.pawk_syntax_tree.specs.Tree.{Tree}
 use Rattle.pawk_syntax_tree.specs.Canonical.{closing, canon, height}
 use Rattle.pawk_syntax_tree.specs.Parse.{expect, expect_name, sees, same_mark, row_at, skip_lines, after}
 use Rattle.pawk_syntax_tree.proofs.Again as ag
-use Rattle.pawk_syntax_tree.proofs.Again.{Closes, begins, Begins, Opens, by_number, by_string, by_ere, by_name, by_function, by_builtin, by_bracket, by_dollar, no_lines, longer}
+use Rattle.pawk_syntax_tree.proofs.TreesAgain as tr
+use Rattle.pawk_syntax_tree.proofs.Again.{begins, Begins, Opens, by_number, by_string, by_ere, by_name, by_function, by_builtin, by_bracket, by_dollar, no_lines}
+use Rattle.pawk_syntax_tree.proofs.TreesAgain.{Closes, longer}
 use Rattle.pawk_syntax_program.specs.Statement.{Stmts, highest_of}
 use Rattle.pawk_syntax_program.specs.StatementCanonical.{in_braces, canon_lines, Counts, AreSoundStmts}
 use Rattle.pawk_syntax_program.specs.StatementParse.{whole}
@@ -74,7 +76,7 @@ before_comma : (p : Tree) → Counts p → height p ≤ 200 → (rest : List Tok
 unfolding whole
 before_comma p h low' rest =
     let k = comma_closes true rest in
-    rw (ag.whole p (ag.again p h.1) true 1000 (omega arith) low' 0 (leb-zero (ag.grade p)) (t.mark m.Comma ∷ rest) k.1 (k.2 (ag.grade p)), h.0) refl
+    rw (ag.whole p (tr.again p h.1) true 1000 (omega arith) low' 0 (leb-zero (ag.grade p)) (t.mark m.Comma ∷ rest) k.1 (k.2 (ag.grade p)), h.0) refl
 
 matching_again : (p : Tree) (a : Stmts) → Counts p → AreSoundStmts a → height_of_part (matching p a) ≤ 200 → (rest : List Tok) → item (canon_part (matching p a) rest) ≡ Some ((matching p a, true), rest)
 unfolding pattern after
@@ -132,7 +134,7 @@ unfolding item function_on function_name
 define_again f ps a k low' rest =
     let x = in_braces (canon_lines a) rest in
     let inner = t.mark m.Newline ∷ canon_lines a (t.mark m.RightBrace ∷ rest) in
-    rw (ag.begin_arguments (canon_parameters ps (closing x)), parameters_again ps x, (open_brace inner).2) (with_again (define f ps) a k (omega arith) low' rest)
+    rw (tr.begin_arguments (canon_parameters ps (closing x)), parameters_again ps x, (open_brace inner).2) (with_again (define f ps) a k (omega arith) low' rest)
 
 begin_again : (a : Stmts) → AreSoundStmts a → height_of_part (begin a) ≤ 200 → (rest : List Tok) → item (canon_part (begin a) rest) ≡ Some ((begin a, true), rest)
 unfolding item

@@ -1,19 +1,17 @@
 -- No item that is read is too high.
-use Rattle.std.proofs.Common.{◌≡◌, ◌≤◌, ℕ, zero, suc, Bool, true, false, List, [], ◌∷◌, ◌++◌, length, drop, Some, None, refl, rules, inl, inr}
-use Rattle.std.specs.Prelude.{nat_le, Option}
+use Rattle.std.proofs.Common.{◌≡◌, ◌≤◌, ℕ, zero, suc, Bool, true, false, List, [], ◌∷◌, ◌++◌, length, drop, Some, inl, inr}
+use Rattle.std.specs.Prelude.{nat_le}
 use Rattle.std.proofs.lemmas.Bool.{cases_Bool, leb-true}
 use Rattle.pawk_token.specs.declared.token.Mark.{Mark}
 use Rattle.pawk_token.specs.declared.token.Mark.TheVariants as m
-use Rattle.pawk_token.specs.Bytes.{Text}
 use Rattle.pawk_token.specs.Tokens.{Tok}
 use Rattle.pawk_token.specs.Tokens as t
-use Rattle.pawk_syntax_tree.specs.Tree.{Tree}
 use Rattle.pawk_syntax_tree.specs.Parse.{expect, sees, skip_lines, after, greatest_height}
 use Rattle.pawk_syntax_tree.proofs.Tokens.{OnFound, on_bind, anything}
 use Rattle.pawk_syntax_program.specs.Statement.{Stmts}
 use Rattle.pawk_syntax_program.specs.StatementParse.{whole}
 use Rattle.pawk_syntax_program.specs.Item.{Part, begin, end, always, matching, between, define, print_record, height_of_part, AreLow}
-use Rattle.pawk_syntax_program.specs.ItemParse.{action, low_part, with_action, action_or_none, range_from, pattern, parameters, function_name, function_on, item_by, item, separated, items_from, program}
+use Rattle.pawk_syntax_program.specs.ItemParse.{action, low_part, with_action, action_or_none, pattern, parameters, function_name, function_on, item_by, item, separated, items_from, program}
 
 abbrev IsLow : Part × Bool → List Tok → Type 0
 IsLow p rest = height_of_part p.0 ≤ greatest_height

@@ -14,7 +14,9 @@ use Rattle.pawk_syntax_tree.specs.Tree.{Tree, number, string, ere, variable, ele
 use Rattle.pawk_syntax_tree.specs.Canonical.{opening, closing, canon, canon_first, canon_others, IsSome, IsSound, AreSound, height, highest}
 use Rattle.pawk_syntax_tree.specs.Parse.{Outcome, Parser, and_then, Operand, low, expect, expect_name, sees, same_mark, row_at, skip_lines, after, operand, group, group_of, list_up_to}
 use Rattle.pawk_syntax_tree.proofs.Again as ag
-use Rattle.pawk_syntax_tree.proofs.Again.{NoKey, Again, grade, reaches, Closes, begins, Begins, Opens, by_number, by_string, by_ere, by_name, by_function, by_builtin, by_bracket, by_dollar, no_lines, list_of, trees-list_of, again, each_again, are_arguments, AreArguments, EachAgain, list_again, longer, longer_first, longer_others}
+use Rattle.pawk_syntax_tree.proofs.TreesAgain as tr
+use Rattle.pawk_syntax_tree.proofs.Again.{NoKey, Again, grade, reaches, begins, Begins, Opens, by_number, by_string, by_ere, by_name, by_function, by_builtin, by_bracket, by_dollar, no_lines}
+use Rattle.pawk_syntax_tree.proofs.TreesAgain.{Closes, list_of, trees-list_of, again, each_again, are_arguments, AreArguments, EachAgain, list_again, longer, longer_first, longer_others}
 use Rattle.pawk_syntax_tree.proofs.Tokens.{sees_sign}
 use Rattle.pawk_syntax_program.specs.declared.statement.Leave.{Leave}
 use Rattle.pawk_syntax_program.specs.declared.statement.Leave.TheVariants as leave
@@ -125,7 +127,7 @@ unfolding list_on after
 list_on_again a none h low' rest ok = rw (ok.no_comma, h.0) refl
 list_on_again a (more d es) h low' rest ok =
     let y = canon d (canon_others es rest) in
-    rw (ag.sees_comma y, h.0, no_lines d (canon_others es rest)) (list_again None es d (again d h.2.1) (each_again None 2 es h.2.2) false 1000 (length y) (omega arith) low' (a ∷ []) (are_arguments None 1 (more d es) h.2) rest ok (omega arith))
+    rw (tr.sees_comma y, h.0, no_lines d (canon_others es rest)) (list_again None es d (again d h.2.1) (each_again None 2 es h.2.2) false 1000 (length y) (omega arith) low' (a ∷ []) (are_arguments None 1 (more d es) h.2) rest ok (omega arith))
 
 operand_group : (ex : Bool → ℕ → Parser Tree) (ts : List Tok) (r : Outcome Operand) → operand ex true (opening ts) ≡ r → group ex ts ≡ r
 unfolding operand
@@ -221,7 +223,7 @@ unfolding one other simple deleted after expect_name
 delete_again p a none h low' rest ok = absurd h.0
 delete_again p a (more d bs) h low' rest ok =
     let end' = t.mark m.RightBracket ∷ t.mark m.Newline ∷ rest in
-    rw (sees_key (canon d (canon_others bs end')), ag.square_again bs d (again d h.1.1) (each_again None 1 bs h.1.2) 1000 (omega arith) (omega arith) (are_arguments None 0 (more d bs) h.1) (t.mark m.Newline ∷ rest), end_line rest ok, trees-list_of bs, low_stmt_is (delete a (more d bs)) rest low') refl
+    rw (sees_key (canon d (canon_others bs end')), tr.square_again bs d (again d h.1.1) (each_again None 1 bs h.1.2) 1000 (omega arith) (omega arith) (are_arguments None 0 (more d bs) h.1) (t.mark m.Newline ∷ rest), end_line rest ok, trees-list_of bs, low_stmt_is (delete a (more d bs)) rest low') refl
 
 clear_again : (p : Parser (List Stmt)) (a : Text) (rest : List Tok) → Follows rest → one p (t.mark m.Delete ∷ t.name a ∷ t.mark m.Newline ∷ rest) ≡ Some (clear a ∷ [], rest)
 unfolding one other simple deleted after expect_name
@@ -229,7 +231,7 @@ clear_again p a rest ok = rw (line_no_key rest, end_line rest ok, low_stmt_is (c
 
 head_again : (e : Tree) → Counts e → height e ≤ 200 → (rest : List Tok) → head (in_head e rest) ≡ Some (e, skip_lines rest)
 unfolding head
-head_again e h low' rest = rw (ag.begin_arguments (canon e (closing rest)), whole_again e h low' (closing rest) (ag.bracket_closes rest), ag.end_group rest) refl
+head_again e h low' rest = rw (tr.begin_arguments (canon e (closing rest)), whole_again e h low' (closing rest) (tr.bracket_closes rest), ag.end_group rest) refl
 
 -- ---- bodies
 
@@ -391,7 +393,7 @@ do_again a e h low' hs zero le rest ok = absurd (omega arith)
 do_again a e h low' hs (suc zero) le rest ok = absurd (omega arith)
 do_again a e h low' hs (suc (suc n)) le rest ok =
     let last = t.mark m.Newline ∷ rest in
-    rw (no_line_brace (t.mark m.Newline ∷ canon_lines a (t.mark m.RightBrace ∷ t.mark m.While ∷ in_head e last)), body_again a hs n (omega arith) (t.mark m.While ∷ in_head e last), (while_next (in_head e last)).0, (while_next (in_head e last)).1, ag.begin_arguments (canon e (closing last)), whole_again e h (omega arith) (closing last) (ag.bracket_closes last), ag.end_group last, end_line rest ok, stmts-stmts_of a, low_stmt_is (do_while a e) rest low') refl
+    rw (no_line_brace (t.mark m.Newline ∷ canon_lines a (t.mark m.RightBrace ∷ t.mark m.While ∷ in_head e last)), body_again a hs n (omega arith) (t.mark m.While ∷ in_head e last), (while_next (in_head e last)).0, (while_next (in_head e last)).1, tr.begin_arguments (canon e (closing last)), whole_again e h (omega arith) (closing last) (tr.bracket_closes last), ag.end_group last, end_line rest ok, stmts-stmts_of a, low_stmt_is (do_while a e) rest low') refl
 
 -- ---- for
 
@@ -417,7 +419,7 @@ maybe_closing None h low' rest = rw (sees_closing rest) refl
 maybe_closing (Some e) h low' rest =
     let z = begins e (closing rest) in
     let no_end : sees m.RightParenthesis (canon e (closing rest)) ≡ false = ap (sees m.RightParenthesis) z.cut ∙ (opens_plain z.tail z.opens).4 in
-    rw (no_end, whole_again e h low' (closing rest) (ag.bracket_closes rest)) refl
+    rw (no_end, whole_again e h low' (closing rest) (tr.bracket_closes rest)) refl
 
 no_walk : (e : Tree) (rest : List Tok) → walks (canon e (t.mark m.Semicolon ∷ rest)) ≡ None
 unfolding walks expect_name expect sees same_mark
@@ -454,7 +456,7 @@ loop_again a b c body h k l low' hs (suc (suc n)) le rest ok =
     let four = in_braces (canon_lines body) last in
     let three = canon_maybe c (closing four) in
     let two = canon_maybe b (t.mark m.Semicolon ∷ three) in
-    rw (ag.begin_arguments (canon_maybe a (t.mark m.Semicolon ∷ two)), walks_none a two, maybe_semicolon a h (omega arith) two, (sees_semicolon two).1, maybe_semicolon b k (omega arith) three, (sees_semicolon three).1, maybe_closing c l (omega arith) four, ag.end_group four, no_line_brace (t.mark m.Newline ∷ canon_lines body (t.mark m.RightBrace ∷ last)), body_again body hs n (omega arith) last, skip_one rest, ok.no_line, stmts-stmts_of body, low_stmt_is (loop a b c body) rest low') refl
+    rw (tr.begin_arguments (canon_maybe a (t.mark m.Semicolon ∷ two)), walks_none a two, maybe_semicolon a h (omega arith) two, (sees_semicolon two).1, maybe_semicolon b k (omega arith) three, (sees_semicolon three).1, maybe_closing c l (omega arith) four, ag.end_group four, no_line_brace (t.mark m.Newline ∷ canon_lines body (t.mark m.RightBrace ∷ last)), body_again body hs n (omega arith) last, skip_one rest, ok.no_line, stmts-stmts_of body, low_stmt_is (loop a b c body) rest low') refl
 
 walk_head : (k a : Text) (rest : List Tok) → walks (t.name k ∷ t.mark m.In ∷ t.name a ∷ closing rest) ≡ Some ((k, a), rest)
 unfolding walks expect_name expect sees same_mark
@@ -467,7 +469,7 @@ walk_again k a body low' hs (suc zero) le rest ok = absurd (omega arith)
 walk_again k a body low' hs (suc (suc n)) le rest ok =
     let last = t.mark m.Newline ∷ rest in
     let four = in_braces (canon_lines body) last in
-    rw (ag.begin_arguments (t.name k ∷ t.mark m.In ∷ t.name a ∷ closing four), walk_head k a four, no_line_brace (t.mark m.Newline ∷ canon_lines body (t.mark m.RightBrace ∷ last)), body_again body hs n (omega arith) last, skip_one rest, ok.no_line, stmts-stmts_of body, low_stmt_is (walk k a body) rest low') refl
+    rw (tr.begin_arguments (t.name k ∷ t.mark m.In ∷ t.name a ∷ closing four), walk_head k a four, no_line_brace (t.mark m.Newline ∷ canon_lines body (t.mark m.RightBrace ∷ last)), body_again body hs n (omega arith) last, skip_one rest, ok.no_line, stmts-stmts_of body, low_stmt_is (walk k a body) rest low') refl
 
 mutual
   pub stmt_again : (x : Stmt) → IsSoundStmt x → height_of x ≤ 200 → StmtAgain x

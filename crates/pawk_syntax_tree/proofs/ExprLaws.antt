@@ -9,7 +9,8 @@ use Rattle.pawk_syntax_tree.specs.Parse.{expr}
 use Rattle.pawk_syntax_tree.proofs.Tokens.{OnFound}
 use Rattle.pawk_syntax_tree.proofs.Sound.{sound}
 use Rattle.pawk_syntax_tree.proofs.Kept.{kept}
-use Rattle.pawk_syntax_tree.proofs.Again.{again, in_bracket, grade}
+use Rattle.pawk_syntax_tree.proofs.Again.{in_bracket, grade}
+use Rattle.pawk_syntax_tree.proofs.TreesAgain.{again}
 
 pub read_is_derived : (depth : ℕ) (c : Bool) (ts rest : List Tok) (a : Tree) → expr depth c 0 ts ≡ Some (a, rest) → Derives c 0 ts rest a
 read_is_derived depth c ts rest a e =

@@ -1,5 +1,5 @@
 use Rattle.pawk_ere.proofs.Keeping.{kept_of}
 use Rattle.pawk_ere.proofs.cache.keep.Goals as goal
 
-pub returns-clause-kept : goal.returns-clause-kept
-returns-clause-kept c = kept_of c.put.result c.args.kept.now c.put.new.self c.args.key c.args.matcher c.put.ensures.entries c.put.ensures.err c.requires.kept c.requires.new
+pub returns-clause-others : goal.returns-clause-others
+returns-clause-others c = kept_of c.put.result c.args.others.now c.put.new.self c.args.loan.text c.args.loan.matcher c.put.ensures.entries c.put.ensures.err c.requires.others c.requires.loan

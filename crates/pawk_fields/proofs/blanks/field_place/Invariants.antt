@@ -1,6 +1,6 @@
 use Rattle.std.proofs.Common.{◌≡◌, ◌<◌, drop}
 use Rattle.pawk_fields.specs.Fields.{blank_fields}
-use Rattle.pawk_fields.proofs.FieldWalkLemmas.{fields_left}
+use Rattle.pawk_fields.specs.Words.{fields_left}
 use Rattle.pawk_fields.proofs.blanks.field_place.Given as goal
 
 abbrev pub invariant-loop-place : goal.invariant-loop-place

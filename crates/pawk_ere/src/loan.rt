@@ -1,0 +1,35 @@
+// A matcher with the text of its expression.
+
+ghost use Rattle.pawk_ere.specs.Kept.{IsOfText};
+ghost use Rattle.pawk_pattern.specs.Pattern.{Pattern};
+ghost use Rattle.pawk_pattern.specs.Refusals.{Tells};
+ghost use Rattle.pawk_pattern.specs.Tokens.{SpellsEre};
+ghost use Rattle.std.specs.Prelude.{◌≡◌, IfErr, IfOk};
+
+use crate::matcher::Matcher;
+use pawk_pattern::{Ere, EreRefusal};
+use std::alloc::Global;
+
+/// A matcher that a cache lends.
+#[derive(Drop)]
+pub struct Loan {
+    /// The text of the matcher's expression.
+    pub text: Vec<u8>,
+    /// The matcher of the expression.
+    pub matcher: Matcher,
+}
+
+impl Loan {
+    /// The matcher of a text that spells an expression.
+    pub(crate) fn read(alloc: Global, pattern: &[u8]) -> Result<Loan, EreRefusal>
+        ensures text { IfOk result (λ loan. loan.text.items ≡ pattern.now) }
+        ensures matcher { IfOk result (λ loan. IsOfText pattern.now loan.matcher) }
+        ensures refused { IfErr result
+            (λ why. Tells why ((e : Pattern) → SpellsEre pattern.now e → ⊥)) }
+    {
+        let ere = Ere::parse(alloc, pattern)?;
+        let matcher = Matcher::new(alloc, &ere)?;
+        let text = Vec::from_slice(alloc, pattern)?;
+        Ok(Loan { text, matcher })
+    }
+}
