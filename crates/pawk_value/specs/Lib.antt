@@ -17,3 +17,4 @@ pub use Rattle.pawk_format.specs.FormatResults
 pub use Rattle.pawk_format.specs.FormatLaw
 pub use Rattle.pawk_format.specs.DirectiveLaw
 pub use Rattle.pawk_format.specs.TemplateViews
+pub mod Held

@@ -3,9 +3,11 @@
 #![tactic(auto)]
 
 mod copies;
+mod held;
 mod texts;
 
 pub use copies::{assign, copy_lent, copy_value};
+pub use held::{Held, hold, lend_held};
 pub use pawk_format::{
     Conversion, Directive, Flags, Template, directive_law, format, format_into, format_law,
     read_template, template_into,

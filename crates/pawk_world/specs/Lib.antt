@@ -1,0 +1,4 @@
+pub mod Halts
+pub mod Sums
+pub mod Worlds
+pub mod Answers
