@@ -1,1 +1,4 @@
 pub mod Globals
+pub mod RecordStates
+pub mod StateViews
+pub mod Slots

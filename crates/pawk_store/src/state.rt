@@ -1,0 +1,87 @@
+//! What a run keeps beside the globals.
+
+ghost use Rattle.std.specs.Prelude.{◌≡◌, ◌<◌, ◌^◌, IfOk, IfErr, OnOk, Some, None};
+ghost use Rattle.pawk_split.specs.FieldsOf.{IfFault};
+ghost use Rattle.pawk_input.specs.Input.{item_of};
+ghost use Rattle.pawk_record.specs.Records.{read};
+ghost use Rattle.pawk_store.specs.RecordStates as spec;
+ghost use Rattle.pawk_store.specs.StateViews.{state_of};
+
+use pawk_input::Item;
+use pawk_record::Record;
+use pawk_value::Stop;
+use std::alloc::{AllocError, Global};
+
+/// What a run keeps beside the globals (POSIX.1-2017, awk, "Variables and Special Variables").
+#[derive(Drop)]
+pub struct RecordState<'a> {
+    /// The record and its fields.
+    pub line: Record<'a>,
+    /// How many records were read (`NR`).
+    pub nr: u64,
+    /// How many records of the file were read (`FNR`).
+    pub fnr: u64,
+    /// The name of the file (`FILENAME`), if a record was read.
+    pub name: Option<&'a [u8]>,
+    /// Where the last match began, counted from 1 (`RSTART`).
+    pub rstart: i64,
+    /// How long the last match was, in bytes (`RLENGTH`).
+    pub rlength: i64,
+    /// The last status that `exit` gave.
+    pub status: u8,
+    /// `RS` as `BEGIN` left it, once the records begin.
+    pub taken: Option<Vec<u8>>,
+    /// For each rule whether its range has begun and not ended.
+    pub ranges: Vec<bool>,
+}
+
+impl<'a> RecordState<'a> {
+    /// The state in which a program of so many rules begins.
+    pub fn new(alloc: Global, rules: usize) -> Result<RecordState<'a>, AllocError>
+        ensures { IfOk result (λ s. state_of s ≡ spec.opening rules) }
+    {
+        let mut ranges = Vec::new(alloc);
+        ranges.resize(rules, false)?;
+        Ok(RecordState {
+            line: Record::new(alloc),
+            nr: 0,
+            fnr: 0,
+            name: None,
+            rstart: 0,
+            rlength: -1,
+            status: 0,
+            taken: None,
+            ranges,
+        })
+    }
+
+    /// Whether records are paragraphs: where an empty `RS` was taken.
+    pub fn is_paragraph(&self) -> bool
+        ensures { result ≡ spec.is_paragraph (state_of self.now) }
+    {
+        match &self.taken {
+            Some(rs) => rs.is_empty(),
+            None => false,
+        }
+    }
+
+    /// Reads a record: sets `NR`, `FNR`, `FILENAME`, `$0`, and the fields by this `FS`.
+    ///
+    /// Fault `fs` or `ere` where the record is not empty and `FS` is empty or no expression; the record
+    /// then has no fields.
+    pub fn read(&mut self, item: &Item<'a>, fs: &[u8]) -> Result<(), Stop>
+        requires counted { self.old.nr + 1 < 2 ^ 64 }
+        ensures record { OnOk result
+            (state_of self.new ≡ spec.with_item fs.now (item_of item.now) (state_of self.old)) }
+        ensures fault { IfErr result (λ stop. IfFault stop (λ fault.
+            (state_of self.new ≡ spec.with_item fs.now (item_of item.now) (state_of self.old))
+            × ((read fs.now (spec.is_paragraph (state_of self.old)) (item_of item.now).bytes).1
+            ≡ Some fault))) }
+    {
+        let paragraph = self.is_paragraph();
+        self.nr += 1;
+        self.fnr = item.fnr;
+        self.name = Some(item.name);
+        self.line.read(item.bytes, fs, paragraph)
+    }
+}
