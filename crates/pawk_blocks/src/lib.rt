@@ -7,7 +7,6 @@ mod laws;
 mod mending;
 mod pieces;
 
-pub use block::Block;
 pub use blocks::Blocks;
 pub use laws::blocks_law;
 pub use pieces::Pieces;

@@ -48,9 +48,10 @@ impl<'a> Pieces<'a> {
         }
     }
 
-    /// The next piece, which may be empty, if there is one.
+    /// The next piece, which may be empty, if there is one; else there is none later either.
     pub fn next_piece(&mut self) -> Option<&'a [u8]>
-        ensures { MatchOption result (self.old ≡ []) (λ piece. self.old ≡ piece.now ∷ self.new) }
+        ensures { MatchOption result ((self.old ≡ []) × (self.new ≡ []))
+            (λ piece. self.old ≡ piece.now ∷ self.new) }
     {
         let (block, later) = self.blocks.split_first()?;
         let bytes = block.bytes();
