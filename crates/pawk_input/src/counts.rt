@@ -32,7 +32,9 @@ pub fn count_block(input: &Input, rs: &[u8], file: usize, range: Range<usize>) -
         (begins_within rs.now (file_at (files_of input.now) file).bytes range.start range.end) }
 {
     let separator = Separator::of(rs);
-    input.blocks(file).count_begins(separator, range.start, range.end) as u64
+    input
+        .blocks(file)
+        .count_begins(separator, range.start, range.end) as u64
 }
 
 /// Appends how many records begin in each block of a file.
@@ -73,7 +75,8 @@ pub fn count_blocks(
     requires separator { length rs.now ≤ 1 }
     requires ready { IsReady rs.now input.now }
     requires some { 0 < block }
-    ensures { IfOk result (λ counts. counts.items ≡ block_counts rs.now block (files_of input.now)) }
+    ensures { IfOk result
+        (λ counts. counts.items ≡ block_counts rs.now block (files_of input.now)) }
 {
     let mut counts = Vec::new(alloc);
     for file in 0..input.files() {

@@ -79,8 +79,8 @@ impl Draft {
         requires few { vec_len self.old.chunks ≤ most_chunks }
         ensures added { OnOk result (self.new.chunks.items ≡ self.old.chunks.items
             ++ record { file = file; range = range; nr = self.old.nr + fnr; fnr = fnr } ∷ []) }
-        ensures counted { IfOk result (λ n. n ≡ fnr + length
-            (records_by (rs_of separator) (slice_range (joined blocks.now) range.start range.end))) }
+        ensures counted { IfOk result (λ n. n ≡ fnr + length (records_by (rs_of separator)
+            (slice_range (joined blocks.now) range.start range.end))) }
         ensures nr { OnOk result (self.new.nr ≡ self.old.nr) }
         ensures few { OnOk result (vec_len self.new.chunks ≤ most_chunks) }
         ensures refused { IfErr result (RefusesMany (vec_len self.old.chunks + 1) most_chunks) }

@@ -116,11 +116,13 @@ impl Plan {
     ) -> Result<Plan, CutRefusal>
         requires one_byte { length rs.now ≤ 1 }
         requires ready { IsReady rs.now input.now }
-        ensures accepted { IfOk result (λ _. cut_fault rs.now (files_of input.now) cuts.now ≡ None) }
+        ensures accepted { IfOk result
+            (λ _. cut_fault rs.now (files_of input.now) cuts.now ≡ None) }
         ensures value { IfOk result (λ plan. plan ≡ cut_at rs.now (files_of input.now) cuts.now) }
         ensures plan { IfOk result (λ plan. IsPlanOf rs.now (files_of input.now) plan) }
         ensures few { IfOk result (λ plan. length plan ≤ most_chunks) }
-        ensures refused { IfErr result (RefusesCuts rs.now (files_of input.now) cuts.now most_chunks) }
+        ensures refused { IfErr result
+            (RefusesCuts rs.now (files_of input.now) cuts.now most_chunks) }
     {
         check_cuts(input, rs, cuts)?;
         let mut draft = Draft::new(alloc);

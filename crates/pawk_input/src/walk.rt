@@ -37,16 +37,18 @@ impl<'a> Model for Records<'a> {
     ghost Value = { List Item };
 
     ghost view = { λ r. items_ahead
-        (rs_of r.separator) r.file r.name.now r.nr r.fnr (r.rest.now ∷ r.pieces) (in_blocks r.later.now) };
+        (rs_of r.separator) r.file r.name.now r.nr r.fnr (r.rest.now ∷ r.pieces)
+        (in_blocks r.later.now) };
 
     ghost invariant = { λ r.
         (r.nr + length (items_ahead
-        (rs_of r.separator) r.file r.name.now r.nr r.fnr (r.rest.now ∷ r.pieces) (in_blocks r.later.now))
+        (rs_of r.separator) r.file r.name.now r.nr r.fnr (r.rest.now ∷ r.pieces)
+        (in_blocks r.later.now))
         ≤ most_bytes)
         × (r.fnr ≤ r.nr)
         × (r.file + length r.later.now < 2 ^ 64)
-        × (length r.rest.now + length (joined r.pieces) + total_size (files_of (in_blocks r.later.now))
-        ≤ most_bytes) };
+        × (length r.rest.now + length (joined r.pieces)
+        + total_size (files_of (in_blocks r.later.now)) ≤ most_bytes) };
 }
 
 impl<'a> Records<'a> {

@@ -36,11 +36,7 @@ fn blocks_of(alloc: Global, word: &[u8]) -> Result<Blocks, AllocError> {
 }
 
 /// The files of a row, from a cell on: names and blocks by turns.
-fn files_of(
-    alloc: Global,
-    row: &[u8],
-    first: usize,
-) -> Result<Vec<(Vec<u8>, Blocks)>, AllocError> {
+fn files_of(alloc: Global, row: &[u8], first: usize) -> Result<Vec<(Vec<u8>, Blocks)>, AllocError> {
     let mut files = Vec::new(alloc);
     let mut name = None;
     for word in row.split(|byte| *byte == b'\t').skip(first) {

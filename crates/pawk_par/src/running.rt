@@ -85,7 +85,8 @@ fn run_ready<G: Gate + Sync, R: Threads + Wait>(
     ensures route { IfOk result (λ r.
         r.1.route ≡ route_over job.entry.program.now (files_of input.entry.now)) }
     ensures accepted { IfOk result (λ _. ¬ IsRefused (files_of input.entry.now) cutting.now) }
-    ensures refused { result ≡ Err Refusal.Cutting → IsRefused (files_of input.entry.now) cutting.now }
+    ensures refused { result ≡ Err Refusal.Cutting
+        → IsRefused (files_of input.entry.now) cutting.now }
 {
     let plan = match plan_of(alloc, input, cutting) {
         Ok(plan) => plan,

@@ -135,7 +135,8 @@ fn list_globals(
     store: Store,
 ) -> Result<Vec<Global>, AllocError>
     ensures { IfOk result (λ v.
-        map variable_of v.items ≡ globals_of name.now (state_over (files_of input.now) (view_of store))) }
+        map variable_of v.items
+        ≡ globals_of name.now (state_over (files_of input.now) (view_of store))) }
 {
     let mut globals = list_language_variables(alloc, input, store.state)?;
     let place = place_for(name, &globals);

@@ -5,7 +5,8 @@ ghost use Rattle.pawk_par.specs.Cutting.{IsSized};
 ghost use Rattle.pawk_par.specs.Task.{IsCrew};
 
 use pawk_par::{
-    Blocks, Cutting, Ending, Gate, Input, Job, Outcome, Program, Refusal, Route, Settings, parse, run,
+    Blocks, Cutting, Ending, Gate, Input, Job, Outcome, Program, Refusal, Route, Settings, parse,
+    run,
 };
 use std::alloc::Global;
 use std::sync::Wait;
@@ -49,10 +50,12 @@ where
         program: &program,
         settings: &settings,
     };
-    Ok(match run(rt, alloc, job, &mut input, cutting, workers, gate) {
-        Ok((outcome, report)) => Ok((outcome, report.route)),
-        Err(refusal) => Err(refusal),
-    })
+    Ok(
+        match run(rt, alloc, job, &mut input, cutting, workers, gate) {
+            Ok((outcome, report)) => Ok((outcome, report.route)),
+            Err(refusal) => Err(refusal),
+        },
+    )
 }
 
 /// Whether the run gave this output, in this way.

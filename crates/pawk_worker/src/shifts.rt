@@ -148,8 +148,8 @@ pub fn all_work<G: Gate + Sync, R: Threads + Wait>(
                 × (board.now.chunks ≡ length plan.now)
                 × All (λ s. s ≡ fresh board.now.id) seats.items }
             ensures worked { IfOk result (λ v. (vec_len v ≡ vec_len seats)
-                × All (WorkedOn board.entry.now program.entry.now (files_of input.entry.now) plan.entry.now)
-                v.items) }
+                × All (WorkedOn board.entry.now program.entry.now
+                (files_of input.entry.now) plan.entry.now) v.items) }
         {
             let task = Task {
                 program,

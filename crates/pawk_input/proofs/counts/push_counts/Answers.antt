@@ -1,4 +1,4 @@
-use Rattle.std.proofs.Common.{◌≡◌, ◌+◌, ◌++◌, ◌∷◌, [], min, length, ap, sym, ◌∙◌, arith}
+use Rattle.std.proofs.Common.{◌≡◌, ◌+◌, ◌++◌, ◌∷◌, min, length, ap, sym, ◌∙◌, arith}
 use Rattle.pawk_input.specs.Input.{file_at, files_of}
 use Rattle.pawk_input.specs.Counts.{counts_left}
 use Rattle.pawk_input.proofs.CountLemmas.{counts_to, count_moved}

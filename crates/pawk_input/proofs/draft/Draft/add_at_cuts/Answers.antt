@@ -1,5 +1,5 @@
 use Rattle.std.proofs.Common.{◌≡◌, ◌+◌, ◌-◌, ◌<◌, ◌≤◌, ◌++◌, ◌∷◌, [], length, take, drop, get_or, map, vec_len, refl, ap, sym, ◌∙◌, arith, length-append, length-take}
-use Rattle.std.proofs.lemmas.List.{append-nil, drop_more, drop_all, take_rest, length-drop}
+use Rattle.std.proofs.lemmas.List.{append-nil, drop_more, drop_all, length-drop}
 use Rattle.std.proofs.lemmas.Result.{err_from_is_err_and}
 use Rattle.pawk_blocks.specs.Blocks.{joined}
 use Rattle.pawk_input.specs.Limits.{most_chunks}

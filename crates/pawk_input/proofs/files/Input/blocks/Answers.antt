@@ -1,6 +1,6 @@
 use Rattle.std.proofs.Common.{◌≡◌, ◌<◌, subst, length, ap, sym, ◌∙◌, arith}
 use Rattle.pawk_blocks.specs.Blocks.{AreMended}
-use Rattle.pawk_input.specs.Input.{File, file_at, file_of, files_of, named_blocks, in_blocks, total_size}
+use Rattle.pawk_input.specs.Input.{File, file_at, file_of, files_of, named_blocks}
 use Rattle.pawk_input.proofs.ItemsLemmas.{Pair, length_held, held_at, ready_at}
 use Rattle.pawk_input.proofs.files.Input.blocks.Goals as goal
 

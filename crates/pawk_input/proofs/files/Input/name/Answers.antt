@@ -1,5 +1,5 @@
 use Rattle.std.proofs.Common.{◌≡◌, ◌<◌, length, ap, sym, ◌∙◌, arith}
-use Rattle.pawk_input.specs.Input.{File, file_at, file_of, files_of, named_blocks, in_blocks, total_size}
+use Rattle.pawk_input.specs.Input.{File, file_at, file_of, files_of, named_blocks}
 use Rattle.pawk_input.proofs.ItemsLemmas.{Pair, length_held, held_at}
 use Rattle.pawk_input.proofs.files.Input.name.Goals as goal
 

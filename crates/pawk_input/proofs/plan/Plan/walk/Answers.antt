@@ -1,10 +1,8 @@
-use Rattle.std.proofs.Common.{◌≡◌, ◌-◌, List, length, get_or, subst, ap, sym, ◌∙◌, arith}
+use Rattle.std.proofs.Common.{◌≡◌, ◌-◌, length, get_or, ap, sym, ◌∙◌, arith}
 use Rattle.std.proofs.lemmas.Option.{get_or_from_slice_get}
 use Rattle.pawk_records.specs.Records.{records_by}
-use Rattle.pawk_records.specs.Separator.{rs_of}
-use Rattle.pawk_blocks.specs.Blocks.{joined}
 use Rattle.pawk_blocks.proofs.BlocksLemmas.{records_of_blocks}
-use Rattle.pawk_input.specs.Input.{file_at, file_items, files_of}
+use Rattle.pawk_input.specs.Input.{files_of}
 use Rattle.pawk_input.specs.Plan.{chunk_bytes}
 use Rattle.pawk_input.specs.Walk.{block_records}
 use Rattle.pawk_input.proofs.ItemsLemmas.{length-part}

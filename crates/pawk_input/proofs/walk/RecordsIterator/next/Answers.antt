@@ -1,7 +1,7 @@
-use Rattle.std.proofs.Common.{◌≡◌, ◌+◌, ◌≤◌, [], ◌∷◌, length, ap, sym, ◌∙◌, arith}
+use Rattle.std.proofs.Common.{◌≡◌, ◌+◌, [], ◌∷◌, length, ap, sym, ◌∙◌, arith}
 use Rattle.std.proofs.lemmas.List.{nil_from_length}
 use Rattle.pawk_records.specs.Separator.{rs_of}
-use Rattle.pawk_blocks.specs.Blocks.{joined, parts}
+use Rattle.pawk_blocks.specs.Blocks.{joined}
 use Rattle.pawk_blocks.proofs.BlocksLemmas.{parts_all}
 use Rattle.pawk_input.specs.Input.{files_of, in_blocks, named_blocks, total_size}
 use Rattle.pawk_input.specs.Walk.{items_ahead}
@@ -15,8 +15,7 @@ invariant_of-self-in_err-first c =
     let last : s.later.now ≡ [] = nil_from_length s.later.now c.in_err-first.ensures.cases in
     let ends = c.in_default-next_piece.ensures.1 in
     let none = ap length (no_items rs s.file s.name.now s.nr s.fnr s.rest.now c.next_piece.new.self (in_blocks s.later.now) c.in_default.ensures.cut ends (ap in_blocks last)) in
-    let held = ap (λ l. length (joined l)) ends in
-    (
+    let held = ap (λ l. length (joined l)) ends in (
       omega (arith, none, c.loop-bytes.invariant.counted),
       c.loop-bytes.invariant.in_file,
       c.loop-bytes.invariant.few_files,
