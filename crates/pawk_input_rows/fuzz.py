@@ -1,6 +1,6 @@
 #!/usr/bin/env python3
 """Compares the program of this crate with plain definitions on random inputs of newlines, separators
-and letters: `fuzz.py PROGRAM [COUNT [SEED]]`. The definitions walk a list of places and search nothing."""
+and letters, in blocks that are cut at any places: `fuzz.py PROGRAM [COUNT [SEED]]`. The definitions walk a list of places and search nothing."""
 import random
 import subprocess
 import sys
@@ -111,11 +111,19 @@ def ranges(fs, paragraph, record):
     return list(zip([0] + [i + 1 for i in marks], marks + [len(record)]))
 
 
+def in_blocks(rand, data):
+    """The bytes with a bar at up to four places, where the file is cut into blocks."""
+    for _ in range(rand.randint(0, 4)):
+        place = rand.randint(0, len(data))
+        data = data[:place] + '|' + data[place:]
+    return data
+
+
 def row(rand):
     text = lambda: ''.join(rand.choice('\n\n\n:a b') for _ in range(rand.randint(0, 12)))
     files = [(rand.choice(['f', 'g']), text()) for _ in range(rand.randint(1, 3))]
     rs = rand.choice(['', '', '\n', ':'])
-    names = [word for pair in files for word in pair]
+    names = [word for name, data in files for word in (name, in_blocks(rand, data))]
     kind = rand.choice(['records', 'chunked', 'size', 'cuts', 'counts', 'counted', 'begins', 'split', 'pieces'])
     size = rand.randint(1, 13)
     block = rand.randint(1, 6)

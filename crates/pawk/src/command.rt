@@ -59,15 +59,14 @@ fn run_files<R: Files + AllocGlobal + Threads + Wait, O: Write>(
         Err(SettingsRefusal::Memory) => return Err(Stop::Memory),
         Err(refusal) => return Err(Stop::Settings(refusal as u8)),
     };
-    let input = read_files(rt, &request.files)?;
+    let mut input = read_files(rt, &request.files)?;
     let cutting = Cutting::Size(request.chunk);
     let workers = usize::from(request.workers);
     let job = Job {
         program: &program,
         settings: &settings,
-        input: &input,
     };
-    let (outcome, report) = match run(rt, alloc, job, &cutting, workers, &Open) {
+    let (outcome, report) = match run(rt, alloc, job, &mut input, &cutting, workers, &Open) {
         Ok(answer) => answer,
         Err(Refusal::Memory) => return Err(Stop::Memory),
         Err(Refusal::Thread) => return Err(Stop::Thread),

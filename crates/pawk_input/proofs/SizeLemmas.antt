@@ -1,10 +1,10 @@
 -- One step of the plan by size.
-use Rattle.std.proofs.Common.{◌≡◌, inl, inr, ℕ, zero, suc, ◌+◌, ◌-◌, ◌<◌, ◌≤◌, Bool, true, false, cond, leb, List, [], ◌∷◌, ◌++◌, length, take, drop, get_or, min, refl, ap, arith, sym, ◌∙◌}
+use Rattle.std.proofs.Common.{◌≡◌, inl, inr, ℕ, zero, suc, ◌+◌, ◌-◌, ◌<◌, ◌≤◌, Bool, true, false, cond, leb, List, [], ◌∷◌, ◌++◌, length, take, drop, get_or, min, refl, ap, arith, sym, ◌∙◌, length-append}
 use Rattle.std.proofs.lemmas.Bool.Decides.{leb_tells}
 use Rattle.std.proofs.lemmas.List.{take_all, length-take-le, length-drop}
 use Rattle.pawk_records.specs.Records.{records_by}
-use Rattle.pawk_records.specs.Begins.{BeginsAt, begins_at, begins_by, places_where}
-use Rattle.pawk_records.proofs.BeginsLemmas.{none_before, length-records_by, length-records_part}
+use Rattle.pawk_records.specs.Begins.{BeginsAt, begins_at, begins_by, begins_within, places_where}
+use Rattle.pawk_records.proofs.BeginsLemmas.{begins_before, none_before, length-records_by, length-records_part}
 use Rattle.pawk_records.proofs.PlaceLemmas.{places_where-append, places_where-none}
 use Rattle.pawk_input.specs.Plan.{IsBeginOrEnd, chunks_at, places_by_size, places_by_size_from}
 
@@ -133,6 +133,19 @@ module _ (rs s : List ℕ) (p q : ℕ) (up : p < q) (le : q ≤ length s) where
       let parts : length (records_by rs (take q s)) ≡ length (records_by rs (take p s)) + length (records_by rs (take (q - p) (drop p s))) =
       rw there at (length-records_part rs s p (q - p) is (omega arith) (omega arith)) in
       omega arith
+
+-- as many records begin in a part as it has, where it begins with one
+pub part_begins : (rs s : List ℕ) (p q : ℕ) → BeginsAt rs s p → p < q → q ≤ length s → length (begins_within rs s p q) ≡ length (records_by rs (take (q - p) (drop p s)))
+part_begins rs s p q is up le =
+    let f = begins_at rs s in
+    let there : p + (q - p) ≡ q = omega arith in
+    let at : 0 + p ≡ p = omega arith in
+    let parts : length (records_by rs (take q s)) ≡ length (records_by rs (take p s)) + length (records_by rs (take (q - p) (drop p s))) =
+    rw there at (length-records_part rs s p (q - p) is (omega arith) (omega arith)) in
+    let both : length (places_where f 0 q) ≡ length (places_where f 0 p) + length (places_where f p (q - p)) =
+    ap (λ n. length (places_where f 0 n)) (sym there) ∙ ap length (places_where-append f 0 p (q - p)) ∙ length-append (places_where f 0 p) (places_where f (0 + p) (q - p))
+    ∙ ap (λ i. length (places_where f 0 p) + length (places_where f i (q - p))) at in
+    omega (arith, parts, both, begins_before rs s p (omega arith), begins_before rs s q le)
 
 -- no more records than bytes are before a place
 pub few_before : (rs s : List ℕ) (q n : ℕ) → q ≤ length s → n ≡ length (records_by rs (take q s)) → n ≤ q

@@ -1,9 +1,10 @@
 -- The input: a list of files, and the records of all of them in order.
 -- POSIX.1-2017, awk, "Variables and Special Variables" (NR, FNR, FILENAME).
-use Rattle.std.specs.Prelude.{ℕ, ◌+◌, List, [], ◌∷◌, ◌++◌, length, map, Vec}
+use Rattle.std.specs.Prelude.{ℕ, ◌+◌, List, [], ◌∷◌, ◌++◌, length, map, All, Vec}
 use Rattle.std.specs.List.{slice_index_or}
 use Rattle.std.specs.declared.alloc.Global.{Global}
 use Rattle.pawk_records.specs.Records.{records_by}
+use Rattle.pawk_blocks.specs.Blocks.{AreMended, joined}
 use Rattle.pawk_input.specs.declared.item.Item.{Item as LentItem}
 
 -- a file: its name and what it holds
@@ -11,13 +12,30 @@ pub record File : Type 0 where
   pub name : List ℕ
   pub bytes : List ℕ
 
--- the file of a name and its bytes
-abbrev pub file_of : Vec ℕ Global × Vec ℕ Global → File
-file_of pair = record { name = pair.0.items; bytes = pair.1.items }
+-- a file as an input holds it: its name, and its bytes in blocks
+pub record FileInBlocks : Type 0 where
+  pub name : List ℕ
+  pub blocks : List (List ℕ)
 
--- the files of pairs of a name and its bytes
-abbrev pub files_of : List (Vec ℕ Global × Vec ℕ Global) → List File
-files_of pairs = map file_of pairs
+-- the file, whose bytes are those of its blocks in order
+abbrev pub file_of : FileInBlocks → File
+file_of f = record { name = f.name; bytes = joined f.blocks }
+
+-- the files that an input holds
+abbrev pub files_of : List FileInBlocks → List File
+files_of input = map file_of input
+
+-- the file of a name and its blocks
+abbrev pub named_blocks : Vec ℕ Global × List (List ℕ) → FileInBlocks
+named_blocks pair = record { name = pair.0.items; blocks = pair.1 }
+
+-- the files of pairs of a name and its blocks
+abbrev pub in_blocks : List (Vec ℕ Global × List (List ℕ)) → List FileInBlocks
+in_blocks pairs = map named_blocks pairs
+
+-- no record of a file goes on in a later block, by the bytes of RS
+abbrev pub IsReady : List ℕ → List FileInBlocks → Type 0
+IsReady rs input = All (λ (f : FileInBlocks). AreMended rs f.blocks) input
 
 -- how many bytes the files hold together
 abbrev pub total_size : List File → ℕ

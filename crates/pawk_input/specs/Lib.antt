@@ -2,6 +2,7 @@ pub mod Limits
 pub use Rattle.pawk_records.specs.Records
 pub use Rattle.pawk_records.specs.Begins
 pub use Rattle.pawk_records.specs.Separator
+pub use Rattle.pawk_blocks.specs.Blocks
 pub mod Input
 pub mod Walk
 pub use Rattle.pawk_fields.specs.Fields

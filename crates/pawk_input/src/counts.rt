@@ -1,11 +1,12 @@
 //! Plans by size out of the counts of records of blocks.
 
-ghost use Rattle.std.specs.Prelude.{◌≡◌, ◌+◌, ◌<◌, ◌≤◌, ◌++◌, length, take, vec_len, OnOk, IfErr, IfOk};
+ghost use Rattle.std.specs.Prelude.{◌≡◌, ◌+◌, ◌^◌, ◌<◌, ◌≤◌, ◌++◌, length, take, vec_len, OnOk, IfErr, IfOk};
 ghost use Rattle.pawk_records.specs.Records.{records_by};
 ghost use Rattle.pawk_records.specs.Begins.{begins_by, begins_within};
 ghost use Rattle.pawk_records.specs.Separator.{rs_of};
 ghost use Rattle.pawk_input.specs.Limits.{most_bytes, most_chunks};
-ghost use Rattle.pawk_input.specs.Input.{file_at};
+ghost use Rattle.pawk_blocks.specs.Blocks.{AreMended, joined};
+ghost use Rattle.pawk_input.specs.Input.{IsReady, file_at, files_of};
 ghost use Rattle.pawk_input.specs.Counts.{block_counts, blocks_of, counts_left};
 ghost use Rattle.pawk_input.specs.Passed.{IsPassed};
 ghost use Rattle.pawk_input.specs.Plan.{RefusesMany, chunks_at, places_by_size};
@@ -13,6 +14,7 @@ ghost use Rattle.pawk_input.specs.Plan.{RefusesMany, chunks_at, places_by_size};
 use crate::cutting::{Chunk, CutRefusal};
 use crate::draft::{Draft, add_chunk, begin_or_end};
 use crate::files::Input;
+use pawk_blocks::Blocks;
 use pawk_records::Separator;
 use std::alloc::{AllocError, Global};
 use std::ops::Range;
@@ -22,13 +24,17 @@ use std::ops::Range;
 /// `rs` holds the byte at which records end, or none for paragraphs.
 pub fn count_block(input: &Input, rs: &[u8], file: usize, range: Range<usize>) -> u64
     requires separator { length rs.now ≤ 1 }
-    requires file { file < length input.now }
+    requires ready { IsReady rs.now input.now }
+    requires file { file < length (files_of input.now) }
     requires rising { range.start ≤ range.end }
-    requires within { range.end ≤ length (file_at input.now file).bytes }
-    ensures { result
-        ≡ length (begins_within rs.now (file_at input.now file).bytes range.start range.end) }
+    requires within { range.end ≤ length (file_at (files_of input.now) file).bytes }
+    ensures { result ≡ length
+        (begins_within rs.now (file_at (files_of input.now) file).bytes range.start range.end) }
 {
-    Separator::of(rs).count_begins(input.bytes(file), range.start, range.end) as u64
+    let separator = Separator::of(rs);
+    input
+        .blocks(file)
+        .count_begins(separator, range.start, range.end) as u64
 }
 
 /// Appends how many records begin in each block of a file.
@@ -40,10 +46,11 @@ fn push_counts(
     block: usize,
 ) -> Result<(), AllocError>
     requires separator { length rs.now ≤ 1 }
-    requires file { file < length input.now }
+    requires ready { IsReady rs.now input.now }
+    requires file { file < length (files_of input.now) }
     requires some { 0 < block }
     ensures { OnOk result (counts.new.items ≡ counts.old.items
-        ++ counts_left rs.now block (file_at input.now file).bytes 0) }
+        ++ counts_left rs.now block (file_at (files_of input.now) file).bytes 0) }
 {
     let size = input.size(file);
     let mut from = 0;
@@ -66,8 +73,10 @@ pub fn count_blocks(
     block: usize,
 ) -> Result<Vec<u64>, AllocError>
     requires separator { length rs.now ≤ 1 }
+    requires ready { IsReady rs.now input.now }
     requires some { 0 < block }
-    ensures { IfOk result (λ counts. counts.items ≡ block_counts rs.now block input.now) }
+    ensures { IfOk result
+        (λ counts. counts.items ≡ block_counts rs.now block (files_of input.now)) }
 {
     let mut counts = Vec::new(alloc);
     for file in 0..input.files() {
@@ -88,16 +97,19 @@ pub(crate) struct Passed<'c> {
 /// How many records of a file begin before a place, and the blocks passed up to it.
 fn records_before<'c>(
     separator: Separator,
-    bytes: &[u8],
+    blocks: &Blocks,
     block: usize,
     passed: Passed<'c>,
     place: usize,
 ) -> (u64, Passed<'c>)
     requires some { 0 < block }
-    requires within { place ≤ length bytes.now }
-    requires passed { IsPassed (rs_of separator) block bytes.now passed place }
-    ensures count { result.0 ≡ length (records_by (rs_of separator) (take place bytes.now)) }
-    ensures passed { IsPassed (rs_of separator) block bytes.now result.1 place }
+    requires mended { AreMended (rs_of separator) blocks.now }
+    requires limited { length (joined blocks.now) < 2 ^ 64 }
+    requires within { place ≤ length (joined blocks.now) }
+    requires passed { IsPassed (rs_of separator) block (joined blocks.now) passed place }
+    ensures count { result.0
+        ≡ length (records_by (rs_of separator) (take place (joined blocks.now))) }
+    ensures passed { IsPassed (rs_of separator) block (joined blocks.now) result.1 place }
 {
     let mut passed = passed;
     while place - passed.edge >= block {
@@ -110,7 +122,7 @@ fn records_before<'c>(
             left: later,
         };
     }
-    let more = separator.count_begins(bytes, passed.edge, place) as u64;
+    let more = blocks.count_begins(separator, passed.edge, place) as u64;
     (passed.count + more, passed)
 }
 
@@ -133,7 +145,7 @@ impl Draft {
     pub(crate) fn add_by_counts(
         &mut self,
         file: usize,
-        bytes: &[u8],
+        blocks: &Blocks,
         rs: &[u8],
         size: u64,
         block: usize,
@@ -142,20 +154,21 @@ impl Draft {
         requires one_byte { length rs.now ≤ 1 }
         requires sized { 0 < size }
         requires some { 0 < block }
-        requires counts { counts.now ≡ counts_left rs.now block bytes.now 0 }
-        requires room { self.old.nr + length bytes.now ≤ most_bytes }
+        requires mended { AreMended rs.now blocks.now }
+        requires counts { counts.now ≡ counts_left rs.now block (joined blocks.now) 0 }
+        requires room { self.old.nr + length (joined blocks.now) ≤ most_bytes }
         requires few { vec_len self.old.chunks ≤ most_chunks }
         ensures chunks { OnOk result (self.new.chunks.items
             ≡ self.old.chunks.items
-            ++ chunks_at rs.now file bytes.now self.old.nr
-            (places_by_size size (begins_by rs.now bytes.now))) }
+            ++ chunks_at rs.now file (joined blocks.now) self.old.nr
+            (places_by_size size (begins_by rs.now (joined blocks.now)))) }
         ensures counted { OnOk result
-            (self.new.nr ≡ self.old.nr + length (records_by rs.now bytes.now)) }
+            (self.new.nr ≡ self.old.nr + length (records_by rs.now (joined blocks.now))) }
         ensures few { OnOk result (vec_len self.new.chunks ≤ most_chunks) }
         ensures refused { IfErr result (RefusesMany
             (vec_len self.old.chunks
-            + length (chunks_at rs.now file bytes.now self.old.nr
-            (places_by_size size (begins_by rs.now bytes.now))))
+            + length (chunks_at rs.now file (joined blocks.now) self.old.nr
+            (places_by_size size (begins_by rs.now (joined blocks.now)))))
             most_chunks) }
     {
         let separator = Separator::of(rs);
@@ -164,10 +177,11 @@ impl Draft {
             count: 0,
             left: counts,
         };
-        let mut start = begin_or_end(separator, bytes, 0);
-        while start < bytes.len() {
-            let end = begin_or_end(separator, bytes, start.saturating_add(size as usize));
-            let (fnr, later) = records_before(separator, bytes, block, passed, start);
+        let whole = blocks.size();
+        let mut start = begin_or_end(separator, blocks, 0);
+        while start < whole {
+            let end = begin_or_end(separator, blocks, start.saturating_add(size as usize));
+            let (fnr, later) = records_before(separator, blocks, block, passed, start);
             let chunk = Chunk {
                 file,
                 range: start..end,
@@ -178,7 +192,7 @@ impl Draft {
             passed = later;
             start = end;
         }
-        let (count, _) = records_before(separator, bytes, block, passed, bytes.len());
+        let (count, _) = records_before(separator, blocks, block, passed, whole);
         self.nr += count;
         Ok(())
     }

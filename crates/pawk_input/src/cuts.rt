@@ -2,6 +2,7 @@
 
 ghost use Rattle.std.specs.Prelude.{◌≡◌, ℕ, ◌==◌, ◌<◌, ◌≤◌, None, Some, length, MatchResult};
 ghost use Rattle.std.specs.List.{prefix_len};
+ghost use Rattle.pawk_input.specs.Input.{IsReady, files_of};
 ghost use Rattle.pawk_input.specs.Plan.{cut_fault};
 ghost use Rattle.pawk_input.specs.Plan as spec;
 
@@ -12,19 +13,21 @@ use pawk_records::Separator;
 
 /// Whether a record after its file's first begins at the cut.
 fn begins_record(input: &Input, rs: &[u8], cut: (usize, usize)) -> bool
-    requires { length rs.now ≤ 1 }
-    ensures { result ≡ spec.begins_record rs.now input.now cut }
+    requires one_byte { length rs.now ≤ 1 }
+    requires ready { IsReady rs.now input.now }
+    ensures { result ≡ spec.begins_record rs.now (files_of input.now) cut }
 {
     if cut.0 >= input.files() {
         return false;
     }
-    let bytes = input.bytes(cut.0);
+    let blocks = input.blocks(cut.0);
     let separator = Separator::of(rs);
-    let first = begin_or_end(separator, bytes, 0);
-    if cut.1 <= first || cut.1 >= bytes.len() {
+    let whole = input.size(cut.0);
+    let first = begin_or_end(separator, blocks, 0);
+    if cut.1 <= first || cut.1 >= whole {
         return false;
     }
-    separator.begins_at(bytes, cut.1)
+    blocks.begins_at(separator, cut.1)
 }
 
 /// Whether a cut comes after the cut before it, if there is one.
@@ -43,10 +46,11 @@ pub(crate) fn check_cuts(
     rs: &[u8],
     cuts: &[(usize, usize)],
 ) -> Result<(), CutRefusal>
-    requires { length rs.now ≤ 1 }
+    requires one_byte { length rs.now ≤ 1 }
+    requires ready { IsReady rs.now input.now }
     ensures { MatchResult result
-        (λ _. cut_fault rs.now input.now cuts.now ≡ None)
-        (λ fault. cut_fault rs.now input.now cuts.now ≡ Some fault) }
+        (λ _. cut_fault rs.now (files_of input.now) cuts.now ≡ None)
+        (λ fault. cut_fault rs.now (files_of input.now) cuts.now ≡ Some fault) }
 {
     let mut before = None;
     for cut in cuts {

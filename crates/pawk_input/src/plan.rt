@@ -3,6 +3,7 @@
 ghost use Rattle.std.specs.Prelude.{◌≡◌, ℕ, ◌<◌, ◌≤◌, None, length, slice_get};
 ghost use Rattle.std.specs.Prelude.{IfOk, IfErr, IfSome};
 ghost use Rattle.pawk_input.specs.Limits.{most_chunks};
+ghost use Rattle.pawk_input.specs.Input.{IsReady, files_of};
 ghost use Rattle.pawk_input.specs.Walk.{items_left};
 ghost use Rattle.pawk_input.specs.Counts.{block_counts};
 ghost use Rattle.pawk_input.specs.Plan.{IsPlanOf, RefusesCuts, RefusesMany, chunk_items};
@@ -43,16 +44,18 @@ impl Plan {
     /// refused.
     pub fn by_size(alloc: Global, input: &Input, rs: &[u8], bytes: u64) -> Result<Plan, CutRefusal>
         requires one_byte { length rs.now ≤ 1 }
+        requires ready { IsReady rs.now input.now }
         requires some { 0 < bytes }
-        ensures value { IfOk result (λ plan. plan ≡ sized rs.now input.now bytes) }
-        ensures plan { IfOk result (λ plan. IsPlanOf rs.now input.now plan) }
+        ensures value { IfOk result (λ plan. plan ≡ sized rs.now (files_of input.now) bytes) }
+        ensures plan { IfOk result (λ plan. IsPlanOf rs.now (files_of input.now) plan) }
         ensures few { IfOk result (λ plan. length plan ≤ most_chunks) }
         ensures refused { IfErr result
-            (RefusesMany (length (sized rs.now input.now bytes)) most_chunks) }
+            (RefusesMany (length (sized rs.now (files_of input.now) bytes)) most_chunks) }
     {
         let mut draft = Draft::new(alloc);
         for file in 0..input.files() {
-            draft.add_by_size(file, input.bytes(file), rs, bytes)?;
+            let blocks = input.blocks(file);
+            draft.add_by_size(file, blocks, rs, bytes)?;
         }
         Ok(Plan {
             chunks: draft.chunks,
@@ -73,21 +76,22 @@ impl Plan {
         counts: &[u64],
     ) -> Result<Plan, CutRefusal>
         requires one_byte { length rs.now ≤ 1 }
+        requires ready { IsReady rs.now input.now }
         requires some { 0 < bytes }
         requires block { 0 < block }
-        requires counts { counts.now ≡ block_counts rs.now block input.now }
-        ensures value { IfOk result (λ plan. plan ≡ sized rs.now input.now bytes) }
-        ensures plan { IfOk result (λ plan. IsPlanOf rs.now input.now plan) }
+        requires counts { counts.now ≡ block_counts rs.now block (files_of input.now) }
+        ensures value { IfOk result (λ plan. plan ≡ sized rs.now (files_of input.now) bytes) }
+        ensures plan { IfOk result (λ plan. IsPlanOf rs.now (files_of input.now) plan) }
         ensures few { IfOk result (λ plan. length plan ≤ most_chunks) }
         ensures refused { IfErr result
-            (RefusesMany (length (sized rs.now input.now bytes)) most_chunks) }
+            (RefusesMany (length (sized rs.now (files_of input.now) bytes)) most_chunks) }
     {
         let mut draft = Draft::new(alloc);
         let mut left = counts;
         for file in 0..input.files() {
-            let text = input.bytes(file);
-            let (here, later) = left.split_at(block_number(text.len(), block));
-            draft.add_by_counts(file, text, rs, bytes, block, here)?;
+            let blocks = input.blocks(file);
+            let (here, later) = left.split_at(block_number(input.size(file), block));
+            draft.add_by_counts(file, blocks, rs, bytes, block, here)?;
             left = later;
         }
         Ok(Plan {
@@ -110,19 +114,23 @@ impl Plan {
         rs: &[u8],
         cuts: &[(usize, usize)],
     ) -> Result<Plan, CutRefusal>
-        requires { length rs.now ≤ 1 }
-        ensures accepted { IfOk result (λ _. cut_fault rs.now input.now cuts.now ≡ None) }
-        ensures value { IfOk result (λ plan. plan ≡ cut_at rs.now input.now cuts.now) }
-        ensures plan { IfOk result (λ plan. IsPlanOf rs.now input.now plan) }
+        requires one_byte { length rs.now ≤ 1 }
+        requires ready { IsReady rs.now input.now }
+        ensures accepted { IfOk result
+            (λ _. cut_fault rs.now (files_of input.now) cuts.now ≡ None) }
+        ensures value { IfOk result (λ plan. plan ≡ cut_at rs.now (files_of input.now) cuts.now) }
+        ensures plan { IfOk result (λ plan. IsPlanOf rs.now (files_of input.now) plan) }
         ensures few { IfOk result (λ plan. length plan ≤ most_chunks) }
-        ensures refused { IfErr result (RefusesCuts rs.now input.now cuts.now most_chunks) }
+        ensures refused { IfErr result
+            (RefusesCuts rs.now (files_of input.now) cuts.now most_chunks) }
     {
         check_cuts(input, rs, cuts)?;
         let mut draft = Draft::new(alloc);
         let mut left = cuts;
         for file in 0..input.files() {
             let (here, later) = left.split_at(cuts_in(file, left));
-            draft.add_at_cuts(file, input.bytes(file), rs, here)?;
+            let blocks = input.blocks(file);
+            draft.add_at_cuts(file, blocks, rs, here)?;
             left = later;
         }
         Ok(Plan {
@@ -150,18 +158,19 @@ impl Plan {
     /// Takes no memory and copies nothing. `input` and `rs` are those that the plan was made of.
     pub fn walk<'a>(&self, input: &'a Input, rs: &[u8], i: usize) -> Records<'a>
         requires chunk { i < length self.now }
-        requires plan { IsPlanOf rs.now input.now self.now }
+        requires plan { IsPlanOf rs.now (files_of input.now) self.now }
         requires one_byte { length rs.now ≤ 1 }
+        requires ready { IsReady rs.now input.now }
         ensures { IfSome (slice_get self.now i)
-            (λ c. items_left result ≡ chunk_items rs.now input.now c) }
+            (λ c. items_left result ≡ chunk_items rs.now (files_of input.now) c) }
     {
         let chunk = self.chunk(i);
-        let bytes = input.bytes(chunk.file);
+        let blocks = input.blocks(chunk.file);
         Records::of_part(
             Separator::of(rs),
             chunk.file,
             input.name(chunk.file),
-            &bytes[chunk.range.start..chunk.range.end],
+            blocks.pieces(chunk.range.start, chunk.range.end - chunk.range.start),
             chunk.nr,
             chunk.fnr,
         )

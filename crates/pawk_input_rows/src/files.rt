@@ -1,7 +1,10 @@
 //! Rows about files, their records and blocks.
 
+ghost use Rattle.std.specs.Prelude.{◌≤◌, length};
+ghost use Rattle.pawk_input.specs.Input.{IsReady};
+
 use crate::plans;
-use pawk_input::{Input, Records, count_block, count_blocks};
+use pawk_input::{Blocks, Input, Records, count_block, count_blocks};
 use pawk_rows::{cell, decode, number, push_decimal, push_encoded};
 use std::alloc::{AllocError, Global};
 
@@ -15,19 +18,31 @@ fn first_file(verb: &[u8]) -> usize {
     }
 }
 
-/// The files of a row, from a cell on: names and bytes by turns.
-fn files_of(
-    alloc: Global,
-    row: &[u8],
-    first: usize,
-) -> Result<Vec<(Vec<u8>, Vec<u8>)>, AllocError> {
+/// The separator of a row: the cell before its files, or none where they come first.
+fn separator(alloc: Global, row: &[u8], first: usize) -> Result<Vec<u8>, AllocError> {
+    if first < 2 {
+        return Ok(Vec::new(alloc));
+    }
+    decode(alloc, cell(row, first - 1))
+}
+
+/// The blocks of a file, with a bar between them.
+fn blocks_of(alloc: Global, word: &[u8]) -> Result<Blocks, AllocError> {
+    let mut blocks = Vec::new(alloc);
+    for block in word.split(|byte| *byte == b'|') {
+        blocks.push(decode(alloc, block)?)?;
+    }
+    Blocks::of(alloc, blocks)
+}
+
+/// The files of a row, from a cell on: names and blocks by turns.
+fn files_of(alloc: Global, row: &[u8], first: usize) -> Result<Vec<(Vec<u8>, Blocks)>, AllocError> {
     let mut files = Vec::new(alloc);
     let mut name = None;
     for word in row.split(|byte| *byte == b'\t').skip(first) {
-        let bytes = decode(alloc, word)?;
         match name.take() {
-            None => name = Some(bytes),
-            Some(name) => files.push((name, bytes))?,
+            None => name = Some(decode(alloc, word)?),
+            Some(name) => files.push((name, blocks_of(alloc, word)?))?,
         }
     }
     Ok(files)
@@ -67,10 +82,13 @@ pub fn push_records(records: Records<'_>, out: &mut Vec<u8>) -> Result<(), Alloc
 }
 
 /// Adds how many records begin in a range of the first file.
-fn push_begins(row: &[u8], rs: &[u8], input: &Input, out: &mut Vec<u8>) -> Result<(), AllocError> {
+fn push_begins(row: &[u8], rs: &[u8], input: &Input, out: &mut Vec<u8>) -> Result<(), AllocError>
+    requires one_byte { length rs.now ≤ 1 }
+    requires ready { IsReady rs.now input.now }
+{
     let start = number(cell(row, 1)) as usize;
     let end = number(cell(row, 2)) as usize;
-    if rs.len() > 1 || input.files() == 0 || start > end || end > input.size(0) {
+    if input.files() == 0 || start > end || end > input.size(0) {
         return out.extend_from_slice(b"no such range");
     }
     push_decimal(count_block(input, rs, 0, start..end), out)
@@ -83,8 +101,11 @@ fn push_counts(
     input: &Input,
     block: usize,
     out: &mut Vec<u8>,
-) -> Result<(), AllocError> {
-    if rs.len() > 1 || block == 0 {
+) -> Result<(), AllocError>
+    requires one_byte { length rs.now ≤ 1 }
+    requires ready { IsReady rs.now input.now }
+{
+    if block == 0 {
         return out.extend_from_slice(b"no such block");
     }
     for count in &count_blocks(alloc, input, rs, block)? {
@@ -100,11 +121,14 @@ fn push_on(
     rs: &[u8],
     input: &Input,
     out: &mut Vec<u8>,
-) -> Result<(), AllocError> {
+) -> Result<(), AllocError>
+    requires one_byte { length rs.now ≤ 1 }
+    requires ready { IsReady rs.now input.now }
+{
     let asked = number(cell(row, 1));
     match cell(row, 0) {
         b"files" => push_files(input, out),
-        b"records" if rs.len() <= 1 => push_records(input.records(rs), out),
+        b"records" => push_records(input.records(rs), out),
         b"begins" => push_begins(row, rs, input, out),
         b"counts" => push_counts(alloc, rs, input, asked as usize, out),
         b"cuts" => plans::push_at_cuts(alloc, cell(row, 1), rs, input, out),
@@ -118,9 +142,15 @@ fn push_on(
 /// Adds the answer to a row on files.
 pub fn push_answer(alloc: Global, row: &[u8], out: &mut Vec<u8>) -> Result<(), AllocError> {
     let first = first_file(cell(row, 0));
-    let rs = decode(alloc, cell(row, first.saturating_sub(1)))?;
-    match Input::new(files_of(alloc, row, first)?) {
-        Ok(input) => push_on(alloc, row, rs.as_slice(), &input, out),
-        Err(_) => out.extend_from_slice(b"too large"),
+    let rs = separator(alloc, row, first)?;
+    if rs.len() > 1 {
+        return out.extend_from_slice(b"no such separator");
     }
+    let mut input = match Input::new(files_of(alloc, row, first)?) {
+        Ok(input) => input,
+        Err(_) => return out.extend_from_slice(b"too large"),
+    };
+    let rs = rs.as_slice();
+    input.mend(rs)?;
+    push_on(alloc, row, rs, &input, out)
 }

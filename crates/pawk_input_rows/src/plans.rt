@@ -1,7 +1,10 @@
 //! Rows about plans.
 
+ghost use Rattle.std.specs.Prelude.{◌≤◌, length};
+ghost use Rattle.pawk_input.specs.Input.{IsReady};
+
 use crate::files::{push_numbers, push_records};
-use pawk_input::{CutRefusal, Input, Plan, TooLarge, count_blocks};
+use pawk_input::{Blocks, CutRefusal, Input, Plan, TooLarge, count_blocks};
 use pawk_rows::{cell, number, piece, push_decimal};
 use std::alloc::{AllocError, Global};
 
@@ -41,8 +44,11 @@ pub fn push_by_size(
     input: &Input,
     size: u64,
     out: &mut Vec<u8>,
-) -> Result<(), AllocError> {
-    if size == 0 || rs.len() > 1 {
+) -> Result<(), AllocError>
+    requires one_byte { length rs.now ≤ 1 }
+    requires ready { IsReady rs.now input.now }
+{
+    if size == 0 {
         return out.extend_from_slice(b"no such plan");
     }
     push_plan(alloc, Plan::by_size(alloc, input, rs, size), out)
@@ -55,8 +61,11 @@ pub fn push_chunked(
     input: &Input,
     size: u64,
     out: &mut Vec<u8>,
-) -> Result<(), AllocError> {
-    if size == 0 || rs.len() > 1 {
+) -> Result<(), AllocError>
+    requires one_byte { length rs.now ≤ 1 }
+    requires ready { IsReady rs.now input.now }
+{
+    if size == 0 {
         return out.extend_from_slice(b"no such plan");
     }
     let plan = match Plan::by_size(alloc, input, rs, size) {
@@ -76,10 +85,13 @@ pub fn push_counted(
     rs: &[u8],
     input: &Input,
     out: &mut Vec<u8>,
-) -> Result<(), AllocError> {
+) -> Result<(), AllocError>
+    requires one_byte { length rs.now ≤ 1 }
+    requires ready { IsReady rs.now input.now }
+{
     let block = number(cell(row, 1)) as usize;
     let size = number(cell(row, 2));
-    if block == 0 || size == 0 || rs.len() > 1 {
+    if block == 0 || size == 0 {
         return out.extend_from_slice(b"no such plan");
     }
     let counts = count_blocks(alloc, input, rs, block)?;
@@ -107,10 +119,10 @@ pub fn push_at_cuts(
     rs: &[u8],
     input: &Input,
     out: &mut Vec<u8>,
-) -> Result<(), AllocError> {
-    if rs.len() > 1 {
-        return out.extend_from_slice(b"no such separator");
-    }
+) -> Result<(), AllocError>
+    requires one_byte { length rs.now ≤ 1 }
+    requires ready { IsReady rs.now input.now }
+{
     let cuts = places(alloc, cuts)?;
     push_plan(alloc, Plan::at(alloc, input, rs, cuts.as_slice()), out)
 }
@@ -118,19 +130,22 @@ pub fn push_at_cuts(
 /// An input of one file without a name, of this many empty records.
 fn empty_records(alloc: Global, count: usize) -> Result<Option<Input>, AllocError> {
     let mut files = Vec::new(alloc);
-    files.push((Vec::new(alloc), vec![in alloc; b'\n'; count]?))?;
+    let blocks = Blocks::whole(alloc, vec![in alloc; b'\n'; count]?)?;
+    files.push((Vec::new(alloc), blocks))?;
     Ok(Input::new(files).ok())
 }
 
 /// Adds how many chunks of a size a file of many empty records has.
 pub fn push_many(alloc: Global, row: &[u8], out: &mut Vec<u8>) -> Result<(), AllocError> {
     let size = number(cell(row, 2));
-    match empty_records(alloc, number(cell(row, 1)) as usize)? {
-        Some(input) if size > 0 => match Plan::by_size(alloc, &input, b"\n", size) {
-            Ok(plan) => push_decimal(plan.len() as u64, out),
-            Err(refusal) => push_refusal(alloc, refusal, out),
-        },
-        _ => out.extend_from_slice(b"no such plan"),
+    let mut input = match empty_records(alloc, number(cell(row, 1)) as usize)? {
+        Some(input) if size > 0 => input,
+        _ => return out.extend_from_slice(b"no such plan"),
+    };
+    input.mend(b"\n")?;
+    match Plan::by_size(alloc, &input, b"\n", size) {
+        Ok(plan) => push_decimal(plan.len() as u64, out),
+        Err(refusal) => push_refusal(alloc, refusal, out),
     }
 }
 

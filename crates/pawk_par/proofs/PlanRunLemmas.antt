@@ -6,7 +6,7 @@ use Rattle.std.proofs.lemmas.Bool.Decides.{nat_tests}
 use Rattle.std.proofs.lemmas.List.{get_or-map, length-map}
 use Rattle.std.proofs.lemmas.List.FromFn.{length-range_with_len, get_or-range_with_len}
 use Rattle.pawk_value.specs.Value.{Uninit}
-use Rattle.pawk_input.specs.Input.{File, Item}
+use Rattle.pawk_input.specs.Input.{File, Item, files_of}
 use Rattle.pawk_input.specs.Plan.{chunk_items}
 use Rattle.pawk_input.specs.declared.cutting.Chunk.{Chunk}
 use Rattle.pawk_sequence.specs.Outcome.{newline}
@@ -80,9 +80,9 @@ key_at n rs e i d h =
 -- results of the first chunks in order, up to the one that did not run through
 pub Ran-numbered : (t : Task) (stop : ℕ) (rs : List Numbered) → numbers rs ≡ range_with_len 0 (limit_of stop (length t.plan.now))
     → All (IsResultOf t) rs → All (λ (r : Numbered). stops r.1.ending ≡ true → r.0 ≡ stop) rs → (stop < length t.plan.now → StopsAt stop rs)
-    → Ran t.program.now.field (map (chunk_items newline t.input.now) t.plan.now) (views rs)
+    → Ran t.program.now.field (map (chunk_items newline (files_of t.input.now)) t.plan.now) (views rs)
 Ran-numbered t stop rs order run only last =
-    let files : List File = t.input.now in
+    let files : List File = files_of t.input.now in
     let plan : List Chunk = t.plan.now in
     let n = limit_of stop (length plan) in
     let long : length rs ≡ n = sym (length-map rs (λ (r : Numbered). r.0)) ∙ (ap length order ∙ length-range_with_len 0 n) in
@@ -94,9 +94,9 @@ Ran-numbered t stop rs order run only last =
     let where_ : at.1.0 ≡ stop = sym (key at.1.0 at.0 at.1.1) ∙ (ap (λ (r : Numbered). r.0) at.1.2 ∙ at.3) in
     (at.0, subst (λ (i : ℕ). stops (get_or rs i at.0).1.ending ≡ true) where_ (ap (λ (r : Numbered). stops r.1.ending) at.1.2 ∙ at.2)))
   where
-    one : (i : ℕ) (r : Numbered) → r.0 ≡ i → IsResultOf t r → RanChunk t.program.now.field (chunk_items newline t.input.now (get_or t.plan.now i no_chunk)) (result_view r.1)
+    one : (i : ℕ) (r : Numbered) → r.0 ≡ i → IsResultOf t r → RanChunk t.program.now.field (chunk_items newline (files_of t.input.now) (get_or t.plan.now i no_chunk)) (result_view r.1)
     one i r e m =
-        let P : Chunk → Type 0 = λ c. RanChunk t.program.now.field (chunk_items newline t.input.now c) (result_view r.1) in
+        let P : Chunk → Type 0 = λ c. RanChunk t.program.now.field (chunk_items newline (files_of t.input.now) c) (result_view r.1) in
         subst (λ (j : ℕ). P (get_or t.plan.now j no_chunk)) e (at_index P t.plan.now r.0 no_chunk m.0 m.1)
 
 -- lists that are made one from each item, end to end

@@ -3,6 +3,7 @@
 ghost use Rattle.std.specs.Prelude.{◌≡◌, ◌≢◌, ◌≤◌, ◌++◌, nat_lt, length, map, filter, All, IfOk, IfErr, IsOk};
 ghost use Rattle.std.specs.List.{flat_map};
 ghost use Rattle.pawk_board.specs.Limits.{most_chunks};
+ghost use Rattle.pawk_input.specs.Input.{IsReady, files_of};
 ghost use Rattle.pawk_input.specs.Plan.{IsPlanOf, chunk_items};
 ghost use Rattle.pawk_merge.specs.Results.{views};
 ghost use Rattle.pawk_sequence.specs.Chunks.{Ran};
@@ -13,7 +14,7 @@ ghost use Rattle.pawk_worker.specs.Task.{IsCrew};
 use crate::job::Job;
 use crate::report::Refusal;
 use pawk_board::{Board, BoardSeat};
-use pawk_input::Plan;
+use pawk_input::{Input, Plan};
 use pawk_merge::ChunkResult;
 use pawk_worker::{Gate, Shift, Task, all_work};
 use std::alloc::{AllocError, Global};
@@ -77,23 +78,25 @@ pub(crate) fn run_chunks<G: Gate + Sync, R: Threads + Wait>(
     rt: &R,
     alloc: Global,
     job: Job<'_>,
+    input: &Input,
     plan: &Plan,
     workers: usize,
     gate: &G,
 ) -> Result<Vec<(u64, ChunkResult)>, Refusal>
-    requires plan { IsPlanOf newline job.input.now plan.now }
+    requires ready { IsReady newline input.now }
+    requires plan { IsPlanOf newline (files_of input.now) plan.now }
     requires few { length plan.now ≤ most_chunks }
     requires workers { IsCrew workers }
     ensures refused { IfErr result (λ e. e ≢ Refusal.Cutting) }
     ensures ran { IfOk result (λ rs. Ran job.entry.program.now.field
-        (map (chunk_items newline job.entry.input.now) plan.now) (views rs.items)) }
+        (map (chunk_items newline (files_of input.entry.now)) plan.now) (views rs.items)) }
 {
     let chunks = plan.len() as u64;
     let crew = workers.min(plan.len()).max(1);
     let (board, seats) = Board::new(alloc, chunks, crew)?;
     let task = Task {
         program: job.program,
-        input: job.input,
+        input,
         plan,
         board: &board,
     };

@@ -2,6 +2,7 @@
 
 ghost use Rattle.std.specs.Prelude.{◌≡◌, ◌≢◌, ◌≤◌, length, None, Err, IfOk, IfErr, IsSome, MatchOption};
 ghost use Rattle.pawk_board.specs.Limits.{most_chunks};
+ghost use Rattle.pawk_input.specs.Input.{IsReady, files_of};
 ghost use Rattle.pawk_input.specs.Plan.{IsPlanOf};
 ghost use Rattle.pawk_merge.specs.Results.{view_of};
 ghost use Rattle.pawk_sequence.specs.Chunks.{state_over};
@@ -24,11 +25,12 @@ use std::thread::Threads;
 
 /// The plan of a cutting.
 fn plan_of(alloc: Global, input: &Input, cutting: &Cutting) -> Result<Plan, CutRefusal>
-    requires { IsSized cutting.now }
-    ensures plan { IfOk result (λ p. IsPlanOf newline input.now p) }
+    requires sized { IsSized cutting.now }
+    requires ready { IsReady newline input.now }
+    ensures plan { IfOk result (λ p. IsPlanOf newline (files_of input.now) p) }
     ensures few { IfOk result (λ p. length p ≤ most_chunks) }
-    ensures accepted { IfOk result (λ _. ¬ IsRefused input.now cutting.now) }
-    ensures refused { IfErr result (PlanRefused input.now cutting.now) }
+    ensures accepted { IfOk result (λ _. ¬ IsRefused (files_of input.now) cutting.now) }
+    ensures refused { IfErr result (PlanRefused (files_of input.now) cutting.now) }
 {
     match cutting {
         Cutting::Size(bytes) => Plan::by_size(alloc, input, NEWLINE, *bytes),
@@ -41,25 +43,68 @@ fn run_plan<G: Gate + Sync, R: Threads + Wait>(
     rt: &R,
     alloc: Global,
     job: Job<'_>,
+    input: &Input,
     plan: &Plan,
     workers: usize,
     gate: &G,
 ) -> Result<Option<Store>, Refusal>
-    requires plan { IsPlanOf newline job.input.now plan.now }
+    requires ready { IsReady newline input.now }
+    requires plan { IsPlanOf newline (files_of input.now) plan.now }
     requires few { length plan.now ≤ most_chunks }
     requires workers { IsCrew workers }
     ensures refused { IfErr result (λ e. e ≢ Refusal.Cutting) }
     ensures ends { IfOk result (λ o. MatchOption o
-        (IsSome (phase_over job.entry.program.now job.entry.input.now).fault)
-        (λ store. phase_over job.entry.program.now job.entry.input.now
-        ≡ record { state = state_over job.entry.input.now (view_of store); fault = None })) }
+        (IsSome (phase_over job.entry.program.now (files_of input.entry.now)).fault)
+        (λ store. phase_over job.entry.program.now (files_of input.entry.now)
+        ≡ record { state = state_over (files_of input.entry.now) (view_of store); fault = None })) }
 {
-    let results = run_chunks(rt, alloc, job, plan, workers, gate)?;
+    let results = run_chunks(rt, alloc, job, input, plan, workers, gate)?;
     match merge(alloc, &Store::new(), results) {
         Ok(whole) => Ok(Some(whole.store)),
         Err(MergeStop::Memory) => Err(Refusal::Memory),
         Err(MergeStop::Cell) => Ok(None),
         Err(MergeStop::Fault) => Ok(None),
+    }
+}
+
+/// Runs a program over an input that is ready for newlines, as `run` tells.
+fn run_ready<G: Gate + Sync, R: Threads + Wait>(
+    rt: &R,
+    alloc: Global,
+    job: Job<'_>,
+    input: &Input,
+    cutting: &Cutting,
+    workers: usize,
+    gate: &G,
+) -> Result<(Outcome, Report), Refusal>
+    requires ready { IsReady newline input.now }
+    requires sized { IsSized cutting.now }
+    requires workers { IsCrew workers }
+    ensures outcome { IfOk result (λ r.
+        shown_outcome r.0 ≡ meaning job.entry.program.now (files_of input.entry.now)) }
+    ensures route { IfOk result (λ r.
+        r.1.route ≡ route_over job.entry.program.now (files_of input.entry.now)) }
+    ensures accepted { IfOk result (λ _. ¬ IsRefused (files_of input.entry.now) cutting.now) }
+    ensures refused { result ≡ Err Refusal.Cutting
+        → IsRefused (files_of input.entry.now) cutting.now }
+{
+    let plan = match plan_of(alloc, input, cutting) {
+        Ok(plan) => plan,
+        Err(CutRefusal::Memory) => return Err(Refusal::Memory),
+        Err(_) => return Err(Refusal::Cutting),
+    };
+    match run_plan(rt, alloc, job, input, &plan, workers, gate)? {
+        Some(store) => {
+            let outcome = finish(alloc, job.program, input, store, None)?;
+            let route = Route::Parallel;
+            Ok((outcome, Report { route }))
+        }
+        None => {
+            let RecordPhase { store, fault } = run_sequence(job.program, input);
+            let outcome = finish(alloc, job.program, input, store, fault)?;
+            let route = Route::Redo;
+            Ok((outcome, Report { route }))
+        }
     }
 }
 
@@ -71,12 +116,15 @@ fn run_plan<G: Gate + Sync, R: Threads + Wait>(
 /// The route is `Redo` exactly where a record of the sequential record phase ends in a fault; the input is then run again,
 /// one record after the other, on this thread.
 ///
+/// The input's blocks are mended for newlines first; its names and bytes stay as they are.
+///
 /// `Cutting` comes only where the cutting has no plan, and where it has none nothing is run; `Thread` comes where a worker
 /// could not be started, `Memory` where memory was refused.
 pub fn run<G: Gate + Sync, R: Threads + Wait>(
     rt: &R,
     alloc: Global,
     job: Job<'_>,
+    input: &mut Input,
     cutting: &Cutting,
     workers: usize,
     gate: &G,
@@ -84,28 +132,13 @@ pub fn run<G: Gate + Sync, R: Threads + Wait>(
     requires sized { IsSized cutting.now }
     requires workers { IsCrew workers }
     ensures outcome { IfOk result (λ r.
-        shown_outcome r.0 ≡ meaning job.entry.program.now job.entry.input.now) }
+        shown_outcome r.0 ≡ meaning job.entry.program.now (files_of input.old)) }
     ensures route { IfOk result (λ r.
-        r.1.route ≡ route_over job.entry.program.now job.entry.input.now) }
-    ensures accepted { IfOk result (λ _. ¬ IsRefused job.entry.input.now cutting.now) }
-    ensures refused { result ≡ Err Refusal.Cutting → IsRefused job.entry.input.now cutting.now }
+        r.1.route ≡ route_over job.entry.program.now (files_of input.old)) }
+    ensures accepted { IfOk result (λ _. ¬ IsRefused (files_of input.old) cutting.now) }
+    ensures refused { result ≡ Err Refusal.Cutting → IsRefused (files_of input.old) cutting.now }
+    ensures same { files_of input.new ≡ files_of input.old }
 {
-    let plan = match plan_of(alloc, job.input, cutting) {
-        Ok(plan) => plan,
-        Err(CutRefusal::Memory) => return Err(Refusal::Memory),
-        Err(_) => return Err(Refusal::Cutting),
-    };
-    match run_plan(rt, alloc, job, &plan, workers, gate)? {
-        Some(store) => {
-            let outcome = finish(alloc, job.program, job.input, store, None)?;
-            let route = Route::Parallel;
-            Ok((outcome, Report { route }))
-        }
-        None => {
-            let RecordPhase { store, fault } = run_sequence(job.program, job.input);
-            let outcome = finish(alloc, job.program, job.input, store, fault)?;
-            let route = Route::Redo;
-            Ok((outcome, Report { route }))
-        }
-    }
+    input.mend(NEWLINE)?;
+    run_ready(rt, alloc, job, input, cutting, workers, gate)
 }

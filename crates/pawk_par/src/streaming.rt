@@ -1,6 +1,7 @@
 //! A run from a source to a sink.
 
 ghost use Rattle.std.specs.Prelude.{◌≡◌, [], Some, IfOk, IfErr, IfSome};
+ghost use Rattle.pawk_input.specs.Input.{files_of};
 ghost use Rattle.pawk_sequence.specs.Outcome.{meaning, shown_outcome};
 ghost use Rattle.pawk_shape.specs.Limits.{IsBudget};
 ghost use Rattle.pawk_shape.specs.Program.{Spells};
@@ -14,7 +15,7 @@ use crate::job::Job;
 use crate::report::{Refusal, Report};
 use crate::running::run;
 use pawk_device::{ReadStop, Sink, Source, read_all, write_all};
-use pawk_input::{Input, TooLarge};
+use pawk_input::{Blocks, Input, TooLarge};
 use pawk_sequence::Ending;
 use pawk_shape::{Assignment, Program, Settings, SettingsRefusal, SyntaxRefusal, parse};
 use pawk_worker::Gate;
@@ -81,11 +82,15 @@ fn prepare(alloc: Global, request: &Request<'_>) -> Result<(Program, Settings), 
 
 /// One file without a name.
 fn nameless(alloc: Global, bytes: Vec<u8>) -> Result<Input, StreamRefusal>
-    ensures input { IfOk result (λ input. input ≡ standard_input bytes.items) }
+    ensures input { IfOk result (λ input. files_of input ≡ standard_input bytes.items) }
     ensures refused { IfErr result (WhyUnread (Some bytes.items) 0 0) }
 {
     let mut files = Vec::new(alloc);
-    if files.push((Vec::new(alloc), bytes)).is_err() {
+    let blocks = match Blocks::whole(alloc, bytes) {
+        Ok(blocks) => blocks,
+        Err(_) => return Err(StreamRefusal::Memory),
+    };
+    if files.push((Vec::new(alloc), blocks)).is_err() {
         return Err(StreamRefusal::Memory);
     }
     match Input::new(files) {
@@ -97,7 +102,7 @@ fn nameless(alloc: Global, bytes: Vec<u8>) -> Result<Input, StreamRefusal>
 /// A source's bytes as the one file of an input.
 fn read_input<S: Source>(alloc: Global, source: &mut S) -> Result<Input, StreamRefusal>
     ensures input { IfOk result (λ input.
-        IfSome (S.left source.old) (λ bytes. input ≡ standard_input bytes)) }
+        IfSome (S.left source.old) (λ bytes. files_of input ≡ standard_input bytes)) }
     ensures refused { IfErr result
         (WhyUnread (S.left source.old) (S.failures source.old) (S.failures source.new)) }
 {
@@ -140,16 +145,24 @@ pub fn run_streams<S: Source, K: Sink, G: Gate + Sync, R: Threads + Wait>(
         Ok(prepared) => prepared,
         Err(refusal) => return Err(refusal),
     };
-    let input = match read_input(alloc, source) {
+    let mut input = match read_input(alloc, source) {
         Ok(input) => input,
         Err(refusal) => return Err(refusal),
     };
     let job = Job {
         program: &program,
         settings: &settings,
-        input: &input,
     };
-    let (outcome, report) = match run(rt, alloc, job, request.cutting, request.workers, gate) {
+    let ran = run(
+        rt,
+        alloc,
+        job,
+        &mut input,
+        request.cutting,
+        request.workers,
+        gate,
+    );
+    let (outcome, report) = match ran {
         Ok(answer) => answer,
         Err(Refusal::Memory) => return Err(StreamRefusal::Memory),
         Err(Refusal::Thread) => return Err(StreamRefusal::Thread),

@@ -3,7 +3,7 @@
 ghost use Rattle.std.specs.Prelude.{◌≡◌, ◌+ℤ◌, ℤ, List, [], ◌∷◌, ◌++◌, ◌<◌, length, None, IfOk, IfNone, IfSome, slice_get};
 ghost use Rattle.std.specs.List.{last_or};
 ghost use Rattle.std.specs.Option.{option_map};
-ghost use Rattle.pawk_input.specs.Input.{item_of};
+ghost use Rattle.pawk_input.specs.Input.{IsReady, files_of, item_of};
 ghost use Rattle.pawk_input.specs.Plan.{IsPlanOf, chunk_items};
 ghost use Rattle.pawk_input.specs.Walk.{items_left};
 ghost use Rattle.pawk_merge.specs.Small.{IsSmall};
@@ -104,10 +104,11 @@ pub fn run_chunk(
     plan: &Plan,
     chunk: usize,
 ) -> Result<ChunkResult, AllocError>
-    requires plan { IsPlanOf newline input.now plan.now }
+    requires ready { IsReady newline input.now }
+    requires plan { IsPlanOf newline (files_of input.now) plan.now }
     requires chunk { chunk < length plan.now }
     ensures { IfOk result (λ r. IfSome (slice_get plan.now chunk) (λ c.
-        RanChunk program.now.field (chunk_items newline input.now c) (result_view r))) }
+        RanChunk program.now.field (chunk_items newline (files_of input.now) c) (result_view r))) }
 {
     let added = add_up(program.field(), plan.walk(input, NEWLINE, chunk));
     let state = match added.last {

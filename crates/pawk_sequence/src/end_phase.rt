@@ -3,7 +3,7 @@
 ghost use Rattle.std.specs.Prelude.{◌≡◌, ◌<◌, ◌≤◌, ◌^◌, pos, List, [], ◌∷◌, ◌++◌, length, map, take, drop, OnOk, IfOk};
 ghost use Rattle.std.specs.Option.{option_map};
 ghost use Rattle.pawk_value.specs.Value.{Val, Num, Text, shown};
-ghost use Rattle.pawk_input.specs.Input.{File};
+ghost use Rattle.pawk_input.specs.Input.{File, files_of};
 ghost use Rattle.pawk_merge.specs.Results.{record_view, view_of};
 ghost use Rattle.pawk_sequence.specs.Chunks.{reading_over, state_over};
 ghost use Rattle.pawk_sequence.specs.Outcome.{comes_first, finished, globals_of, language_variables, printed, put, shown_outcome, variable_of};
@@ -64,7 +64,7 @@ fn push_number(
 /// `FILENAME` before the first record, or after a record of this file.
 fn file_name(alloc: Heap, input: &Input, state: Option<RecordState>) -> Result<Value, AllocError>
     ensures { IfOk result (λ v.
-        shown v ≡ (reading_over input.now (option_map record_view state)).filename) }
+        shown v ≡ (reading_over (files_of input.now) (option_map record_view state)).filename) }
 {
     match state {
         None => Ok(Value::Uninit),
@@ -82,7 +82,7 @@ fn list_language_variables(
     state: Option<RecordState>,
 ) -> Result<Vec<Global>, AllocError>
     ensures { IfOk result (λ v. map variable_of v.items
-        ≡ language_variables (reading_over input.now (option_map record_view state))) }
+        ≡ language_variables (reading_over (files_of input.now) (option_map record_view state))) }
 {
     let (fnr, fields, nr) = match state {
         Some(state) => (state.fnr, state.fields, state.nr),
@@ -135,7 +135,8 @@ fn list_globals(
     store: Store,
 ) -> Result<Vec<Global>, AllocError>
     ensures { IfOk result (λ v.
-        map variable_of v.items ≡ globals_of name.now (state_over input.now (view_of store))) }
+        map variable_of v.items
+        ≡ globals_of name.now (state_over (files_of input.now) (view_of store))) }
 {
     let mut globals = list_language_variables(alloc, input, store.state)?;
     let place = place_for(name, &globals);
@@ -170,7 +171,7 @@ fn outcome_of(
 ) -> Result<Outcome, AllocError>
     ensures { IfOk result (λ o. shown_outcome o ≡ record {
       output = output.items;
-      globals = globals_of program.now.name (state_over input.now (view_of store));
+      globals = globals_of program.now.name (state_over (files_of input.now) (view_of store));
       ending = ending;
     }) }
 {
@@ -204,7 +205,7 @@ pub fn finish(
     fault: Option<Fault>,
 ) -> Result<Outcome, AllocError>
     ensures { IfOk result (λ o. shown_outcome o
-        ≡ finished program.now.name (state_over input.now (view_of store)) fault) }
+        ≡ finished program.now.name (state_over (files_of input.now) (view_of store)) fault) }
 {
     match fault {
         None => {

@@ -3,14 +3,14 @@
 ghost use Rattle.std.specs.Prelude.{◌≡◌, List, Ok, Err, IfSome};
 ghost use Rattle.std.specs.Option.{option_map};
 ghost use Rattle.pawk_value.specs.Value.{Num, Uninit, shown};
-ghost use Rattle.pawk_input.specs.Input.{File, file_at, item_of};
+ghost use Rattle.pawk_input.specs.Input.{File, IsReady, file_at, files_of, item_of};
 ghost use Rattle.pawk_input.specs.Walk.{items_left};
 ghost use Rattle.pawk_merge.specs.Cases.{result_cases};
 ghost use Rattle.pawk_sequence.specs.Meaning.{opening, add_to, record_phase};
 ghost use Rattle.pawk_merge.specs.Results.{record_view};
 ghost use Rattle.pawk_sequence.specs.Chunks.{HasNames, record_of};
 ghost use Rattle.pawk_merge.specs.MergeSteps.{value_or};
-ghost use Rattle.pawk_sequence.specs.Outcome.{phase_over};
+ghost use Rattle.pawk_sequence.specs.Outcome.{newline, phase_over};
 ghost use Rattle.pawk_sequence.specs.Sequence.{phase_of, phase_view};
 
 use crate::chunk_run::{NEWLINE, amount_of};
@@ -98,7 +98,8 @@ fn state_of_last(last: Option<Item<'_>>) -> Option<RecordState>
 
 /// The record phase over all records of the input, one after the other, up to the first fault.
 pub fn run_sequence(program: &Program, input: &Input) -> RecordPhase
-    ensures { phase_view input.now result ≡ phase_over program.now input.now }
+    requires { IsReady newline input.now }
+    ensures { phase_view (files_of input.now) result ≡ phase_over program.now (files_of input.now) }
 {
     let progress = run_records(program.field(), input.records(NEWLINE));
     let value = value_of(progress.value);

@@ -5,7 +5,8 @@ ghost use Rattle.pawk_par.specs.Cutting.{IsSized};
 ghost use Rattle.pawk_par.specs.Task.{IsCrew};
 
 use pawk_par::{
-    Cutting, Ending, Gate, Input, Job, Outcome, Program, Refusal, Route, Settings, parse, run,
+    Blocks, Cutting, Ending, Gate, Input, Job, Outcome, Program, Refusal, Route, Settings, parse,
+    run,
 };
 use std::alloc::Global;
 use std::sync::Wait;
@@ -18,7 +19,8 @@ pub(crate) const SUM: &[u8] = b"{ n += $1 } END { print n }";
 /// An input of one file.
 pub(crate) fn one_file(alloc: Global, bytes: &[u8]) -> Result<Input, Fail> {
     let mut files = Vec::new(alloc);
-    files.push((Vec::new(alloc), Vec::from_slice(alloc, bytes)?))?;
+    let blocks = Blocks::whole(alloc, Vec::from_slice(alloc, bytes)?)?;
+    files.push((Vec::new(alloc), blocks))?;
     Ok(Input::new(files).map_err(|_| "too large")?)
 }
 
@@ -43,16 +45,17 @@ where
     let alloc = rt.alloc();
     let program = sum_program(alloc)?;
     let settings = Settings::new(alloc, &program, &[], 1).map_err(|_| "refused")?;
-    let input = one_file(alloc, bytes)?;
+    let mut input = one_file(alloc, bytes)?;
     let job = Job {
         program: &program,
         settings: &settings,
-        input: &input,
     };
-    Ok(match run(rt, alloc, job, cutting, workers, gate) {
-        Ok((outcome, report)) => Ok((outcome, report.route)),
-        Err(refusal) => Err(refusal),
-    })
+    Ok(
+        match run(rt, alloc, job, &mut input, cutting, workers, gate) {
+            Ok((outcome, report)) => Ok((outcome, report.route)),
+            Err(refusal) => Err(refusal),
+        },
+    )
 }
 
 /// Whether the run gave this output, in this way.

@@ -3,6 +3,7 @@
 ghost use Rattle.std.specs.Prelude.{◌≡◌, ◌≤◌, length, IfOk};
 ghost use Rattle.pawk_board.specs.Limits.{most_chunks};
 ghost use Rattle.pawk_board.specs.Views.{fresh};
+ghost use Rattle.pawk_input.specs.Input.{IsReady, files_of};
 ghost use Rattle.pawk_input.specs.Plan.{IsPlanOf};
 ghost use Rattle.pawk_par.specs.Outcome.{newline};
 ghost use Rattle.pawk_par.specs.Task.{IsTask};
@@ -146,7 +147,8 @@ fn no_more_workers_than_chunks(rt: HostRuntime) -> Result<(), Fail> {
 
 /// A plan with a chunk for each line.
 fn plan_of_lines(alloc: Global, input: &Input) -> Result<Plan, Fail>
-    ensures plan { IfOk result (λ p. IsPlanOf newline input.now p) }
+    requires { IsReady newline input.now }
+    ensures plan { IfOk result (λ p. IsPlanOf newline (files_of input.now) p) }
     ensures few { IfOk result (λ p. length p ≤ most_chunks) }
 {
     match Plan::by_size(alloc, input, b"\n", 1) {
@@ -174,7 +176,8 @@ fn both_work<G: Gate + Sync, R: AllocGlobal + Threads>(
     plan: &Plan,
     gate: &G,
 ) -> Result<(Results, Results), Fail>
-    requires plan { IsPlanOf newline input.now plan.now }
+    requires ready { IsReady newline input.now }
+    requires plan { IsPlanOf newline (files_of input.now) plan.now }
     requires few { length plan.now ≤ most_chunks }
 {
     let alloc = rt.alloc();
@@ -211,7 +214,8 @@ fn only_total(results: &Results) -> Option<(u64, i128)> {
 #[test]
 fn two_threads_work(rt: HostRuntime) -> Result<(), Fail> {
     let program = sum_program(rt.alloc())?;
-    let input = one_file(rt.alloc(), b"5\n7\n")?;
+    let mut input = one_file(rt.alloc(), b"5\n7\n")?;
+    input.mend(b"\n")?;
     let plan = plan_of_lines(rt.alloc(), &input)?;
     let gate = Holding::new(&rt, 0, 1, Until::Entered);
     let (first, second) = both_work(&rt, &program, &input, &plan, &gate)?;

@@ -5,7 +5,7 @@ use Rattle.std.specs.declared.alloc.Global.{Global}
 use Rattle.std.specs.declared.alloc.AllocError.{AllocError}
 use Rattle.pawk_board.specs.History.{blank}
 use Rattle.pawk_board.specs.Views.{BoardView}
-use Rattle.pawk_input.specs.Input.{File}
+use Rattle.pawk_input.specs.Input.{File, files_of}
 use Rattle.pawk_input.specs.declared.cutting.Chunk.{Chunk}
 use Rattle.pawk_shape.specs.Program.{Shape}
 use Rattle.pawk_worker.specs.Worker.{Numbered, HasWorked, IsResultIn}
@@ -20,7 +20,7 @@ WorkedOn board s files plan shift =
 
 -- the same of a task
 abbrev pub Worked : Task → Shift → Type 0
-Worked t shift = WorkedOn t.board.now t.program.now t.input.now t.plan.now shift
+Worked t shift = WorkedOn t.board.now t.program.now (files_of t.input.now) t.plan.now shift
 
 abbrev pub results_in : Result (Vec Numbered Global) AllocError → List Numbered
 results_in (Ok v) = v.items

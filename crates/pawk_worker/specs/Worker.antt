@@ -2,7 +2,7 @@
 use Rattle.std.specs.Prelude.{◌≡◌, ◌⊎◌, ℕ, ◌<◌, ◌≤◌, Bool, true, false, List, [], ◌∷◌, ◌++◌, length, map, filter, All, AllPairs, Contains, slice_get, IfSome, if◌then◌else◌}
 use Rattle.pawk_board.specs.declared.hand.Hand.{Hand}
 use Rattle.pawk_board.specs.History.{tells, sees}
-use Rattle.pawk_input.specs.Input.{File}
+use Rattle.pawk_input.specs.Input.{File, files_of}
 use Rattle.pawk_input.specs.Plan.{chunk_items}
 use Rattle.pawk_input.specs.declared.cutting.Chunk.{Chunk}
 use Rattle.pawk_shape.specs.Program.{Shape}
@@ -34,7 +34,7 @@ IsResultIn s files plan r =
 
 -- the same of a task's chunk
 abbrev pub IsResultOf : Task → Numbered → Type 0
-IsResultOf t r = IsResultIn t.program.now t.input.now t.plan.now r
+IsResultOf t r = IsResultIn t.program.now (files_of t.input.now) t.plan.now r
 
 -- the seat saw a stop below n
 abbrev pub Skips : Hand → ℕ → Hand → Type 0

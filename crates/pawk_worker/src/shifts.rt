@@ -2,6 +2,7 @@
 
 ghost use Rattle.std.specs.Prelude.{◌≡◌, length, All, IfOk, vec_len};
 ghost use Rattle.pawk_board.specs.Views.{fresh};
+ghost use Rattle.pawk_input.specs.Input.{IsReady, files_of};
 ghost use Rattle.pawk_input.specs.Plan.{IsPlanOf};
 ghost use Rattle.pawk_sequence.specs.Outcome.{newline};
 ghost use Rattle.pawk_worker.specs.Shifts.{Worked, WorkedOn};
@@ -61,10 +62,11 @@ fn one_shift<G: Gate>(
     mut seat: BoardSeat,
     gate: &G,
 ) -> Shift
-    requires plan { IsPlanOf newline input.now plan.now }
+    requires ready { IsReady newline input.now }
+    requires plan { IsPlanOf newline (files_of input.now) plan.now }
     requires chunks { board.now.chunks ≡ length plan.now }
     requires seat { seat ≡ fresh board.now.id }
-    ensures { WorkedOn board.now program.now input.now plan.now result }
+    ensures { WorkedOn board.now program.now (files_of input.now) plan.now result }
 {
     let task = Task {
         program,
@@ -141,11 +143,13 @@ pub fn all_work<G: Gate + Sync, R: Threads + Wait>(
         thread::scope_env(),
         rt,
         |scope| -> Result<Vec<Shift>, WorkerRefusal>
-            requires { IsPlanOf newline input.now plan.now
+            requires { IsReady newline input.now
+                × IsPlanOf newline (files_of input.now) plan.now
                 × (board.now.chunks ≡ length plan.now)
                 × All (λ s. s ≡ fresh board.now.id) seats.items }
             ensures worked { IfOk result (λ v. (vec_len v ≡ vec_len seats)
-                × All (WorkedOn board.entry.now program.entry.now input.entry.now plan.entry.now) v.items) }
+                × All (WorkedOn board.entry.now program.entry.now
+                (files_of input.entry.now) plan.entry.now) v.items) }
         {
             let task = Task {
                 program,

@@ -1,6 +1,7 @@
 use Rattle.std.proofs.Common.{◌≡◌, ◌+◌, ◌≤◌, ◌∷◌, length, take, sym, ◌∙◌, arith}
 use Rattle.std.proofs.lemmas.List.{length-take-le}
 use Rattle.pawk_records.specs.Separator.{rs_of}
+use Rattle.pawk_blocks.specs.Blocks.{joined}
 use Rattle.pawk_records.proofs.BeginsLemmas.{length-records_by}
 use Rattle.pawk_input.specs.Counts.{counts_left}
 use Rattle.pawk_input.proofs.CountLemmas.{count_step, later_step, few_counted, count_between}
@@ -9,7 +10,7 @@ use Rattle.pawk_input.proofs.counts.records_before.Goals as goal
 pub overflow_add-passed-in-loop-passed : goal.overflow_add-passed-in-loop-passed
 overflow_add-passed-in-loop-passed c =
     let rs = rs_of c.args.separator in
-    let s = c.args.bytes.now in
+    let s = joined c.args.blocks.now in
     let block = c.args.block in
     let p = c.loop-passed.passed in
     let there : p.edge + block ≤ length s = omega arith in
@@ -21,7 +22,7 @@ overflow_add-passed-in-loop-passed c =
 pub loop-passed-preserved : goal.loop-passed-preserved
 loop-passed-preserved c =
     let rs = rs_of c.args.separator in
-    let s = c.args.bytes.now in
+    let s = joined c.args.blocks.now in
     let block = c.args.block in
     let p = c.loop-passed.passed in
     let there : p.edge + block ≤ length s = omega arith in
@@ -35,7 +36,7 @@ loop-passed-preserved c =
 pub overflow_add-result : goal.overflow_add-result
 overflow_add-result c =
     let rs = rs_of c.args.separator in
-    let s = c.args.bytes.now in
+    let s = joined c.args.blocks.now in
     let p = c.loop-passed.passed in
     let whole = count_between rs c.args.block c.requires.some s p.edge c.args.place p.count c.count_begins-more.result c.loop-passed.invariant.low c.requires.within c.loop-passed.invariant.count c.count_begins-more.ensures in
     omega (arith, whole, length-records_by rs (take c.args.place s), length-take-le c.args.place s c.requires.within)
@@ -43,6 +44,6 @@ overflow_add-result c =
 pub returns-clause-count : goal.returns-clause-count
 returns-clause-count c =
     let rs = rs_of c.args.separator in
-    let s = c.args.bytes.now in
+    let s = joined c.args.blocks.now in
     let p = c.loop-passed.passed in
     count_between rs c.args.block c.requires.some s p.edge c.args.place p.count c.count_begins-more.result c.loop-passed.invariant.low c.requires.within c.loop-passed.invariant.count c.count_begins-more.ensures

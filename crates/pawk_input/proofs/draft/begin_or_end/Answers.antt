@@ -10,7 +10,10 @@ returns-in-Some c = record {
 
 pub returns-in-None : goal.returns-in-None
 returns-in-None c = record {
-  within = omega arith;
-  none = c.in-None.ensures;
-  begins = λ lt. absurd (omega arith);
+  within = omega (arith, c.size.ensures);
+  none = λ k low lt. c.in-None.ensures k low (omega (arith, c.size.ensures));
+  begins = λ lt. absurd (omega (arith, c.size.ensures));
 }
+
+pub next_begin-requires-clause-mended : goal.next_begin-requires-clause-mended
+next_begin-requires-clause-mended c = c.requires.mended

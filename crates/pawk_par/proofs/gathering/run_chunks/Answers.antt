@@ -18,7 +18,7 @@ use Rattle.pawk_par.proofs.gathering.run_chunks.Goals as goal
 pub finish-tally-requires-clause-board : goal.finish-tally-requires-clause-board
 finish-tally-requires-clause-board g c =
     let id = c.in_ok-board.board.id in
-    let t : Task = record { program = c.args.job.program; input = c.args.job.input; plan = c.args.plan; board = record { ref_ptr = (0, 0); now = c.in_ok-board.board } } in
+    let t : Task = record { program = c.args.job.program; input = c.args.input; plan = c.args.plan; board = record { ref_ptr = (0, 0); now = c.in_ok-board.board } } in
     let W = Worked t in
     All-same (λ (s : SeatView). s.board ≡ id) _ _ c.in_ok-seats.ensures.seats
     (All-map (λ (s : SeatView). s.board ≡ id) (λ (s : Shift). s.seat) c.in_ok-shifts.shifts.items (All-weaker W (λ (s : Shift). s.seat.board ≡ id) (λ s w. w.0) c.in_ok-shifts.shifts.items c.in_ok-shifts.ensures.worked))
@@ -31,7 +31,7 @@ returns-clause-ran g c =
     let counter = c.finish-tally.result.counter in
     let shifts = c.in_ok-shifts.shifts.items in
     let plan = c.args.plan.now in
-    let t : Task = record { program = c.args.job.program; input = c.args.job.input; plan = c.args.plan; board = record { ref_ptr = (0, 0); now = board } } in
+    let t : Task = record { program = c.args.job.program; input = c.args.input; plan = c.args.plan; board = record { ref_ptr = (0, 0); now = board } } in
     let D = limit_of stop C in
     let Q = IsResultOf t in
     let S = λ (r : Numbered). stops r.1.ending ≡ true → r.0 ≡ stop in

@@ -1,5 +1,5 @@
 use Rattle.std.proofs.Common.{◌≡◌, None, List, map, subst, sym, ap, ◌∙◌}
-use Rattle.pawk_input.specs.Input.{Item, items}
+use Rattle.pawk_input.specs.Input.{Item, files_of, items}
 use Rattle.pawk_input.specs.Plan.{chunk_items}
 use Rattle.pawk_merge.specs.Merge.{end_to_end, CanMerge, merge_of, whole_of}
 use Rattle.pawk_merge.specs.Results.{StoreView, views, view_of}
@@ -14,7 +14,7 @@ use Rattle.pawk_par.proofs.running.run_plan.Goals as goal
 pub returns-in-Ok-clause-ends : goal.returns-in-Ok-clause-ends
 returns-in-Ok-clause-ends g c =
     let k = c.args.job.program.now.field in
-    let files = c.args.job.input.now in
+    let files = files_of c.args.input.now in
     let iss = map (chunk_items newline files) c.args.plan.now in
     let cs = views c.in_ok-results.results.items in
     let whole : end_to_end iss ≡ items newline files = joined_map (chunk_items newline files) c.args.plan.now ∙ c.requires.plan.whole in
@@ -26,7 +26,7 @@ returns-in-Ok-clause-ends g c =
 
 pub returns-in-Err-Cell-clause-ends : goal.returns-in-Err-Cell-clause-ends
 returns-in-Err-Cell-clause-ends g c =
-    let files = c.args.job.input.now in
+    let files = files_of c.args.input.now in
     let iss = map (chunk_items newline files) c.args.plan.now in
     let whole : end_to_end iss ≡ items newline files = joined_map (chunk_items newline files) c.args.plan.now ∙ c.requires.plan.whole in
     fault_of_merge c.args.job.program.now.field iss (views c.in_ok-results.results.items) (items newline files) (view_of c.new.result) c.in-Err-Cell.field-0
@@ -34,7 +34,7 @@ returns-in-Err-Cell-clause-ends g c =
 
 pub returns-clause-ends : goal.returns-clause-ends
 returns-clause-ends g c =
-    let files = c.args.job.input.now in
+    let files = files_of c.args.input.now in
     let iss = map (chunk_items newline files) c.args.plan.now in
     let whole : end_to_end iss ≡ items newline files = joined_map (chunk_items newline files) c.args.plan.now ∙ c.requires.plan.whole in
     fault_of_merge c.args.job.program.now.field iss (views c.in_ok-results.results.items) (items newline files) (view_of c.new.result) c.in-Err-Fault.field-0

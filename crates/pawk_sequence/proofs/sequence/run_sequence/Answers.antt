@@ -1,6 +1,6 @@
 use Rattle.std.proofs.Common.{◌≡◌, List, sym, ap, subst, ◌∙◌}
 use Rattle.std.specs.Option.{option_map}
-use Rattle.pawk_input.specs.Input.{Item, item_of, items}
+use Rattle.pawk_input.specs.Input.{Item, files_of, item_of, items}
 use Rattle.pawk_sequence.specs.Chunks.{HasNames, reading_over}
 use Rattle.pawk_sequence.specs.Meaning.{Reading, Phase, opening, record_phase}
 use Rattle.pawk_sequence.specs.Outcome.{newline}
@@ -11,7 +11,7 @@ use Rattle.pawk_sequence.proofs.sequence.run_sequence.Goals as goal
 
 pub returns : goal.returns
 returns c =
-    let files = c.args.input.now in
+    let files = files_of c.args.input.now in
     let last = option_map item_of c.run_records-progress.result.last in
     let names : HasNames files c.records.result = subst (HasNames files) (sym c.records.ensures.walk) (items_names newline files) in
     let reading : reading_over files (option_map record_view c.state_of_last-state.result) ≡ reading_after last =

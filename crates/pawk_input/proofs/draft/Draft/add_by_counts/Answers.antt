@@ -1,5 +1,6 @@
 use Rattle.std.proofs.Common.{◌≡◌, ◌+◌, ◌<◌, ◌≤◌, ◌++◌, length, take, vec_len, refl, ap, sym, arith, length-append}
 use Rattle.std.proofs.lemmas.Result.{err_from_is_err_and}
+use Rattle.pawk_blocks.specs.Blocks.{joined}
 use Rattle.pawk_input.specs.Limits.{most_chunks}
 use Rattle.pawk_records.specs.Records.{records_by}
 use Rattle.pawk_records.specs.Begins.{BeginsAt, begins_by}
@@ -11,7 +12,7 @@ use Rattle.pawk_input.proofs.draft.Draft.add_by_counts.Goals as goal
 pub loop-start-init : goal.loop-start-init
 loop-start-init c =
     let rs = c.args.rs.now in
-    let s = c.args.bytes.now in
+    let s = joined c.args.blocks.now in
     let p = c.begin_or_end-start.result in
     let h : IsBeginOrEnd rs s 0 p = rw c.of-separator.ensures at c.begin_or_end-start.ensures in
     record {
@@ -26,7 +27,7 @@ loop-start-init c =
 pub overflow_add-chunk : goal.overflow_add-chunk
 overflow_add-chunk c =
     let rs = c.args.rs.now in
-    let s = c.args.bytes.now in
+    let s = joined c.args.blocks.now in
     let p = c.loop-start.start in
     let count : c.records_before-fnr.result.0 ≡ length (records_by rs (take p s)) = rw c.of-separator.ensures at c.records_before-fnr.ensures.count in
     omega (arith, few_before rs s p c.records_before-fnr.result.0 c.loop-start.invariant.within count, c.loop-start.invariant.nr, c.loop-start.invariant.within)
@@ -35,7 +36,7 @@ pub returns-in_err-add_chunk-clause-refused : goal.returns-in_err-add_chunk-clau
 returns-in_err-add_chunk-clause-refused c =
     let e = err_from_is_err_and c.from_residual.result c.from_residual.ensures.1 in
     let rs = c.args.rs.now in
-    let s = c.args.bytes.now in
+    let s = joined c.args.blocks.now in
     let p = c.loop-start.start in
     let q = c.begin_or_end-end.result in
     let size = c.args.size in
@@ -50,7 +51,7 @@ returns-in_err-add_chunk-clause-refused c =
 pub loop-start-preserved : goal.loop-start-preserved
 loop-start-preserved c =
     let rs = c.args.rs.now in
-    let s = c.args.bytes.now in
+    let s = joined c.args.blocks.now in
     let p = c.loop-start.start in
     let q = c.begin_or_end-end.result in
     let size = c.args.size in
@@ -74,6 +75,6 @@ loop-start-preserved c =
 pub overflow_add-self : goal.overflow_add-self
 overflow_add-self c =
     let rs = c.args.rs.now in
-    let s = c.args.bytes.now in
-    let count : c.records_before-count.result.0 ≡ length (records_by rs (take (length s) s)) = rw c.of-separator.ensures at c.records_before-count.ensures.count in
+    let s = joined c.args.blocks.now in
+    let count : c.records_before-count.result.0 ≡ length (records_by rs (take (length s) s)) = rw (c.of-separator.ensures, c.size-whole.ensures) at c.records_before-count.ensures.count in
     omega (arith, few_before rs s (length s) c.records_before-count.result.0 (omega arith) count, c.loop-start.invariant.nr)

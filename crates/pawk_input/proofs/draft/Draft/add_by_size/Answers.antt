@@ -1,5 +1,6 @@
 use Rattle.std.proofs.Common.{◌≡◌, ◌+◌, ◌-◌, ◌<◌, ◌≤◌, ◌++◌, length, take, drop, vec_len, refl, ap, sym, ◌∙◌, arith, length-append}
 use Rattle.std.proofs.lemmas.Result.{err_from_is_err_and}
+use Rattle.pawk_blocks.specs.Blocks.{joined}
 use Rattle.pawk_input.specs.Limits.{most_chunks}
 use Rattle.pawk_records.specs.Records.{records_by}
 use Rattle.pawk_records.specs.Begins.{BeginsAt, begins_by}
@@ -11,7 +12,7 @@ use Rattle.pawk_input.proofs.draft.Draft.add_by_size.Goals as goal
 pub loop-start-init : goal.loop-start-init
 loop-start-init c =
     let rs = c.args.rs.now in
-    let s = c.args.bytes.now in
+    let s = joined c.args.blocks.now in
     let p = c.begin_or_end-start.result in
     let h : IsBeginOrEnd rs s 0 p = rw c.of-separator.ensures at c.begin_or_end-start.ensures in
     record {
@@ -28,7 +29,7 @@ pub returns-in_err-fnr-clause-refused : goal.returns-in_err-fnr-clause-refused
 returns-in_err-fnr-clause-refused c =
     let e = err_from_is_err_and c.from_residual.result c.from_residual.ensures.1 in
     let rs = c.args.rs.now in
-    let s = c.args.bytes.now in
+    let s = joined c.args.blocks.now in
     let p = c.loop-start.start in
     let q = c.begin_or_end-end.result in
     let size = c.args.size in
@@ -43,7 +44,7 @@ returns-in_err-fnr-clause-refused c =
 pub loop-start-preserved : goal.loop-start-preserved
 loop-start-preserved c =
     let rs = c.args.rs.now in
-    let s = c.args.bytes.now in
+    let s = joined c.args.blocks.now in
     let p = c.loop-start.start in
     let q = c.begin_or_end-end.result in
     let size = c.args.size in
@@ -63,5 +64,5 @@ loop-start-preserved c =
       within = first.within;
       begins = λ lt. (first.begins lt).1;
       few = c.in_ok-fnr.ensures.few;
-      chunks = rw c.in_ok-fnr.ensures.nr (moved c.loop-start.self.chunks.items c.add_part.new.self.chunks.items all _ _ later c.loop-start.invariant.chunks step (rw (ends, before) at c.in_ok-fnr.ensures.added));
+      chunks = rw c.in_ok-fnr.ensures.nr (moved c.loop-start.self.chunks.items c.add_part.new.self.chunks.items all _ _ later c.loop-start.invariant.chunks step (rw before at c.in_ok-fnr.ensures.added));
     }

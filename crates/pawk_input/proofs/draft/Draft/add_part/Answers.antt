@@ -1,10 +1,16 @@
-use Rattle.std.proofs.Common.{arith, rules}
+use Rattle.std.proofs.Common.{◌+◌, ◌-◌, ap, ◌∙◌, arith}
+use Rattle.pawk_records.specs.Begins.{begins_at}
 use Rattle.pawk_records.specs.Separator.{rs_of}
-use Rattle.pawk_records.proofs.BeginsLemmas.{length-records_by}
+use Rattle.pawk_records.proofs.PlaceLemmas.{length-places_where}
+use Rattle.pawk_blocks.specs.Blocks.{joined}
+use Rattle.pawk_input.proofs.SizeLemmas.{part_begins}
 use Rattle.pawk_input.proofs.draft.Draft.add_part.Goals as goal
 
 pub overflow_add-result : goal.overflow_add-result
-overflow_add-result c = omega (arith, length-records_by (rs_of c.args.separator) c.args.part.now)
+overflow_add-result c =
+    let few = length-places_where (begins_at (rs_of c.args.separator) (joined c.args.blocks.now)) c.args.range.start (c.args.range.end - c.args.range.start) in
+    omega (arith, few, c.count_begins-count.ensures)
 
-pub returns-clause-added : goal.returns-clause-added
-returns-clause-added c = search rules depth 3
+pub returns-clause-counted : goal.returns-clause-counted
+returns-clause-counted c =
+    ap (λ n. c.args.fnr + n) (c.count_begins-count.ensures ∙ part_begins (rs_of c.args.separator) (joined c.args.blocks.now) c.args.range.start c.args.range.end c.requires.begins c.requires.rising c.requires.within)

@@ -2,6 +2,8 @@ use Rattle.std.proofs.Common.{◌≡◌, ◌+◌, ◌<◌, ◌≤◌, [], ◌++�
 use Rattle.std.proofs.lemmas.List.{append-nil, drop_all}
 use Rattle.std.proofs.lemmas.Result.{err_from_is_err_and}
 use Rattle.std.specs.List.{prefix_len}
+use Rattle.pawk_blocks.specs.Blocks.{joined}
+use Rattle.pawk_input.specs.Input.{files_of}
 use Rattle.pawk_input.specs.Limits.{most_chunks}
 use Rattle.pawk_records.specs.Records.{records_by}
 use Rattle.pawk_records.specs.Begins.{begins_by}
@@ -16,7 +18,7 @@ pub loop-file-init : goal.loop-file-init
 loop-file-init c = record {
   few = omega (arith, c.new-draft.result.chunks.ok.0, ap length c.new-draft.ensures.chunks);
   room = omega (arith, c.new-draft.ensures.nr, c.files-file-end.ensures.limited);
-  ordered = FilesRise-from_start c.args.rs.now c.args.input.now c.args.cuts.now c.in_ok-check_cuts.ensures;
+  ordered = FilesRise-from_start c.args.rs.now (files_of c.args.input.now) c.args.cuts.now c.in_ok-check_cuts.ensures;
   same = λ k le. refl;
   chunks = rw (c.new-draft.ensures.chunks, c.new-draft.ensures.nr) refl;
 }
@@ -32,17 +34,17 @@ add_at_cuts-requires-clause-rising c =
     let front : c.split_at.result.0.now ≡ take (prefix_len (is_here file) left) left = c.split_at.ensures.front ∙ ap (λ n. take n left) c.cuts_in.ensures.value in
     let here : offsets file c.split_at.result.0.now ≡ offsets file c.args.cuts.now =
     ap (offsets file) front ∙ sym (offsets_here file left c.loop-file.invariant.ordered) ∙ sym (c.loop-file.invariant.same file (omega arith)) in
-    rw (here, c.bytes.ensures.value) (rises_at_cuts c.args.rs.now c.args.input.now c.args.cuts.now c.in_ok-check_cuts.ensures file)
+    rw (here, c.blocks-blocks.ensures.value) (rises_at_cuts c.args.rs.now (files_of c.args.input.now) c.args.cuts.now c.in_ok-check_cuts.ensures file)
 
 pub returns-in_err-add_at_cuts-clause-refused : goal.returns-in_err-add_at_cuts-clause-refused
 returns-in_err-add_at_cuts-clause-refused c =
     let p = err_from_is_err_and c.from_residual-in_err-add_at_cuts.result c.from_residual-in_err-add_at_cuts.ensures.1 in
     let rs = c.args.rs.now in
-    let files = c.args.input.now in
+    let files = files_of c.args.input.now in
     let cuts = c.args.cuts.now in
     let file = c.loop-file.file in
     let left = c.loop-file.left.now in
-    let bytes = c.bytes.result.now in
+    let bytes = joined c.blocks-blocks.result.now in
     let nr = c.loop-file.draft.nr in
     let old = c.loop-file.draft.chunks.items in
     let there : file < length files = omega arith in
@@ -52,7 +54,7 @@ returns-in_err-add_at_cuts-clause-refused c =
     let same = cut_places-same file c.split_at.result.0.now cuts (begins_by rs bytes) here in
     let chunks = chunks_at rs file bytes nr (cut_places cuts file (begins_by rs bytes)) in
     let later = chunks_of rs (cut_places cuts) (file + 1) (nr + length (records_by rs bytes)) (drop (file + 1) files) in
-    let next = planned_next rs files (cut_places cuts) file nr bytes there c.bytes.ensures.value (nr + length (records_by rs bytes)) refl in
+    let next = planned_next rs files (cut_places cuts) file nr bytes there c.blocks-blocks.ensures.value (nr + length (records_by rs bytes)) refl in
     let total = sym (length-append old (chunks_of rs (cut_places cuts) file nr (drop file files))) ∙ ap length c.loop-file.invariant.chunks in
     let few : vec_len c.loop-file.draft.chunks + length (chunks_at rs file bytes nr (cut_places c.split_at.result.0.now file (begins_by rs bytes))) ≤ length (cut_at rs files cuts) =
     omega (arith, total, ap length next, length-append chunks later, ap (λ l. length (chunks_at rs file bytes nr l)) same, c.loop-file.draft.chunks.ok.0) in
@@ -61,11 +63,11 @@ returns-in_err-add_at_cuts-clause-refused c =
 pub loop-file-preserved : goal.loop-file-preserved
 loop-file-preserved c =
     let rs = c.args.rs.now in
-    let files = c.args.input.now in
+    let files = files_of c.args.input.now in
     let cuts = c.args.cuts.now in
     let file = c.loop-file.file in
     let left = c.loop-file.left.now in
-    let bytes = c.bytes.result.now in
+    let bytes = joined c.blocks-blocks.result.now in
     let nr = c.loop-file.draft.nr in
     let old = c.loop-file.draft.chunks.items in
     let there : file < length files = omega arith in
@@ -76,17 +78,17 @@ loop-file-preserved c =
     let same = cut_places-same file c.split_at.result.0.now cuts (begins_by rs bytes) here in
     record {
       few = c.in_ok-add_at_cuts.ensures.few;
-      room = omega (arith, total_size_next rs files (cut_places cuts) file nr bytes there c.bytes.ensures.value, c.in_ok-add_at_cuts.ensures.counted, length-records_by rs bytes);
+      room = omega (arith, total_size_next rs files (cut_places cuts) file nr bytes there c.blocks-blocks.ensures.value, c.in_ok-add_at_cuts.ensures.counted, length-records_by rs bytes);
       ordered = rw back (FilesRise-later file left c.loop-file.invariant.ordered);
       same = λ k le. c.loop-file.invariant.same k (omega arith) ∙ offsets_later k file left (omega arith) ∙ ap (offsets k) (sym back);
-      chunks = planned_turn rs files (cut_places cuts) file nr bytes there c.bytes.ensures.value c.add_at_cuts.new.self.nr old c.add_at_cuts.new.self.chunks.items (cut_at rs files cuts)
+      chunks = planned_turn rs files (cut_places cuts) file nr bytes there c.blocks-blocks.ensures.value c.add_at_cuts.new.self.nr old c.add_at_cuts.new.self.chunks.items (cut_at rs files cuts)
           c.in_ok-add_at_cuts.ensures.counted (c.in_ok-add_at_cuts.ensures.chunks ∙ ap (λ l. old ++ chunks_at rs file bytes nr l) same) c.loop-file.invariant.chunks;
     }
 
 pub returns-clause-plan : goal.returns-clause-plan
 returns-clause-plan c =
     let rs = c.args.rs.now in
-    let files = c.args.input.now in
+    let files = files_of c.args.input.now in
     let cuts = c.args.cuts.now in
     let none : drop c.loop-file.file files ≡ [] = drop_all c.loop-file.file files (omega arith) in
     let whole : c.loop-file.draft.chunks.items ≡ cut_at rs files cuts =

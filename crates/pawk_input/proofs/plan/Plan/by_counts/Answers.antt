@@ -1,6 +1,8 @@
 use Rattle.std.proofs.Common.{◌≡◌, ℕ, ◌<◌, List, [], ◌++◌, length, take, drop, subst, ap, sym, ◌∙◌, arith}
 use Rattle.std.proofs.lemmas.List.{append-nil, drop_all}
-use Rattle.pawk_input.specs.Input.{file_at}
+use Rattle.pawk_blocks.specs.Blocks.{joined}
+use Rattle.pawk_input.specs.Input.{file_at, files_of}
+use Rattle.pawk_input.specs.Counts.{blocks_of}
 use Rattle.pawk_input.specs.Plan.{IsPlanOf, chunks_of, sized, places_by_size}
 use Rattle.pawk_records.proofs.BeginsLemmas.{length-records_by}
 use Rattle.pawk_input.proofs.PlanLemmas.{planned_turn, total_size_next, is_plan, picked_by_size}
@@ -9,35 +11,43 @@ use Rattle.pawk_input.proofs.plan.Plan.by_counts.Goals as goal
 
 pub split_at-requires : goal.split_at-requires
 split_at-requires c =
-    omega (arith, c.block_number.ensures, enough_left c.args.rs.now c.args.block c.requires.block c.args.input.now c.loop-file.file c.bytes-text.result.now c.loop-file.left.now (omega arith) c.bytes-text.ensures.value c.loop-file.invariant.counts)
+    let bytes = joined c.blocks-blocks.result.now in
+    let block = c.args.block in
+    let count : c.block_number.result ≡ blocks_of block (length bytes) (length bytes) = c.block_number.ensures ∙ ap (λ n. blocks_of block n n) (c.size.ensures ∙ ap length (sym c.blocks-blocks.ensures.value)) in
+    omega (arith, count, enough_left c.args.rs.now c.args.block c.requires.block (files_of c.args.input.now) c.loop-file.file (joined c.blocks-blocks.result.now) c.loop-file.left.now (omega arith) c.blocks-blocks.ensures.value c.loop-file.invariant.counts)
 
 pub add_by_counts-requires-clause-counts : goal.add_by_counts-requires-clause-counts
 add_by_counts-requires-clause-counts c =
-    c.split_at.ensures.front ∙ ap (λ n. take n c.loop-file.left.now) c.block_number.ensures
-    ∙ counts_here c.args.rs.now c.args.block c.requires.block c.args.input.now c.loop-file.file c.bytes-text.result.now c.loop-file.left.now (omega arith) c.bytes-text.ensures.value c.loop-file.invariant.counts
+    let bytes = joined c.blocks-blocks.result.now in
+    let block = c.args.block in
+    let count : c.block_number.result ≡ blocks_of block (length bytes) (length bytes) = c.block_number.ensures ∙ ap (λ n. blocks_of block n n) (c.size.ensures ∙ ap length (sym c.blocks-blocks.ensures.value)) in
+    c.split_at.ensures.front ∙ ap (λ n. take n c.loop-file.left.now) count
+    ∙ counts_here c.args.rs.now c.args.block c.requires.block (files_of c.args.input.now) c.loop-file.file (joined c.blocks-blocks.result.now) c.loop-file.left.now (omega arith) c.blocks-blocks.ensures.value c.loop-file.invariant.counts
 
 pub loop-file-preserved : goal.loop-file-preserved
 loop-file-preserved c =
     let rs = c.args.rs.now in
-    let files = c.args.input.now in
+    let files = files_of c.args.input.now in
     let file = c.loop-file.file in
-    let bytes = c.bytes-text.result.now in
+    let bytes = joined c.blocks-blocks.result.now in
+    let block = c.args.block in
+    let count : c.block_number.result ≡ blocks_of block (length bytes) (length bytes) = c.block_number.ensures ∙ ap (λ n. blocks_of block n n) (c.size.ensures ∙ ap length (sym c.blocks-blocks.ensures.value)) in
     let size = c.args.bytes in
     let there : file < length files = omega arith in
     let chosen : ℕ → List ℕ → List ℕ = λ _ places. places_by_size size places in
     record {
       few = c.in_ok-add_by_counts.ensures.few;
-      counts = c.split_at.ensures.back ∙ ap (λ n. drop n c.loop-file.left.now) c.block_number.ensures
-          ∙ counts_later rs c.args.block c.requires.block files file bytes c.loop-file.left.now there c.bytes-text.ensures.value c.loop-file.invariant.counts;
-      room = omega (arith, total_size_next rs files chosen file c.loop-file.draft.nr bytes there c.bytes-text.ensures.value, c.in_ok-add_by_counts.ensures.counted, length-records_by rs bytes);
-      chunks = planned_turn rs files chosen file c.loop-file.draft.nr bytes there c.bytes-text.ensures.value c.add_by_counts.new.self.nr c.loop-file.draft.chunks.items c.add_by_counts.new.self.chunks.items (sized rs files size)
+      counts = c.split_at.ensures.back ∙ ap (λ n. drop n c.loop-file.left.now) count
+          ∙ counts_later rs c.args.block c.requires.block files file bytes c.loop-file.left.now there c.blocks-blocks.ensures.value c.loop-file.invariant.counts;
+      room = omega (arith, total_size_next rs files chosen file c.loop-file.draft.nr bytes there c.blocks-blocks.ensures.value, c.in_ok-add_by_counts.ensures.counted, length-records_by rs bytes);
+      chunks = planned_turn rs files chosen file c.loop-file.draft.nr bytes there c.blocks-blocks.ensures.value c.add_by_counts.new.self.nr c.loop-file.draft.chunks.items c.add_by_counts.new.self.chunks.items (sized rs files size)
           c.in_ok-add_by_counts.ensures.counted c.in_ok-add_by_counts.ensures.chunks c.loop-file.invariant.chunks;
     }
 
 pub returns-clause-plan : goal.returns-clause-plan
 returns-clause-plan c =
     let rs = c.args.rs.now in
-    let files = c.args.input.now in
+    let files = files_of c.args.input.now in
     let size = c.args.bytes in
     let chosen : ℕ → List ℕ → List ℕ = λ _ places. places_by_size size places in
     let none : drop c.loop-file.file files ≡ [] = drop_all c.loop-file.file files (omega arith) in

@@ -1,0 +1,12 @@
+use Rattle.std.proofs.Common.{◌≡◌, ◌+◌, ◌≤◌, length}
+use Rattle.pawk_blocks.specs.Blocks.{joined}
+use Rattle.pawk_blocks.proofs.blocks.Blocks.size_within.Given as goal
+
+abbrev pub invariant-loop-block : goal.invariant-loop-block
+invariant-loop-block l = record {
+  whole : l.size + length (joined l.rest) ≡ length (joined l.fn.self);
+  few : l.size ≤ l.most;
+}
+
+abbrev pub decreases-loop-block : goal.decreases-loop-block
+decreases-loop-block l = length l.rest

@@ -1,0 +1,66 @@
+//! Pieces of a file.
+
+ghost use Rattle.std.specs.Prelude.{◌≡◌, ℕ, List, [], ◌∷◌, take, drop, MatchOption};
+ghost use Rattle.pawk_blocks.specs.Blocks.{AreMended, joined, parts};
+
+use crate::block::Block;
+use std::marker::Model;
+
+/// What lies in each block of a range of a file, in order, as far as it was not yet handed out.
+#[derive(Drop)]
+pub struct Pieces<'a> {
+    blocks: &'a [Block],
+    start: usize,
+    size: usize,
+}
+
+impl<'a> Model for Pieces<'a> {
+    ghost use Rattle.std.specs.Prelude.{List, ℕ};
+    ghost use Rattle.pawk_blocks.specs.Blocks.{parts};
+
+    ghost Value = { List (List ℕ) };
+
+    ghost view = { λ p. parts p.start p.size p.blocks.now };
+}
+
+impl<'a> Pieces<'a> {
+    /// The pieces of the `size` bytes from place `start` on of what the blocks hold.
+    pub(crate) fn of(blocks: &'a [Block], start: usize, size: usize) -> Self
+        ensures value { result ≡ parts start size blocks.now }
+        ensures bytes { joined result ≡ take size (drop start (joined blocks.now)) }
+        ensures mended { (rs : List ℕ) → AreMended rs blocks.now → AreMended rs result }
+    {
+        Pieces {
+            blocks,
+            start,
+            size,
+        }
+    }
+
+    /// No pieces.
+    pub fn none() -> Self
+        ensures { result ≡ [] }
+    {
+        Pieces {
+            blocks: &[],
+            start: 0,
+            size: 0,
+        }
+    }
+
+    /// The next piece, which may be empty, if there is one; else there is none later either.
+    pub fn next_piece(&mut self) -> Option<&'a [u8]>
+        ensures { MatchOption result ((self.old ≡ []) × (self.new ≡ []))
+            (λ piece. self.old ≡ piece.now ∷ self.new) }
+    {
+        let (block, later) = self.blocks.split_first()?;
+        let bytes = block.bytes();
+        let from = self.start.min(bytes.len());
+        let (_, after) = bytes.split_at(from);
+        let (piece, _) = after.split_at(self.size.min(after.len()));
+        self.blocks = later;
+        self.start -= from;
+        self.size -= piece.len();
+        Some(piece)
+    }
+}
