@@ -52,9 +52,7 @@ fn push_value(alloc: Global, value: ValueRef<'_>, out: &mut Vec<u8>) -> Result<(
 fn value_of<'a>(cell: &[u8], text: &'a [u8]) -> ValueRef<'a> {
     match part(cell, 3) {
         b"uninit" => ValueRef::Uninit,
-        b"num" => {
-            ValueRef::Num(str::from_utf8(text).unwrap_or("").parse().unwrap_or(0))
-        }
+        b"num" => { ValueRef::Num(str::from_utf8(text).unwrap_or("").parse().unwrap_or(0)) }
         b"text" => ValueRef::Text(text),
         _ => ValueRef::Maybe(text),
     }
@@ -122,7 +120,11 @@ fn act<'a>(
 
 /// The bytes that the last piece of a cell writes.
 fn last_text(alloc: Global, cell: &[u8]) -> Result<Vec<u8>, AllocError> {
-    let place = if part(cell, 0) == b"set".as_slice() { 4 } else { 3 };
+    let place = if part(cell, 0) == b"set".as_slice() {
+        4
+    } else {
+        3
+    };
     decode(alloc, part(cell, place))
 }
 
@@ -159,7 +161,10 @@ fn main(rt: HostRuntime) -> io::Result<()> {
         let row = line?;
         let texts = texts_of(rt.alloc(), row.as_str().as_bytes())?;
         let told = answer(rt.alloc(), row.as_str().as_bytes(), texts.as_slice())?;
-        println!(rt; "{}", str::from_utf8(told.as_slice()).unwrap_or("not a text"))?;
+        println!(rt;
+            "{}",
+            str::from_utf8(told.as_slice()).unwrap_or("not a text")
+        )?;
     }
     Ok(())
 }
