@@ -1,9 +1,9 @@
 -- Keys in order, and keys in one room.
-use Rattle.std.proofs.Common.{◌≡◌, ℕ, zero, suc, ◌+◌, ◌-◌, ◌<◌, ◌≤◌, Bool, true, false, cond, List, [], ◌∷◌, ◌++◌, length, map, get_or, take, drop, refl, sym, ◌∙◌, ap, subst, arith, length-append, length-drop, Bor, Option, None, Some}
+use Rattle.std.proofs.Common.{◌≡◌, ℕ, zero, suc, ◌+◌, ◌-◌, ◌<◌, ◌≤◌, Bool, true, false, cond, List, [], ◌∷◌, ◌++◌, length, map, get_or, take, drop, refl, sym, ◌∙◌, ap, arith, length-drop, Bor, Option, None, Some}
 use Rattle.std.specs.Prelude.{is_some, slice_range, ◌&&◌, ◌||◌}
-use Rattle.std.specs.List.{All, AllByRecursion, IsDistinct, list_any}
+use Rattle.std.specs.List.{AllByRecursion, IsDistinct, list_any}
 use Rattle.std.specs.List.Sorted.{IsPermutation, IsSorted, IsStrictlySortedBy}
-use Rattle.std.specs.Ordering.{eq_by_cmp, is_lt, is_eq, ordering_reverse}
+use Rattle.std.specs.Ordering.{eq_by_cmp, is_lt, ordering_reverse}
 use Rattle.std.specs.declared.cmp.Ordering.{Ordering}
 use Rattle.std.specs.declared.cmp.Ordering.TheVariants.{Less, Equal, Greater}
 use Rattle.std.specs.declared.ops.Range.{Range}
@@ -17,11 +17,11 @@ use Rattle.std.proofs.Math.Seq.{drop-append_seam, take-length}
 use Rattle.std.proofs.lemmas.Map.Keys.{sorted_from_all_adjacent, apart_from_distinct, IsDistinct-IsPermutation}
 use Rattle.std.proofs.lemmas.Slice.Eq.{bytes_eq-Decides}
 use Rattle.pawk_scalar.specs.declared.values.Value.{Value}
-use Rattle.pawk_array.specs.Entries.{Entries, order, Rise, found, keys}
+use Rattle.pawk_array.specs.Entries.{Entries, order, keys}
 use Rattle.pawk_array.specs.ArrayViews.{entries_of}
 use Rattle.pawk_array.specs.Keys.{texts_in, AreWithin}
 use Rattle.pawk_array.proofs.EntriesLemmas.{total, same_text, holds, flip}
-use Rattle.pawk_array.proofs.PairsLemmas.{Key, Pairs, same_bytes, has_bytes, rise-entries_of, found-entries_of, contains_by}
+use Rattle.pawk_array.proofs.PairsLemmas.{Key, Pairs, same_bytes, has_bytes, rise-entries_of, contains_by}
 
 -- ---- one room
 

@@ -1,3 +1,4 @@
 pub mod EntriesLemmas
 pub mod PairsLemmas
 pub mod KeysLemmas
+pub mod LawLemmas

@@ -137,8 +137,8 @@ impl Array {
         ensures* touched { sem 𝓛 (EndsTouched self.entry key.now result) }
         ensures value { IfOk result (λ v. lent_value v ≡ value_of (found key.now self.old)) }
     {
-        let place = place_of(self.alloc, &mut self.map, key)?;
-        Ok(lend(self.map.get_index(place).unwrap().1))
+        let element = place_of(self.alloc, &mut self.map, key)?;
+        Ok(lend(self.map.get_index(element).unwrap().1))
     }
 
     /// Gives an element a value, in the room that it has for its text. After a refusal of memory the

@@ -3,6 +3,7 @@
 
 mod array;
 mod keys;
+pub mod laws;
 
 pub use array::Array;
 pub use keys::Keys;

@@ -1,4 +1,4 @@
-use Rattle.std.proofs.Common.{◌≡◌, ◌≤◌, ◌++◌, ◌∷◌, [], ◌+◌, List, ℕ, Some, length, map, take, sym, ◌∙◌, ap, subst, arith, slice_get, get_or}
+use Rattle.std.proofs.Common.{◌≡◌, ◌++◌, ◌∷◌, [], List, ℕ, Some, map, sym, ◌∙◌, ap, subst, arith, slice_get, get_or}
 use Rattle.std.specs.Prelude.{IfOk}
 use Rattle.std.specs.Option.{option_map}
 use Rattle.std.specs.Map.Iter.{deref_pair}
@@ -6,9 +6,8 @@ use Rattle.std.specs.List.Sorted.{IsPermutation}
 use Rattle.std.proofs.lemmas.List.{map-append, map_more}
 use Rattle.std.proofs.lemmas.List.Sorted.{IsPermutation-map}
 use Rattle.std.proofs.lemmas.Option.{get_or_from_slice_get}
-use Rattle.std.proofs.Math.Seq.{take-length}
 use Rattle.pawk_array.specs.Entries.{keys}
-use Rattle.pawk_array.proofs.PairsLemmas.{Key, Pairs}
+use Rattle.pawk_array.proofs.PairsLemmas.{Key}
 use Rattle.pawk_array.proofs.KeysLemmas.{keys_in_order, sorted_texts, take_all}
 use Rattle.pawk_scalar.specs.declared.values.Value.{Value}
 use Rattle.pawk_array.proofs.array.Array.keys.Goals as goal

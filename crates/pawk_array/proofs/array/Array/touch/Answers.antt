@@ -12,11 +12,11 @@ returns c =
     let k = c.args.key.now in
     let new = c.place_of.new.map.entries in
     let old = c.self.inside.map.entries in
-    let touched_by = c.in_ok-place.ensures.touched in
+    let touched_by = c.in_ok-element.ensures.touched in
     let pair = c.unwrap.result in
-    let at : slice_get new c.in_ok-place.place ≡ Some (pair.0.now, pair.1.now) = sym c.get_index.ensures.entry ∙ ap (option_map deref_pair) c.unwrap.ensures in
+    let at : slice_get new c.in_ok-element.element ≡ Some (pair.0.now, pair.1.now) = sym c.get_index.ensures.entry ∙ ap (option_map deref_pair) c.unwrap.ensures in
     let there = rw c.unwrap.ensures at c.get_index.ensures.value in
-    let value = entry_at new c.in_ok-place.place k (pair.0.now, pair.1.now) c.in_ok-place.ensures.place at there in (
+    let value = entry_at new c.in_ok-element.element k (pair.0.now, pair.1.now) c.in_ok-element.ensures.place at there in (
       (refl, λ _. tt, touched_by ∙ ap (touched k) c.self.view_is),
       record { touched = tt; value = c.lend.ensures ∙ value_touched k (entries_of old) (entries_of new) (shown pair.1.now) touched_by value ∙ ap (λ es. value_of (found k es)) c.self.view_is },
     )

@@ -1,7 +1,6 @@
-use Rattle.std.proofs.Common.{◌≡◌, ◌++◌, ◌∷◌, [], ◌+◌, List, ℕ, length, refl, sym, ◌∙◌, ap, arith, vec_len}
+use Rattle.std.proofs.Common.{◌≡◌, ◌++◌, ◌∷◌, [], ◌+◌, length, ◌∙◌, ap}
 use Rattle.std.specs.Prelude.{slice_range}
 use Rattle.std.proofs.lemmas.List.{map-append}
-use Rattle.pawk_array.specs.Keys.{texts_in}
 use Rattle.pawk_array.proofs.KeysLemmas.{texts_stay, last_range}
 use Rattle.pawk_array.proofs.keys.Keys.push.Goals as goal
 
