@@ -5,3 +5,4 @@ pub mod ScopeViews
 pub mod Sorted
 pub mod Resolved
 pub mod ResolvedStatements
+pub mod ResolvedPrograms

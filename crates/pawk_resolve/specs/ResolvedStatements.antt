@@ -1,5 +1,5 @@
 -- The code of statements (POSIX.1-2017, awk, "Actions" and "Output Statements").
-use Rattle.std.specs.Prelude.{ℕ, Bool, true, false, not, ◌&&◌, Option, Some, None}
+use Rattle.std.specs.Prelude.{Bool, true, false, ◌&&◌}
 use Rattle.std.specs.Option.{option_map}
 use Rattle.pawk_token.specs.declared.token.Builtin.{Builtin}
 use Rattle.pawk_token.specs.declared.token.Builtin.TheVariants as b
@@ -13,8 +13,8 @@ use Rattle.pawk_syntax_program.specs.declared.statement.Leave.TheVariants as wor
 use Rattle.pawk_syntax_program.specs.Statement.{Stmt as TreeStmt, Stmts as TreeStmts}
 use Rattle.pawk_syntax_program.specs.Statement as stmt
 use Rattle.pawk_code.specs.declared.word.Sign.TheVariants as sign
-use Rattle.pawk_code.specs.Expressions.{Expr, Exprs, numeric, assign, change, step, none, more}
-use Rattle.pawk_code.specs.Statements.{Simple, drop, set, add, count, print, printf, delete, clear, Leave, break, continue, next_record, next_file, exit, return, Head, Stmt, simple, leave, when, choose, repeat, do_while, loop, walk, Stmts, done, next}
+use Rattle.pawk_code.specs.Expressions.{Expr, numeric, assign, change, step}
+use Rattle.pawk_code.specs.Statements.{Simple, drop, set, add, count, print, printf, delete, clear, Leave, break, continue, next_record, next_file, exit, return, Stmt, simple, leave, when, choose, repeat, do_while, loop, walk, Stmts, done, next}
 use Rattle.pawk_resolve.specs.declared.operation.Operation.{Operation}
 use Rattle.pawk_resolve.specs.declared.operation.Operation.TheVariants as does
 use Rattle.pawk_resolve.specs.Scopes.{Scope, array_of, variable_of}
