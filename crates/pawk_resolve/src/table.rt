@@ -1,0 +1,45 @@
+//! Names by numbers.
+
+ghost use Rattle.std.specs.Prelude.{◌≡◌, ℕ, List, [], OnOk};
+ghost use Rattle.pawk_token.specs.Bytes.{Text};
+ghost use Rattle.pawk_resolve.specs.Slots as spec;
+ghost use Rattle.pawk_resolve.specs.Tables.{found, texts};
+
+use std::alloc::{AllocError, Global};
+use std::collections::BTreeMap;
+
+/// Texts without repetition, each with the number at which it came, counted from 0.
+#[derive(Drop)]
+pub struct Table<'t> {
+    pub names: Vec<&'t [u8]>,
+    pub map: BTreeMap<&'t [u8], usize>,
+    ghost numbered: { (x : Text) → found map x ≡ spec.place (texts names.items) x },
+}
+
+impl<'t> Table<'t> {
+    ghost use Rattle.pawk_resolve.specs.ScopeViews.{table_names};
+
+    /// No names.
+    pub fn new(alloc: Global) -> Table<'t>
+        ensures { table_names result ≡ [] }
+    {
+        Table {
+            names: Vec::new(alloc),
+            map: BTreeMap::new(alloc),
+        }
+    }
+
+    /// The number of a name, if it is there.
+    pub fn place(&self, name: &[u8]) -> Option<usize>
+        ensures { result ≡ spec.place (table_names self.now) name.now }
+    {
+        self.map.get(name).copied()
+    }
+
+    /// The number of a name, or 0.
+    pub fn slot(&self, name: &[u8]) -> usize
+        ensures { result ≡ spec.slot (table_names self.now) name.now }
+    {
+        self.place(name).unwrap_or(0)
+    }
+}
