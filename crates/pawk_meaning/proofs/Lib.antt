@@ -1,0 +1,5 @@
+pub mod Later
+pub mod Going
+pub mod InExpressions
+pub mod InStatements
+pub mod InRecords

@@ -1,0 +1,103 @@
+-- The lockstep law: runs over two worlds that answer what a program may ask equally, or part there, go in step.
+use Rattle.std.specs.Prelude.{◌≡◌, ℕ, List, ◌⊎◌, Option, Some, None}
+use Rattle.pawk_pattern.specs.Pattern.{Pattern}
+use Rattle.pawk_world.specs.Halts.{Halt}
+use Rattle.pawk_world.specs.Halts as halt
+use Rattle.pawk_world.specs.Worlds.{Request, Calls}
+use Rattle.pawk_store.specs.RecordStates.{RecordState}
+use Rattle.pawk_code.specs.Statements.{Stmts}
+use Rattle.pawk_code.specs.Programs.{Rule, Function, Code}
+use Rattle.pawk_input.specs.Input.{Item}
+use Rattle.pawk_meaning.specs.Parts.{Moment}
+use Rattle.pawk_meaning.specs.Meaning.{execs, call_at}
+use Rattle.pawk_meaning.specs.Records.{Left, through, next_file, exit, fault, clash, End, end_of_halt, one_record}
+use Rattle.pawk_meaning.specs.Runs.{records_from}
+use Rattle.pawk_meaning.specs.Lockstep.{access_of, global_of, IsPrefix, Pair, AllHeld, refusal_of, state_of, SameMoment, InStep, AreInLockstep, EndsBy, FirstGoesOn, SecondGoesOn}
+use Rattle.pawk_meaning.specs.Allows.{AllowsStmts, AllowsFunctions, AllowsMain}
+
+-- statements: the same end, or a parting
+abbrev pub StatementsLaw : {S T : Type 0} → Pair S T → Type 0
+StatementsLaw {S} {T} w =
+    AreInLockstep w → FirstGoesOn w → SecondGoesOn w →
+    (patterns : List Pattern) (functions : List Function) (body : Stmts) →
+    AllowsFunctions w.permits functions → AllowsStmts w.permits body →
+    (depth : ℕ) (m : Moment S) (n : Moment T) → SameMoment w.alike m n → AllHeld w.permits m.frame →
+    InStep w
+    (execs w.first_calls patterns (call_at w.first_calls patterns functions depth) body m)
+    (execs w.second_calls patterns (call_at w.second_calls patterns functions depth) body n)
+
+-- one record
+abbrev pub RecordLaw : {S T : Type 0} → Pair S T → Type 0
+RecordLaw {S} {T} w =
+    AreInLockstep w → FirstGoesOn w → SecondGoesOn w →
+    (patterns : List Pattern) (functions : List Function) (rules : List Rule) → AllowsMain w.permits functions rules →
+    (i : Item) (m : Moment S) (n : Moment T) → SameMoment w.alike m n → AllHeld w.permits m.frame →
+    InStep w
+    (one_record w.first_calls patterns functions rules i m)
+    (one_record w.second_calls patterns functions rules i n)
+
+-- where the records of one world are after a request that may have been refused: ended there, or somewhere later
+abbrev pub EndReaches : {S : Type 0} → (S → S → Type 0) → Option (Halt × S) → S → RecordState → List ℕ → End S → Type 0
+EndReaches before (Some r) s state out e = e ≡ end_of_halt r.0 r.1 state out
+EndReaches before None s state out e = before s e.world × IsPrefix out e.output
+
+-- a refusal ends the run
+abbrev pub IsFinal : {S : Type 0} → Option (Halt × S) → Type 0
+IsFinal None = Unit {0}
+IsFinal (Some (halt.fault f, s)) = Unit {0}
+IsFinal (Some (halt.clash, s)) = Unit {0}
+IsFinal (Some (halt.next, s)) = ⊥
+IsFinal (Some (halt.next_file, s)) = ⊥
+IsFinal (Some (halt.exit n, s)) = Unit {0}
+
+abbrev pub RefusalsAreFinal : {S : Type 0} → Calls S → Type 0
+RefusalsAreFinal {S} calls = (q : Request) (s : S) → IsFinal (refusal_of (calls.ask q s))
+
+-- left by one of these, or not by a halt that ends the run
+abbrev pub LeftBy : (Halt → Type 0) → Left → Type 0
+LeftBy ends through = Unit {0}
+LeftBy ends next_file = Unit {0}
+LeftBy ends (exit n) = ends (halt.exit n)
+LeftBy ends (fault f) = ends (halt.fault f)
+LeftBy ends clash = ends halt.clash
+
+module _ {S T : Type 0} (w : Pair S T) where
+  pub record SameEnd (e : End S) (f : End T) : Type 0 where
+    pub worlds : w.alike e.world f.world
+    pub states : e.state ≡ f.state
+    pub outputs : e.output ≡ f.output
+    pub lefts : e.left ≡ f.left
+
+  -- both came in step to a request at which they part
+  pub record EndParting (e : End S) (f : End T) : Type 0 where
+    pub request : Request
+    pub permitted : w.permits (access_of request) (global_of request)
+    pub first : S
+    pub second : T
+    pub state : RecordState
+    pub output : List ℕ
+    pub related : w.alike first second
+    pub parts_there : w.parts request first second
+    pub first_then :
+        let a = w.first_calls.ask request first in
+        EndReaches w.before (refusal_of a) (state_of a) state output e
+    pub second_then :
+        let b = w.second_calls.ask request second in
+        EndReaches w.before_second (refusal_of b) (state_of b) state output f
+
+  abbrev pub EndsInStep : End S → End T → Type 0
+  EndsInStep e f = SameEnd e f ⊎ EndParting e f
+
+-- a list of records; and the run over each world is left as runs over it may be
+abbrev pub RecordsLaw : {S T : Type 0} → Pair S T → Type 0
+RecordsLaw {S} {T} w =
+    AreInLockstep w → (on : FirstGoesOn w) → (on' : SecondGoesOn w) →
+    RefusalsAreFinal w.first_calls → RefusalsAreFinal w.second_calls →
+    (patterns : List Pattern) (code : Code) → AllowsMain w.permits code.functions code.rules →
+    (budget : ℕ) (skip : Option ℕ) (items : List Item) (e : End S) (f : End T) → SameEnd w e f →
+    LeftBy (EndsBy on) e.left → LeftBy (EndsBy on') f.left →
+    EndsInStep w
+    (records_from w.first_calls patterns code budget skip e items)
+    (records_from w.second_calls patterns code budget skip f items)
+    × LeftBy (EndsBy on) (records_from w.first_calls patterns code budget skip e items).left
+    × LeftBy (EndsBy on') (records_from w.second_calls patterns code budget skip f items).left

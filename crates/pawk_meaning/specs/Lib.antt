@@ -1,0 +1,10 @@
+pub mod Parts
+pub mod Places
+pub mod Builtins
+pub mod Meaning
+pub mod Limits
+pub mod Records
+pub mod Runs
+pub mod Lockstep
+pub mod Allows
+pub mod Laws
