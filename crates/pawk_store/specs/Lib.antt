@@ -1,4 +1,5 @@
 pub mod Globals
+pub mod Openings
 pub mod RecordStates
 pub mod StateViews
 pub mod Slots

@@ -1,7 +1,8 @@
 -- What a run keeps beside the globals (POSIX.1-2017, awk, "Variables and Special Variables").
-use Rattle.std.specs.Prelude.{ℕ, ℤ, suc, pos, negsuc, Bool, true, false, List, [], ◌∷◌, replicate, Option, Some, None}
-use Rattle.std.specs.Option.{option_map}
-use Rattle.pawk_value.specs.Value.{Val, Uninit, Maybe}
+use Rattle.std.specs.Prelude.{ℕ, ℤ, suc, pos, negsuc, ◌<◌, ◌^◌, Bool, true, false, List, [], ◌∷◌, length, replicate, Option, Some, None}
+use Rattle.pawk_value.specs.Value.{Val, Uninit, Num, Maybe}
+use Rattle.pawk_code.specs.declared.leaf.Special.{Special}
+use Rattle.pawk_code.specs.declared.leaf.Special.TheVariants as special
 use Rattle.pawk_record.specs.Records.{Record, read}
 use Rattle.pawk_input.specs.Input.{Item}
 
@@ -45,3 +46,18 @@ opening rules = record {
 abbrev pub with_item : List ℕ → Item → RecordState → RecordState
 with_item fs i s =
     record s { line = (read fs (is_paragraph s) i.bytes).0; nr = suc s.nr; fnr = i.fnr; name = Maybe i.name }
+
+-- what a variable that the run sets has
+abbrev pub special_value : Special → RecordState → Val
+special_value special.Nr s = Num (pos s.nr)
+special_value special.Nf s = Num (pos (length s.line.fields))
+special_value special.Fnr s = Num (pos s.fnr)
+special_value special.Filename s = s.name
+special_value special.Rstart s = Num s.rstart
+special_value special.Rlength s = Num s.rlength
+
+-- what is counted is a number of the language
+pub record AreCounted (s : RecordState) : Type 0 where
+  pub records : s.nr < 2 ^ 63
+  pub of_file : s.fnr < 2 ^ 63
+  pub fields : length s.line.fields < 2 ^ 63

@@ -1,10 +1,14 @@
 //! The globals of a run.
 
-ghost use Rattle.std.specs.Prelude.{◌≡◌, OnOk, map, slice_set};
+ghost use Rattle.std.specs.Prelude.{◌≡◌, IfOk, OnOk, map, slice_set};
 ghost use Rattle.pawk_value.specs.Value.{lent_value, shown};
+ghost use Rattle.pawk_store.specs.Openings.{texts_of, pairs_of, opened};
 
+use crate::copies::{copy_arrays, copy_names, copy_scalars};
+use crate::openings::{empty_arrays, extra_names, push_opening_values};
 use pawk_array::{Array, Keys};
 use pawk_code::word::Sign;
+use pawk_settings::Assignment;
 use pawk_value::{Fault, Held, Value, ValueRef, assign, hold, lend, to_num, to_num_lent};
 use pawk_world::{Halt, World, sum};
 use std::alloc::{AllocError, Global};
@@ -17,6 +21,8 @@ pub struct Globals {
     alloc: Global,
     scalars: Vec<Value>,
     arrays: Vec<Array>,
+    /// The names of scalars that are assigned and are not of the program, whose slots come last.
+    extras: Vec<Vec<u8>>,
 }
 
 impl Model for Globals {
@@ -46,6 +52,45 @@ fn put(
         assign(alloc, &mut values[slot], value)?;
     }
     Ok(())
+}
+
+impl Globals {
+    /// The globals with which a run begins, for a program with scalars of these names, by their slots,
+    /// and so many arrays: the variables of the language have their values, then the assignments are
+    /// made in their order (POSIX.1-2017, awk, "Variables and Special Variables"). A name that is
+    /// assigned and is not of the program has a slot after those of the program.
+    pub fn open(
+        alloc: Global,
+        names: &[Vec<u8>],
+        arrays: usize,
+        assignments: &[Assignment],
+    ) -> Result<Globals, AllocError>
+        ensures { IfOk result (λ globals.
+            globals ≡ opened (texts_of names.now) arrays (pairs_of assignments.now)) }
+    {
+        let extras = extra_names(alloc, names, assignments)?;
+        let mut scalars = Vec::new(alloc);
+        push_opening_values(alloc, assignments, names, &mut scalars)?;
+        push_opening_values(alloc, assignments, extras.as_slice(), &mut scalars)?;
+        Ok(Globals {
+            alloc,
+            scalars,
+            arrays: empty_arrays(alloc, arrays)?,
+            extras,
+        })
+    }
+
+    /// A copy that holds its own bytes.
+    pub fn copy(&self, alloc: Global) -> Result<Globals, AllocError>
+        ensures { IfOk result (λ copy. copy ≡ self.now) }
+    {
+        Ok(Globals {
+            alloc,
+            scalars: copy_scalars(alloc, self.scalars.as_slice())?,
+            arrays: copy_arrays(alloc, self.arrays.as_slice())?,
+            extras: copy_names(alloc, self.extras.as_slice())?,
+        })
+    }
 }
 
 impl World for Globals {

@@ -1,7 +1,9 @@
 //! The globals of a run of one thread, and what it keeps beside them.
 #![tactic(auto)]
 
+mod copies;
 mod globals;
+mod openings;
 mod state;
 
 pub use globals::Globals;

@@ -1,15 +1,18 @@
 //! What a run keeps beside the globals.
 
-ghost use Rattle.std.specs.Prelude.{◌≡◌, ◌<◌, ◌^◌, IfOk, IfErr, OnOk, Some, None};
+ghost use Rattle.std.specs.Prelude.{◌≡◌, ◌<◌, ◌+◌, ◌++◌, ◌^◌, IfOk, IfErr, OnOk, Some, None};
 ghost use Rattle.pawk_split.specs.FieldsOf.{IfFault};
 ghost use Rattle.pawk_input.specs.Input.{item_of};
 ghost use Rattle.pawk_record.specs.Records.{read};
+ghost use Rattle.pawk_value.specs.Held.{added, held_value};
+ghost use Rattle.pawk_value.specs.Value.{lent_value};
 ghost use Rattle.pawk_store.specs.RecordStates as spec;
 ghost use Rattle.pawk_store.specs.StateViews.{state_of};
 
+use pawk_code::leaf::Special;
 use pawk_input::Item;
 use pawk_record::Record;
-use pawk_value::Stop;
+use pawk_value::{Held, Stop, ValueRef, hold};
 use std::alloc::{AllocError, Global};
 
 /// What a run keeps beside the globals (POSIX.1-2017, awk, "Variables and Special Variables").
@@ -83,5 +86,38 @@ impl<'a> RecordState<'a> {
         self.fnr = item.fnr;
         self.name = Some(item.name);
         self.line.read(item.bytes, fs, paragraph)
+    }
+
+    /// The value of a variable that the run sets, which is lent from the state.
+    fn lend_special(&mut self, variable: Special) -> Result<ValueRef<'a>, AllocError>
+        requires counted { spec.AreCounted (state_of self.old) }
+        ensures value { IfOk result
+            (λ v. lent_value v ≡ spec.special_value variable (state_of self.old)) }
+        ensures same { state_of self.new ≡ state_of self.old }
+    {
+        Ok(match variable {
+            Special::Nr => ValueRef::Num(self.nr as i64),
+            Special::Nf => ValueRef::Num(self.line.count()? as i64),
+            Special::Fnr => ValueRef::Num(self.fnr as i64),
+            Special::Filename => match self.name {
+                Some(name) => ValueRef::Maybe(name),
+                None => ValueRef::Uninit,
+            },
+            Special::Rstart => ValueRef::Num(self.rstart),
+            Special::Rlength => ValueRef::Num(self.rlength),
+        })
+    }
+
+    /// Lays down the value of a variable that the run sets: the bytes of `FILENAME` are appended to
+    /// `out`. The state stays (POSIX.1-2017, awk, "Variables and Special Variables").
+    pub fn special(&mut self, variable: Special, out: &mut Vec<u8>) -> Result<Held, AllocError>
+        requires counted { spec.AreCounted (state_of self.old) }
+        ensures value { IfOk result (λ h. held_value h (added out.old.items out.new.items)
+            ≡ spec.special_value variable (state_of self.old)) }
+        ensures appended { OnOk result
+            (out.new.items ≡ out.old.items ++ added out.old.items out.new.items) }
+        ensures same { state_of self.new ≡ state_of self.old }
+    {
+        hold(self.lend_special(variable)?, out)
     }
 }

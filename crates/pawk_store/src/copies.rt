@@ -1,0 +1,42 @@
+//! Copies of what globals have.
+
+ghost use Rattle.std.specs.Prelude.{◌≡◌, map, IfOk};
+ghost use Rattle.pawk_value.specs.Value.{shown};
+ghost use Rattle.pawk_store.specs.Openings.{texts_of};
+
+use pawk_array::Array;
+use pawk_value::{Value, copy_value};
+use std::alloc::{AllocError, Global};
+
+/// Copies of values that hold their own bytes.
+pub(crate) fn copy_scalars(alloc: Global, scalars: &[Value]) -> Result<Vec<Value>, AllocError>
+    ensures { IfOk result (λ copy. map shown copy.items ≡ map shown scalars.now) }
+{
+    let mut copy = Vec::with_capacity(alloc, scalars.len())?;
+    for scalar in scalars {
+        copy.push(copy_value(alloc, scalar)?)?;
+    }
+    Ok(copy)
+}
+
+/// Copies of arrays that hold their own bytes.
+pub(crate) fn copy_arrays(alloc: Global, arrays: &[Array]) -> Result<Vec<Array>, AllocError>
+    ensures { IfOk result (λ copy. copy.items ≡ arrays.now) }
+{
+    let mut copy = Vec::with_capacity(alloc, arrays.len())?;
+    for array in arrays {
+        copy.push(array.copy(alloc)?)?;
+    }
+    Ok(copy)
+}
+
+/// Copies of names.
+pub(crate) fn copy_names(alloc: Global, names: &[Vec<u8>]) -> Result<Vec<Vec<u8>>, AllocError>
+    ensures { IfOk result (λ copy. texts_of copy.items ≡ texts_of names.now) }
+{
+    let mut copy = Vec::with_capacity(alloc, names.len())?;
+    for name in names {
+        copy.push(Vec::from_slice(alloc, name.as_slice())?)?;
+    }
+    Ok(copy)
+}
