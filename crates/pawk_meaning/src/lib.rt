@@ -1,4 +1,4 @@
-//! What a program means over any world, and the law that runs over two worlds in lockstep go in step.
+//! What a program means over any world, and the law by which two worlds go in step through it.
 #![tactic(auto)]
 
 pub mod law;
