@@ -4,17 +4,17 @@ use Rattle.pawk_records.specs.Begins.{begins_at}
 use Rattle.pawk_records.specs.Separator.{rs_of}
 use Rattle.pawk_blocks.specs.Blocks.{joined}
 use Rattle.pawk_blocks.proofs.BlocksLemmas.{length_rest, mended_later, begins_first, begins_behind}
-use Rattle.pawk_blocks.proofs.blocks.Blocks.next_begin.Goals as goal
+use Rattle.pawk_blocks.proofs.lent.LentBlocks.next_begin.Goals as goal
 
 pub returns-in-Some-next_begin : goal.returns-in-Some-next_begin
 returns-in-Some-next_begin c =
     let rs = rs_of c.args.separator in
-    let rest = c.loop-block.rest.now in
-    let b = c.bytes-bytes.result.now in
-    let later = c.in-Some.later.now in
-    let is : rest ≡ b ∷ later = c.in-Some.ensures.cases.0 ∙ ap (λ x. x ∷ later) (sym c.bytes-bytes.ensures) in
-    let held = c.loop-block.invariant in
-    let before = c.loop-block.before in
+    let rest = c.loop-bytes.rest in
+    let b = c.in-Some.bytes.now in
+    let later = c.next_block.new.self in
+    let is : rest ≡ b ∷ later = c.in-Some.ensures in
+    let held = c.loop-bytes.invariant in
+    let before = c.loop-bytes.before in
     let place = c.in-Some-next_begin.place in
     let first = c.in-Some-next_begin.ensures in
     let long = length_rest rs rest b later is in
@@ -34,15 +34,15 @@ returns-in-Some-next_begin c =
       here place first.0.high ∙ first.1,
     )
 
-pub loop-block-preserved : goal.loop-block-preserved
-loop-block-preserved c =
+pub loop-bytes-preserved : goal.loop-bytes-preserved
+loop-bytes-preserved c =
     let rs = rs_of c.args.separator in
-    let rest = c.loop-block.rest.now in
-    let b = c.bytes-bytes.result.now in
-    let later = c.in-Some.later.now in
-    let is : rest ≡ b ∷ later = c.in-Some.ensures.cases.0 ∙ ap (λ x. x ∷ later) (sym c.bytes-bytes.ensures) in
-    let held = c.loop-block.invariant in
-    let before = c.loop-block.before in
+    let rest = c.loop-bytes.rest in
+    let b = c.in-Some.bytes.now in
+    let later = c.next_block.new.self in
+    let is : rest ≡ b ∷ later = c.in-Some.ensures in
+    let held = c.loop-bytes.invariant in
+    let before = c.loop-bytes.before in
     let long = length_rest rs rest b later is in
     let here : (k : ℕ) → k < length b → begins_at rs (joined c.args.self.now) (before + k) ≡ begins_at rs b k =
     λ k lt. held.same k (omega (arith, long)) ∙ begins_first rs rest b later is k lt in

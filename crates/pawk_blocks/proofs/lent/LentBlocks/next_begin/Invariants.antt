@@ -3,15 +3,15 @@ use Rattle.memchr.specs.Find.{Nowhere}
 use Rattle.pawk_records.specs.Begins.{BeginsAt, begins_at}
 use Rattle.pawk_records.specs.Separator.{rs_of}
 use Rattle.pawk_blocks.specs.Blocks.{AreMended, joined}
-use Rattle.pawk_blocks.proofs.blocks.Blocks.next_begin.Given as goal
+use Rattle.pawk_blocks.proofs.lent.LentBlocks.next_begin.Given as goal
 
-abbrev pub invariant-loop-block : goal.invariant-loop-block
-invariant-loop-block l = record {
+abbrev pub invariant-loop-bytes : goal.invariant-loop-bytes
+invariant-loop-bytes l = record {
   mended : AreMended (rs_of l.separator) l.rest;
   size : l.before + length (joined l.rest) ≡ length (joined l.fn.self);
   none : Nowhere (BeginsAt (rs_of l.separator) (joined l.fn.self)) l.from l.before;
   same : (k : ℕ) → k < length (joined l.rest) → begins_at (rs_of l.separator) (joined l.fn.self) (l.before + k) ≡ begins_at (rs_of l.separator) (joined l.rest) k;
 }
 
-abbrev pub decreases-loop-block : goal.decreases-loop-block
-decreases-loop-block l = length l.rest
+abbrev pub decreases-loop-bytes : goal.decreases-loop-bytes
+decreases-loop-bytes l = length l.rest
