@@ -1,7 +1,7 @@
 //! The files that are the input.
 
 use crate::reports::Stop;
-use pawk_par::{Blocks, Input, TooLarge};
+use pawk_par::{Input, TooLarge};
 use std::fs::File;
 use std::io::Read;
 use std::rt::Files;
@@ -32,8 +32,7 @@ pub(crate) fn read_files<R: Files + AllocGlobal>(rt: &R, names: &[&str]) -> Resu
             Ok(bytes) => bytes,
             Err(error) => return Err(Stop::read(alloc, *name, &error)),
         };
-        let blocks = Blocks::whole(alloc, bytes)?;
-        files.push((Vec::from_slice(alloc, name.as_bytes())?, blocks))?;
+        files.push((Vec::from_slice(alloc, name.as_bytes())?, bytes))?;
     }
     match Input::new(files) {
         Ok(input) => Ok(input),

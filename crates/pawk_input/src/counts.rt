@@ -14,7 +14,7 @@ ghost use Rattle.pawk_input.specs.Plan.{RefusesMany, chunks_at, places_by_size};
 use crate::cutting::{Chunk, CutRefusal};
 use crate::draft::{Draft, add_chunk, begin_or_end};
 use crate::files::Input;
-use pawk_blocks::Blocks;
+use pawk_blocks::LentBlocks;
 use pawk_records::Separator;
 use std::alloc::{AllocError, Global};
 use std::ops::Range;
@@ -97,7 +97,7 @@ pub(crate) struct Passed<'c> {
 /// How many records of a file begin before a place, and the blocks passed up to it.
 fn records_before<'c>(
     separator: Separator,
-    blocks: &Blocks,
+    blocks: &LentBlocks<'_>,
     block: usize,
     passed: Passed<'c>,
     place: usize,
@@ -145,7 +145,7 @@ impl Draft {
     pub(crate) fn add_by_counts(
         &mut self,
         file: usize,
-        blocks: &Blocks,
+        blocks: &LentBlocks<'_>,
         rs: &[u8],
         size: u64,
         block: usize,

@@ -11,13 +11,13 @@ ghost use Rattle.pawk_input.specs.Plan.{IsBeginOrEnd, RefusesMany, RisesFrom};
 ghost use Rattle.pawk_input.specs.Plan.{chunks_at, cut_places, offsets, places_by_size};
 
 use crate::cutting::{Chunk, CutRefusal, MOST_CHUNKS};
-use pawk_blocks::Blocks;
+use pawk_blocks::LentBlocks;
 use pawk_records::Separator;
 use std::alloc::Global;
 use std::ops::Range;
 
 /// The first place from `from` on at which a record begins, or the end where there is none.
-pub(crate) fn begin_or_end(separator: Separator, blocks: &Blocks, from: usize) -> usize
+pub(crate) fn begin_or_end(separator: Separator, blocks: &LentBlocks<'_>, from: usize) -> usize
     requires mended { AreMended (rs_of separator) blocks.now }
     requires limited { length (joined blocks.now) < 2 ^ 64 }
     ensures { IsBeginOrEnd (rs_of separator) (joined blocks.now) from result }
@@ -67,7 +67,7 @@ impl Draft {
         &mut self,
         file: usize,
         range: Range<usize>,
-        blocks: &Blocks,
+        blocks: &LentBlocks<'_>,
         separator: Separator,
         fnr: u64,
     ) -> Result<u64, CutRefusal>
@@ -100,7 +100,7 @@ impl Draft {
     pub(crate) fn add_by_size(
         &mut self,
         file: usize,
-        blocks: &Blocks,
+        blocks: &LentBlocks<'_>,
         rs: &[u8],
         size: u64,
     ) -> Result<(), CutRefusal>
@@ -140,7 +140,7 @@ impl Draft {
     pub(crate) fn add_at_cuts(
         &mut self,
         file: usize,
-        blocks: &Blocks,
+        blocks: &LentBlocks<'_>,
         rs: &[u8],
         cuts: &[(usize, usize)],
     ) -> Result<(), CutRefusal>

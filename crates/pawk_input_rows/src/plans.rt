@@ -4,7 +4,7 @@ ghost use Rattle.std.specs.Prelude.{◌≤◌, length};
 ghost use Rattle.pawk_input.specs.Input.{IsReady};
 
 use crate::files::{push_numbers, push_records};
-use pawk_input::{Blocks, CutRefusal, Input, Plan, TooLarge, count_blocks};
+use pawk_input::{CutRefusal, Input, Plan, TooLarge, count_blocks};
 use pawk_rows::{cell, number, piece, push_decimal};
 use std::alloc::{AllocError, Global};
 
@@ -130,8 +130,7 @@ pub fn push_at_cuts(
 /// An input of one file without a name, of this many empty records.
 fn empty_records(alloc: Global, count: usize) -> Result<Option<Input>, AllocError> {
     let mut files = Vec::new(alloc);
-    let blocks = Blocks::whole(alloc, vec![in alloc; b'\n'; count]?)?;
-    files.push((Vec::new(alloc), blocks))?;
+    files.push((Vec::new(alloc), vec![in alloc; b'\n'; count]?))?;
     Ok(Input::new(files).ok())
 }
 

@@ -11,25 +11,25 @@ use Rattle.pawk_input.proofs.plan.Plan.by_counts.Goals as goal
 
 pub split_at-requires : goal.split_at-requires
 split_at-requires c =
-    let bytes = joined c.blocks-blocks.result.now in
+    let bytes = joined c.blocks-blocks.result in
     let block = c.args.block in
     let count : c.block_number.result ≡ blocks_of block (length bytes) (length bytes) = c.block_number.ensures ∙ ap (λ n. blocks_of block n n) (c.size.ensures ∙ ap length (sym c.blocks-blocks.ensures.value)) in
-    omega (arith, count, enough_left c.args.rs.now c.args.block c.requires.block (files_of c.args.input.now) c.loop-file.file (joined c.blocks-blocks.result.now) c.loop-file.left.now (omega arith) c.blocks-blocks.ensures.value c.loop-file.invariant.counts)
+    omega (arith, count, enough_left c.args.rs.now c.args.block c.requires.block (files_of c.args.input.now) c.loop-file.file (joined c.blocks-blocks.result) c.loop-file.left.now (omega arith) c.blocks-blocks.ensures.value c.loop-file.invariant.counts)
 
 pub add_by_counts-requires-clause-counts : goal.add_by_counts-requires-clause-counts
 add_by_counts-requires-clause-counts c =
-    let bytes = joined c.blocks-blocks.result.now in
+    let bytes = joined c.blocks-blocks.result in
     let block = c.args.block in
     let count : c.block_number.result ≡ blocks_of block (length bytes) (length bytes) = c.block_number.ensures ∙ ap (λ n. blocks_of block n n) (c.size.ensures ∙ ap length (sym c.blocks-blocks.ensures.value)) in
     c.split_at.ensures.front ∙ ap (λ n. take n c.loop-file.left.now) count
-    ∙ counts_here c.args.rs.now c.args.block c.requires.block (files_of c.args.input.now) c.loop-file.file (joined c.blocks-blocks.result.now) c.loop-file.left.now (omega arith) c.blocks-blocks.ensures.value c.loop-file.invariant.counts
+    ∙ counts_here c.args.rs.now c.args.block c.requires.block (files_of c.args.input.now) c.loop-file.file (joined c.blocks-blocks.result) c.loop-file.left.now (omega arith) c.blocks-blocks.ensures.value c.loop-file.invariant.counts
 
 pub loop-file-preserved : goal.loop-file-preserved
 loop-file-preserved c =
     let rs = c.args.rs.now in
     let files = files_of c.args.input.now in
     let file = c.loop-file.file in
-    let bytes = joined c.blocks-blocks.result.now in
+    let bytes = joined c.blocks-blocks.result in
     let block = c.args.block in
     let count : c.block_number.result ≡ blocks_of block (length bytes) (length bytes) = c.block_number.ensures ∙ ap (λ n. blocks_of block n n) (c.size.ensures ∙ ap length (sym c.blocks-blocks.ensures.value)) in
     let size = c.args.bytes in
