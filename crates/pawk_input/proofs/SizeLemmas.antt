@@ -6,7 +6,9 @@ use Rattle.pawk_records.specs.Records.{records_by}
 use Rattle.pawk_records.specs.Begins.{BeginsAt, begins_at, begins_by, begins_within, places_where}
 use Rattle.pawk_records.proofs.BeginsLemmas.{begins_before, none_before, length-records_by, length-records_part}
 use Rattle.pawk_records.proofs.PlaceLemmas.{places_where-append, places_where-none}
+use Rattle.pawk_input.specs.declared.cutting.Chunk.{Chunk}
 use Rattle.pawk_input.specs.Plan.{IsBeginOrEnd, chunks_at, places_by_size, places_by_size_from}
+use Rattle.pawk_input.proofs.DraftLemmas.{moved, one_more_fits}
 
 within : (a b : ℕ) → a ≤ b → leb a b ≡ true
 within a b h = elim (leb_tells a b) [ inl y ↦ y.0 | inr n ↦ absurd (omega (arith, n.1)) ]
@@ -17,6 +19,13 @@ beyond a b h = elim (leb_tells a b) [ inl y ↦ absurd (omega (arith, y.1)) | in
 not_true : (v : Bool) → (v ≡ true → ⊥) → v ≡ false
 not_true true h = absurd (h refl)
 not_true false h = refl
+
+-- the next place lies further on
+pub next_up : (rs s : List ℕ) (p size q : ℕ) → 0 < size → p < length s → IsBeginOrEnd rs s (p + size) q → p < q
+next_up rs s p size q some lt h = elim (leb_tells (length s) q) [
+  | inl end ↦ omega (arith, end.1)
+  | inr more ↦ omega (arith, (h.begins more.1).0)
+]
 
 module _ (rs s : List ℕ) where
   abbrev test : ℕ → Bool
@@ -114,6 +123,25 @@ module _ (rs s : List ℕ) where
           fnr = length (records_by rs (take p s));
         } ∷ chunks_at rs k s nr (places_left q)) (reach q h.within (λ more. (h.begins more).1))
 
+    -- it was moved from those to come to those that are there
+    pub chunk_moved : (k nr p q : ℕ) (old new all : List Chunk) → 0 < size → p < length s → BeginsAt rs s p → IsBeginOrEnd rs s (p + size) q
+        → old ++ chunks_at rs k s nr (places_left p) ≡ all
+        → new ≡ old ++ record {
+          file = k;
+          range = record { start = p; end = q };
+          nr = nr + length (records_by rs (take p s));
+          fnr = length (records_by rs (take p s));
+        } ∷ []
+        → new ++ chunks_at rs k s nr (places_left q) ≡ all
+    chunk_moved k nr p q old new all some lt begins h is added =
+        moved old new all _ _ _ is (next_chunk k nr p q lt begins (next_up rs s p size q some lt h) h) added
+
+    -- so many are there at least
+    pub chunk_fits : (k nr p q : ℕ) (old before all : List Chunk) → 0 < size → p < length s → BeginsAt rs s p → IsBeginOrEnd rs s (p + size) q
+        → old ++ chunks_at rs k s nr (places_left p) ≡ before ++ all → length old + 1 ≤ length before + length all
+    chunk_fits k nr p q old before all some lt begins h is =
+        omega (arith, one_more_fits old (before ++ all) _ _ _ is (next_chunk k nr p q lt begins (next_up rs s p size q some lt h) h), length-append before all)
+
 -- a place past every file is as good as the greatest number
 pub from_greatest : (rs s : List ℕ) (from q : ℕ) → length s < 18446744073709551615 → IsBeginOrEnd rs s (min from 18446744073709551615) q → IsBeginOrEnd rs s from q
 from_greatest rs s from q few h = record {
@@ -153,10 +181,3 @@ few_before rs s q n le is = omega (arith, length-records_by rs (take q s), lengt
 
 pub all_before : (rs s : List ℕ) (q n : ℕ) → length s ≤ q → n ≡ length (records_by rs (take q s)) → n ≡ length (records_by rs s)
 all_before rs s q n le is = is ∙ ap (λ l. length (records_by rs l)) (take_all q s le)
-
--- the next place lies further on
-pub next_up : (rs s : List ℕ) (p size q : ℕ) → 0 < size → p < length s → IsBeginOrEnd rs s (p + size) q → p < q
-next_up rs s p size q some lt h = elim (leb_tells (length s) q) [
-  | inl end ↦ omega (arith, end.1)
-  | inr more ↦ omega (arith, (h.begins more.1).0)
-]
