@@ -28,6 +28,9 @@ fn separator(alloc: Global, row: &[u8], first: usize) -> Result<Vec<u8>, AllocEr
 
 /// The blocks of a file, with a bar between them.
 fn blocks_of(alloc: Global, word: &[u8]) -> Result<Blocks, AllocError> {
+    if !word.contains(&b'|') {
+        return Blocks::whole(alloc, decode(alloc, word)?);
+    }
     let mut blocks = Vec::new(alloc);
     for block in word.split(|byte| *byte == b'|') {
         blocks.push(decode(alloc, block)?)?;
