@@ -123,25 +123,6 @@ module _ (rs s : List ℕ) where
           fnr = length (records_by rs (take p s));
         } ∷ chunks_at rs k s nr (places_left q)) (reach q h.within (λ more. (h.begins more).1))
 
-    -- it was moved from those to come to those that are there
-    pub chunk_moved : (k nr p q : ℕ) (old new all : List Chunk) → 0 < size → p < length s → BeginsAt rs s p → IsBeginOrEnd rs s (p + size) q
-        → old ++ chunks_at rs k s nr (places_left p) ≡ all
-        → new ≡ old ++ record {
-          file = k;
-          range = record { start = p; end = q };
-          nr = nr + length (records_by rs (take p s));
-          fnr = length (records_by rs (take p s));
-        } ∷ []
-        → new ++ chunks_at rs k s nr (places_left q) ≡ all
-    chunk_moved k nr p q old new all some lt begins h is added =
-        moved old new all _ _ _ is (next_chunk k nr p q lt begins (next_up rs s p size q some lt h) h) added
-
-    -- so many are there at least
-    pub chunk_fits : (k nr p q : ℕ) (old before all : List Chunk) → 0 < size → p < length s → BeginsAt rs s p → IsBeginOrEnd rs s (p + size) q
-        → old ++ chunks_at rs k s nr (places_left p) ≡ before ++ all → length old + 1 ≤ length before + length all
-    chunk_fits k nr p q old before all some lt begins h is =
-        omega (arith, one_more_fits old (before ++ all) _ _ _ is (next_chunk k nr p q lt begins (next_up rs s p size q some lt h) h), length-append before all)
-
 -- a place past every file is as good as the greatest number
 pub from_greatest : (rs s : List ℕ) (from q : ℕ) → length s < 18446744073709551615 → IsBeginOrEnd rs s (min from 18446744073709551615) q → IsBeginOrEnd rs s from q
 from_greatest rs s from q few h = record {
@@ -149,6 +130,33 @@ from_greatest rs s from q few h = record {
   none = λ k le lt. h.none k (omega arith) lt;
   begins = λ lt. (let b = h.begins lt in (omega (arith, b.0), b.1));
 }
+
+-- a turn of a loop over the chunks: the next chunk, of those that are left, begins at p and ends at q
+module _ (rs s : List ℕ) (size k nr p q : ℕ) (old all : List Chunk) (some : 0 < size) (few : length s < 18446744073709551615) (lt : p < length s) (begins : BeginsAt rs s p)
+    (ends : IsBeginOrEnd rs s (min (p + size) 18446744073709551615) q) (is : old ++ chunks_at rs k s nr (places_left rs s size p) ≡ all) where
+  ends_far : IsBeginOrEnd rs s (p + size) q
+  ends_far = from_greatest rs s (p + size) q few ends
+
+  pub chunk_up : p < q
+  chunk_up = next_up rs s p size q some lt ends_far
+
+  next : chunks_at rs k s nr (places_left rs s size p) ≡ record {
+    file = k;
+    range = record { start = p; end = q };
+    nr = nr + length (records_by rs (take p s));
+    fnr = length (records_by rs (take p s));
+  } ∷ chunks_at rs k s nr (places_left rs s size q)
+  next = next_chunk rs s size k nr p q lt begins chunk_up ends_far
+
+  -- it moves from those to come to those that are there
+  pub chunk_moved : (new : List Chunk) (fnr : ℕ) → fnr ≡ length (records_by rs (take p s))
+      → new ≡ old ++ record { file = k; range = record { start = p; end = q }; nr = nr + fnr; fnr = fnr } ∷ []
+      → new ++ chunks_at rs k s nr (places_left rs s size q) ≡ all
+  chunk_moved new fnr count added = moved old new all _ _ _ is next (rw count at added)
+
+  -- so many are there at least
+  pub chunk_fits : length old + 1 ≤ length all
+  chunk_fits = one_more_fits old all _ _ _ is next
 
 module _ (rs s : List ℕ) (p q : ℕ) (up : p < q) (le : q ≤ length s) where
   pub part_end : p + length (take (q - p) (drop p s)) ≡ q
