@@ -128,6 +128,13 @@ module _ {S : Type 0} (calls : Calls S) where
   leaf_value (code.special x) m = special_value x m.state
   leaf_value (code.field n) m = field_at m.state.line n
 
+  abbrev pub value_of_leaf : Leaf → Part S Val
+  value_of_leaf l m = give (leaf_value l m) m
+
+  -- texts with OFS between them and ORS behind, as these are then
+  abbrev pub print_line : List (List ℕ) → Part S (Unit {0})
+  print_line ts m = print_text (joined_by (text_at calls ofs_slot m) ts ++ text_at calls ors_slot m) m
+
   -- subscripts joined by SUBSEP as it is then; one is no joining
   abbrev pub key_of : List (List ℕ) → Part S (List ℕ)
   key_of [] m = give [] m
@@ -173,7 +180,7 @@ module _ {S : Type 0} (calls : Calls S) (eres : List (List ℕ)) where
     abbrev mutual
       -- the value of an expression; `enter` is the call of a function
       pub eval : Expr → Part S Val
-      eval (leaf l) = λ m. give (leaf_value calls l m) m
+      eval (leaf l) = value_of_leaf calls l
       eval (numeric n) = bind (number_of n) (λ z. give (Num z))
       eval (test t) = bind (truth_of t) (λ h. give (one_or_zero h))
       eval (textual t) = bind (text_of_textual t) (λ s. give (Text s))
@@ -288,7 +295,7 @@ module _ {S : Type 0} (calls : Calls S) (eres : List (List ℕ)) where
     act (set p e) = bind (aim_of p) (λ aim. bind (eval e) (write_at calls aim))
     act (add s p e) = bind (aim_of p) (λ aim. bind (as_number (eval e)) (add_at calls s aim))
     act (count s p) = bind (aim_of p) (λ aim. add_at calls (sign_of s) aim (Ok (pos 1)))
-    act (print calm es) = bind (texts_of es []) (λ ts m. print_text (joined_by (text_at calls ofs_slot m) ts ++ text_at calls ors_slot m) m)
+    act (print calm es) = bind (texts_of es []) (print_line calls)
     act (printf f calm es) =
         bind (format_of f) (λ format. bind (values_of es []) (λ vs. bind (settle (formatted_text format vs)) print_text))
     act (delete a ks) = bind (subscripts ks) (λ key m. remove_in calls (array_at m.frame a) key m)

@@ -1,0 +1,75 @@
+//! Steps, keys and output.
+
+ghost use Rattle.std.specs.Prelude.{◌≡◌, ◌≤◌, ◌<◌, OnOk};
+ghost use Rattle.pawk_meaning.specs.Meaning.{key_of, print_line, print_text};
+ghost use Rattle.pawk_meaning.specs.Parts.{tick};
+ghost use Rattle.pawk_places.specs.Moments.{moment};
+ghost use Rattle.pawk_places.specs.Yields.{Yields};
+
+use crate::run::Run;
+use pawk_array::Texts;
+use pawk_world::{Halt, World};
+
+/// One step of the budget.
+///
+/// Fault `steps` where none is left.
+pub fn tick<W: World>(
+    world: &W,
+    run: &mut Run<'_>,
+) -> Result<(), Halt>
+    ensures left { run.new.left ≤ run.old.left }
+    ensures less { OnOk result (run.new.left < run.old.left) }
+    ensures outcome { Yields (λ _. tt)
+        (tick
+        (moment (W.state world.now) run.old)) result (moment (W.state world.now) run.new) }
+{
+    Err(Halt::Memory)
+}
+
+/// The key that subscripts spell: several are joined by SUBSEP.
+///
+/// Fault `length` where it is longer than a text may be.
+///
+/// POSIX.1-2017, awk, "Variables and Special Variables" (`SUBSEP`).
+pub fn key_of_texts<W: World>(
+    texts: &Texts,
+    world: &W,
+    run: &mut Run<'_>,
+) -> Result<Vec<u8>, Halt>
+    ensures left { run.new.left ≤ run.old.left }
+    ensures outcome { Yields (λ key. key.items)
+        (key_of W.calls texts.now
+        (moment (W.state world.now) run.old)) result (moment (W.state world.now) run.new) }
+{
+    Err(Halt::Memory)
+}
+
+/// Prints texts with OFS between them and ORS behind.
+///
+/// POSIX.1-2017, awk, "Output Statements" (`print`).
+pub fn print_line<W: World>(
+    texts: &Texts,
+    world: &W,
+    run: &mut Run<'_>,
+) -> Result<(), Halt>
+    ensures left { run.new.left ≤ run.old.left }
+    ensures outcome { Yields (λ _. tt)
+        (print_line W.calls texts.now
+        (moment (W.state world.now) run.old)) result (moment (W.state world.now) run.new) }
+{
+    Err(Halt::Memory)
+}
+
+/// Prints a text as it is.
+pub fn print_bytes<W: World>(
+    text: &[u8],
+    world: &W,
+    run: &mut Run<'_>,
+) -> Result<(), Halt>
+    ensures left { run.new.left ≤ run.old.left }
+    ensures outcome { Yields (λ _. tt)
+        (print_text text.now
+        (moment (W.state world.now) run.old)) result (moment (W.state world.now) run.new) }
+{
+    Err(Halt::Memory)
+}
