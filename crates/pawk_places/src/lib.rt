@@ -6,6 +6,7 @@ mod leaves;
 mod outputs;
 mod reading;
 mod run;
+mod scalars;
 mod target;
 mod writing;
 

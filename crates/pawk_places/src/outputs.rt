@@ -7,7 +7,10 @@ ghost use Rattle.pawk_places.specs.Moments.{moment};
 ghost use Rattle.pawk_places.specs.Yields.{Yields};
 
 use crate::run::Run;
+use crate::scalars::{OFS, ORS, SUBSEP, push_joined, scalar_text};
+use itoa::Buffer;
 use pawk_array::Texts;
+use pawk_value::{Fault, LENGTH_LIMIT};
 use pawk_world::{Halt, World};
 
 /// One step of the budget.
@@ -20,7 +23,11 @@ pub fn tick<W: World>(world: &W, run: &mut Run<'_>) -> Result<(), Halt>
         (tick
         (moment (W.state world.now) run.old)) result (moment (W.state world.now) run.new) }
 {
-    Err(Halt::Memory)
+    if run.left == 0 {
+        return Err(Halt::Fault(Fault::Steps));
+    }
+    run.left -= 1;
+    Ok(())
 }
 
 /// The key that subscripts spell: several are joined by SUBSEP.
@@ -34,7 +41,20 @@ pub fn key_of_texts<W: World>(texts: &Texts, world: &W, run: &mut Run<'_>) -> Re
         (key_of W.calls texts.now
         (moment (W.state world.now) run.old)) result (moment (W.state world.now) run.new) }
 {
-    Err(Halt::Memory)
+    let mut key = Vec::new(run.alloc);
+    if texts.len() == 0 {
+        return Ok(key);
+    }
+    if texts.len() == 1 {
+        key.extend_from_slice(texts.text(0))?;
+        return Ok(key);
+    }
+    let mut buffer = Buffer::new();
+    push_joined(texts, scalar_text(SUBSEP, world, &mut buffer), &mut key)?;
+    if key.len() > LENGTH_LIMIT {
+        return Err(Halt::Fault(Fault::Length));
+    }
+    Ok(key)
 }
 
 /// Prints texts with OFS between them and ORS behind.
@@ -46,7 +66,16 @@ pub fn print_line<W: World>(texts: &Texts, world: &W, run: &mut Run<'_>) -> Resu
         (print_line W.calls texts.now
         (moment (W.state world.now) run.old)) result (moment (W.state world.now) run.new) }
 {
-    Err(Halt::Memory)
+    let mut between = Buffer::new();
+    let mut behind = Buffer::new();
+    push_joined(
+        texts,
+        scalar_text(OFS, world, &mut between),
+        &mut run.output,
+    )?;
+    run.output
+        .extend_from_slice(scalar_text(ORS, world, &mut behind))?;
+    Ok(())
 }
 
 /// Prints a text as it is.
@@ -56,5 +85,6 @@ pub fn print_bytes<W: World>(text: &[u8], world: &W, run: &mut Run<'_>) -> Resul
         (print_text text.now
         (moment (W.state world.now) run.old)) result (moment (W.state world.now) run.new) }
 {
-    Err(Halt::Memory)
+    run.output.extend_from_slice(text)?;
+    Ok(())
 }
