@@ -3,6 +3,7 @@
 
 mod arrays;
 mod leaves;
+mod locals;
 mod outputs;
 mod reading;
 mod run;
