@@ -1,11 +1,11 @@
 -- A text with its replacements that a place gets.
-use Rattle.std.proofs.Common.{◌≡◌, ℕ, ◌<◌, ◌≤◌, ◌==◌, false, refl, List, length, pos, Result, Ok, Err, arith}
+use Rattle.std.proofs.Common.{◌≡◌, ℕ, ◌<◌, ◌≤◌, ◌==◌, false, refl, List, length, pos, Ok, Err, arith}
 use Rattle.std.proofs.lemmas.Bool.Decides.{nat_tests}
 use Rattle.pawk_value.specs.Value.{Text}
 use Rattle.pawk_value.specs.Fault.TheVariants.{Length}
 use Rattle.pawk_world.specs.Worlds.{Calls}
 use Rattle.pawk_meaning.specs.Builtins.{Replaced, within_limit}
-use Rattle.pawk_meaning.specs.Parts.{Moment, Outcome, bind, give, settle}
+use Rattle.pawk_meaning.specs.Parts.{Moment, bind, give, settle}
 use Rattle.pawk_meaning.specs.Places.{Aim, write_at}
 use Rattle.pawk_meaning.specs.Meaning.{put_replaced}
 

@@ -1,5 +1,3 @@
-use Rattle.std.proofs.Common.{◌++◌, sym, ◌∙◌, ap}
-use Rattle.std.specs.Prelude.{◌≡◌}
 use Rattle.pawk_places.proofs.Joining.{joined_next}
 use Rattle.pawk_places.proofs.scalars.push_joined.Goals as goal
 

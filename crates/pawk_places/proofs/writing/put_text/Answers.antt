@@ -1,5 +1,4 @@
-use Rattle.std.proofs.Common.{◌≡◌, ◌<◌, ap, ◌∙◌, arith, rules, length, ◌≤◌}
-use Rattle.pawk_meaning.specs.Parts.{bind, give, settle}
+use Rattle.std.proofs.Common.{◌<◌, arith, rules, length, ◌≤◌}
 use Rattle.pawk_places.proofs.Putting.{put_some, too_long, short}
 use Rattle.pawk_places.proofs.writing.put_text.Goals as goal
 
