@@ -8,7 +8,8 @@ ghost use Rattle.pawk_builtins.specs.ExpressionViews.{texts_of};
 ghost use Rattle.pawk_builtins.specs.Pieces.{pieces_in};
 ghost use Rattle.pawk_meaning.specs.Parts.{bind, settle};
 ghost use Rattle.pawk_meaning.specs.Meaning.{fill_from, pieces_of, split_into};
-ghost use Rattle.pawk_meaning.specs.Places.{clear_of, element_of, holds_in, keys_of, remove_in, write_at};
+ghost use Rattle.pawk_meaning.specs.Places.{clear_of, element_of, holds_in, keys_of};
+ghost use Rattle.pawk_meaning.specs.Places.{remove_in, write_at};
 ghost use Rattle.pawk_places.specs.Moments.{moment, table_view};
 ghost use Rattle.pawk_places.specs.Yields.{Yields};
 
@@ -180,8 +181,8 @@ fn fill_array<W: World>(
     Ok(())
 }
 
-/// Empties an array, splits a text, and puts the pieces at the keys 1, 2 and so on. Gives how many there
-/// are.
+/// Empties an array, splits a text, and puts the pieces at the keys 1, 2 and so on. Gives how many
+/// there are.
 ///
 /// Faults `fs` and `ere` of the separator come when the array is empty already.
 ///

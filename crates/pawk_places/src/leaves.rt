@@ -54,7 +54,8 @@ fn lend_leaf<'a, W: World>(leaf: &'a Leaf, world: &'a W, run: &'a Run<'_>) -> Va
     }
 }
 
-/// The value of a parameter, which is lent; none where there is no such parameter, or it is an array.
+/// The value of a parameter, which is lent; none where there is no such parameter, or it is an
+/// array.
 pub(crate) fn lend_parameter(frame: &[Parameter], number: usize) -> ValueRef<'_>
     ensures { lent_value result ≡ local_at (holds_of frame.now) number }
 {

@@ -68,8 +68,8 @@ fn old_element_number<W: World>(
     Ok(to_num_lent(lend_held(held, bytes.as_slice())))
 }
 
-/// The number of the old value of a place that is assigned, or the fault of its conversion. An element
-/// is created.
+/// The number of the old value of a place that is assigned, or the fault of its conversion. An
+/// element is created.
 pub(crate) fn old_number<W: World>(
     target: &Target,
     world: &mut W,

@@ -5,7 +5,7 @@ ghost use Rattle.pawk_value.specs.Value.{lent_value};
 ghost use Rattle.pawk_meaning.specs.Builtins.{Replaced};
 ghost use Rattle.pawk_meaning.specs.Meaning.{place_of_match, put_replaced, set_match};
 ghost use Rattle.pawk_meaning.specs.Places.{add_at, change_at, field_value, write_at};
-ghost use Rattle.pawk_meaning.specs.Parts as holds;
+ghost use Rattle.pawk_meaning.specs.Parts as parts;
 ghost use Rattle.pawk_world.specs.Sums as sums;
 ghost use Rattle.pawk_places.specs.Moments.{aim_view, hold_of, holds_of, moment};
 ghost use Rattle.pawk_places.specs.Yields.{Yields};
@@ -27,7 +27,7 @@ fn assign_parameter(
     parameter: &mut Parameter,
     value: ValueRef<'_>,
 ) -> Result<(), AllocError>
-    ensures { OnOk result (hold_of parameter.new ≡ holds.value (lent_value value.entry)) }
+    ensures { OnOk result (hold_of parameter.new ≡ parts.value (lent_value value.entry)) }
 {
     match parameter {
         Parameter::Value(old) => assign(alloc, old, value),
@@ -46,7 +46,7 @@ fn set_parameter(
     value: ValueRef<'_>,
 ) -> Result<(), AllocError>
     ensures { OnOk result (holds_of frame.new.items
-        ≡ slice_set (holds_of frame.old.items) number (holds.value (lent_value value.entry))) }
+        ≡ slice_set (holds_of frame.old.items) number (parts.value (lent_value value.entry))) }
 {
     if number < frame.len() {
         assign_parameter(alloc, &mut frame[number], value)?;
