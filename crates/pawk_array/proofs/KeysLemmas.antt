@@ -19,7 +19,7 @@ use Rattle.std.proofs.lemmas.Slice.Eq.{bytes_eq-Decides}
 use Rattle.pawk_scalar.specs.declared.values.Value.{Value}
 use Rattle.pawk_array.specs.Entries.{Entries, order, keys}
 use Rattle.pawk_array.specs.ArrayViews.{entries_of}
-use Rattle.pawk_array.specs.Keys.{texts_in, AreWithin}
+use Rattle.pawk_array.specs.Texts.{texts_in, AreWithin}
 use Rattle.pawk_array.proofs.EntriesLemmas.{total, same_text, holds, flip}
 use Rattle.pawk_array.proofs.PairsLemmas.{Key, Pairs, same_bytes, has_bytes, rise-entries_of, contains_by}
 

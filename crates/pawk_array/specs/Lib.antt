@@ -1,5 +1,5 @@
 pub mod Entries
 pub mod ArrayViews
 pub mod Lending
-pub mod Keys
+pub mod Texts
 pub mod Law

@@ -9,7 +9,7 @@ ghost use Rattle.pawk_array.specs.Entries.{found, put, without, value_of, touche
 ghost use Rattle.pawk_array.specs.ArrayViews.{entries_of, HasKeyAt};
 ghost use Rattle.pawk_array.specs.Lending.{LendsElement, EndsTouched};
 
-use crate::keys::Keys;
+use crate::texts::Texts;
 use indexmap::IndexMap;
 use itoa::Buffer;
 use pawk_value::{Value, ValueRef, assign, copy_value, lend};
@@ -180,7 +180,7 @@ impl Array {
     }
 
     /// All keys, in the order of their bytes.
-    pub fn keys(&self, alloc: Global) -> Result<Keys, AllocError>
+    pub fn keys(&self, alloc: Global) -> Result<Texts, AllocError>
         ensures { IfOk result (λ all. all ≡ keys self.now) }
     {
         let mut sorted = Vec::with_capacity(alloc, self.map.len())?;
@@ -189,6 +189,6 @@ impl Array {
             sorted.push(key.as_slice())?;
         }
         sorted.sort_unstable();
-        Keys::of(alloc, sorted.as_slice())
+        Texts::of(alloc, sorted.as_slice())
     }
 }

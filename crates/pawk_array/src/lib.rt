@@ -2,8 +2,8 @@
 #![tactic(auto)]
 
 mod array;
-mod keys;
 pub mod laws;
+mod texts;
 
 pub use array::Array;
-pub use keys::Keys;
+pub use texts::Texts;

@@ -1,7 +1,7 @@
 //! Calls of an array.
 
 use crate::ranges::{are_within, pieces};
-use pawk_array::{Array, Keys};
+use pawk_array::{Array, Texts};
 use pawk_rows::{decode, number, piece, push_decimal, push_encoded};
 use pawk_value::{Value, ValueRef};
 use std::alloc::{AllocError, Global};
@@ -34,28 +34,28 @@ fn push_value(value: ValueRef<'_>, out: &mut Vec<u8>) -> Result<(), AllocError> 
 }
 
 /// Adds all keys, parted by `|`.
-fn push_keys(keys: &Keys, out: &mut Vec<u8>) -> Result<(), AllocError> {
+fn push_keys(keys: &Texts, out: &mut Vec<u8>) -> Result<(), AllocError> {
     for place in 0..keys.len() {
         if place > 0 {
             out.extend_from_slice(b"|")?;
         }
-        push_encoded(keys.key(place), out)?;
+        push_encoded(keys.text(place), out)?;
     }
     Ok(())
 }
 
 /// Adds the first and the last key, and whether the keys rise.
-fn push_ends(keys: &Keys, out: &mut Vec<u8>) -> Result<(), AllocError> {
+fn push_ends(keys: &Texts, out: &mut Vec<u8>) -> Result<(), AllocError> {
     let count = keys.len();
     if count == 0 {
         return Ok(());
     }
-    push_encoded(keys.key(0), out)?;
+    push_encoded(keys.text(0), out)?;
     out.extend_from_slice(b" ")?;
-    push_encoded(keys.key(count - 1), out)?;
+    push_encoded(keys.text(count - 1), out)?;
     let mut rises = true;
     for place in 1..count {
-        if keys.key(place - 1) >= keys.key(place) {
+        if keys.text(place - 1) >= keys.text(place) {
             rises = false;
         }
     }

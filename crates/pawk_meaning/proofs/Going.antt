@@ -9,7 +9,7 @@ use Rattle.pawk_world.specs.Halts as halt
 use Rattle.pawk_world.specs.Worlds.{Request, Answer, Calls}
 use Rattle.pawk_world.specs.Worlds as world
 use Rattle.pawk_store.specs.RecordStates.{RecordState}
-use Rattle.pawk_meaning.specs.Parts.{Hold, Moment, Outcome, gives, halts, Part, give, halt_with, settle, ask, then_do, bind, numbered, tested, texted, tick, tick_at}
+use Rattle.pawk_meaning.specs.Parts.{Hold, Moment, Outcome, gives, halts, Part, give, halt_with, settle, ask, then_do, bind, as_number, as_truth, as_text, tick, tick_at}
 use Rattle.pawk_meaning.specs.Places.{with_record, text_at}
 use Rattle.pawk_meaning.specs.Meaning.{decide}
 use Rattle.pawk_meaning.specs.Lockstep.{variable_slot, looks, access_of, global_of, Pair, AllHeld, refusal_of, state_of, SameAnswer, SameMoment, SameOutcome, AreInLockstep, InStep, EndsBy, FirstGoesOn, SecondGoesOn}
@@ -210,14 +210,14 @@ module _ {S T : Type 0} {t : Track S T} where
         (t.lockstep.ask q may m.world n.world same.worlds);
   }
 
-  pub goes_numbered : {p : Part S Val} {q : Part T Val} → Goes t Any p q → Goes t Any (numbered p) (numbered q)
-  goes_numbered g = goes_bind g (λ v _. goes_plain (num_of v))
+  pub goes_as_number : {p : Part S Val} {q : Part T Val} → Goes t Any p q → Goes t Any (as_number p) (as_number q)
+  goes_as_number g = goes_bind g (λ v _. goes_plain (num_of v))
 
-  pub goes_tested : {p : Part S Val} {q : Part T Val} → Goes t Any p q → Goes t Any (tested p) (tested q)
-  goes_tested g = goes_bind g (λ v _. goes_plain (truth_of v))
+  pub goes_as_truth : {p : Part S Val} {q : Part T Val} → Goes t Any p q → Goes t Any (as_truth p) (as_truth q)
+  goes_as_truth g = goes_bind g (λ v _. goes_plain (truth_of v))
 
-  pub goes_texted : (s : List ℕ) {p : Part S Val} {q : Part T Val} → Goes t Any p q → Goes t Any (texted s p) (texted s q)
-  goes_texted s g = goes_bind g (λ v _. goes_plain (s ++ text_of v))
+  pub goes_as_text : (s : List ℕ) {p : Part S Val} {q : Part T Val} → Goes t Any p q → Goes t Any (as_text s p) (as_text s q)
+  goes_as_text s g = goes_bind g (λ v _. goes_plain (s ++ text_of v))
 
   pub goes_dropped : {X : Type 0} {p : Part S X} {q : Part T X} → Goes t Any p q → Goes t Any (bind p (λ _. give (tt {0}))) (bind q (λ _. give (tt {0})))
   goes_dropped g = goes_bind g (λ _ _. goes_plain (tt {0}))

@@ -3,7 +3,6 @@ use Rattle.std.proofs.Common.{◌≡◌, ℕ, suc, List, [], ◌∷◌, Option, 
 use Rattle.std.specs.Prelude.{slice_set}
 use Rattle.pawk_value.specs.Fault.{Fault}
 use Rattle.pawk_value.specs.Value.{Maybe}
-use Rattle.pawk_pattern.specs.Pattern.{Pattern as Regular}
 use Rattle.pawk_record.specs.Records.{read}
 use Rattle.pawk_world.specs.Halts.{Halt}
 use Rattle.pawk_world.specs.Halts as halt
@@ -17,13 +16,13 @@ use Rattle.pawk_input.specs.Input.{Item}
 use Rattle.pawk_meaning.specs.Limits.{greatest_calls}
 use Rattle.pawk_meaning.specs.Parts.{Moment, Outcome, gives, halts, Part, give}
 use Rattle.pawk_meaning.specs.Meaning.{call_at}
-use Rattle.pawk_meaning.specs.Records.{Left, through, next_file, exit, fault, clash, is_inside, End, end_of_halt, end_of, started, after_read, stays_inside, holds, does, reads, begins, in_range, selects, rules_from, one_record}
+use Rattle.pawk_meaning.specs.Records.{Left, through, next_file, exit, fault, clash, is_inside, End, end_of_halt, end_of, run_part, after_read, stays_inside, holds, does, reads, begins, in_range, selects, rules_from, one_record}
 use Rattle.pawk_meaning.specs.Runs.{is_skipped, behind, records_from}
 use Rattle.pawk_meaning.specs.Lockstep.{Access, Global, Pair, IsPrefix, refusal_of, state_of, world_of, output_of, Reaches, SameOutcome, InStep, GoesOn, EndsBy}
 use Rattle.pawk_meaning.specs.Allows.{LooksAt, Allows, AllowsStmts, AllowsFunctions, AllowsSelector, AllowsRules, AllowsMain}
 use Rattle.pawk_meaning.specs.Laws.{EndReaches, IsFinal, RefusalsAreFinal, LeftBy, SameEnd, EndsInStep}
 use Rattle.pawk_meaning.proofs.Later.{prefix_here, prefix_then, Any, Later}
-use Rattle.pawk_meaning.proofs.Going.{Track, Goes, goes_bind, goes_nearby, goes_plain, goes_settle, goes_fault, goes_stated, goes_spelled, goes_tested, goes_if}
+use Rattle.pawk_meaning.proofs.Going.{Track, Goes, goes_bind, goes_nearby, goes_plain, goes_settle, goes_fault, goes_stated, goes_spelled, goes_as_truth, goes_if}
 use Rattle.pawk_meaning.proofs.InExpressions.{goes_eval}
 use Rattle.pawk_meaning.proofs.InStatements.{goes_call_at, goes_program}
 
@@ -39,14 +38,14 @@ module _ {S T : Type 0} {t : Track S T} where
   goes_if_at true g h = g
   goes_if_at false g h = h
 
-module _ {S T : Type 0} {t : Track S T} (patterns : List Regular) (functions : List Function) (may : AllowsFunctions t.pair.permits functions) where
-  goes_holds : (e : Expr) → Allows t.pair.permits e → Goes t Any (holds t.pair.first_calls patterns functions e) (holds t.pair.second_calls patterns functions e)
-  goes_holds e may' = goes_bind (goes_tested (goes_eval patterns (call_at t.pair.first_calls patterns functions greatest_calls) (call_at t.pair.second_calls patterns functions greatest_calls) (goes_call_at patterns functions may greatest_calls) e may')) (λ r _. goes_settle r)
+module _ {S T : Type 0} {t : Track S T} (eres : List (List ℕ)) (functions : List Function) (may : AllowsFunctions t.pair.permits functions) where
+  goes_holds : (e : Expr) → Allows t.pair.permits e → Goes t Any (holds t.pair.first_calls eres functions e) (holds t.pair.second_calls eres functions e)
+  goes_holds e may' = goes_bind (goes_as_truth (goes_eval eres (call_at t.pair.first_calls eres functions greatest_calls) (call_at t.pair.second_calls eres functions greatest_calls) (goes_call_at eres functions may greatest_calls) e may')) (λ r _. goes_settle r)
 
-  goes_does : (body : Stmts) → AllowsStmts t.pair.permits body → Goes t Any (does t.pair.first_calls patterns functions body) (does t.pair.second_calls patterns functions body)
-  goes_does body may' = goes_bind (goes_program patterns functions body may may' greatest_calls) (λ _ _. goes_plain (tt {0}))
+  goes_does : (body : Stmts) → AllowsStmts t.pair.permits body → Goes t Any (does t.pair.first_calls eres functions body) (does t.pair.second_calls eres functions body)
+  goes_does body may' = goes_bind (goes_program eres functions body may may' greatest_calls) (λ _ _. goes_plain (tt {0}))
 
-  goes_reads : LooksAt t.pair.permits fs_slot → (i : Item) → Goes t Any (reads t.pair.first_calls patterns functions i) (reads t.pair.second_calls patterns functions i)
+  goes_reads : LooksAt t.pair.permits fs_slot → (i : Item) → Goes t Any (reads t.pair.first_calls eres functions i) (reads t.pair.second_calls eres functions i)
   goes_reads may' i = goes_spelled Any fs_slot
       (λ fs m. let r = read fs (is_paragraph m.state) i.bytes in after_read r.1 (record m { state = record m.state { line = r.0; nr = suc m.state.nr; fnr = i.fnr; name = Maybe i.name } }))
       (λ fs m. let r = read fs (is_paragraph m.state) i.bytes in after_read r.1 (record m { state = record m.state { line = r.0; nr = suc m.state.nr; fnr = i.fnr; name = Maybe i.name } }))
@@ -55,28 +54,28 @@ module _ {S T : Type 0} {t : Track S T} (patterns : List Regular) (functions : L
       (goes_nearby Any (λ e. let r = read fs (is_paragraph e.state) i.bytes in (r.1, record e { state = record e.state { line = r.0; nr = suc e.state.nr; fnr = i.fnr; name = Maybe i.name } })) (λ e held. (tt, held)))
       (λ f _. goes_after_read f))
 
-  goes_begins : (n : ℕ) (p : Expr) → Allows t.pair.permits p → Goes t Any (begins t.pair.first_calls patterns functions n p) (begins t.pair.second_calls patterns functions n p)
+  goes_begins : (n : ℕ) (p : Expr) → Allows t.pair.permits p → Goes t Any (begins t.pair.first_calls eres functions n p) (begins t.pair.second_calls eres functions n p)
   goes_begins n p may' = goes_stated Any
-      (λ s m. if is_inside n s then give true m else holds t.pair.first_calls patterns functions p m)
-      (λ s m. if is_inside n s then give true m else holds t.pair.second_calls patterns functions p m)
+      (λ s m. if is_inside n s then give true m else holds t.pair.first_calls eres functions p m)
+      (λ s m. if is_inside n s then give true m else holds t.pair.second_calls eres functions p m)
       (λ s. goes_if_at (is_inside n s) (goes_plain true) (goes_holds p may'))
 
-  goes_in_range : (n : ℕ) (q : Expr) → Allows t.pair.permits q → (b : Bool) → Goes t Any (in_range t.pair.first_calls patterns functions n q b) (in_range t.pair.second_calls patterns functions n q b)
+  goes_in_range : (n : ℕ) (q : Expr) → Allows t.pair.permits q → (b : Bool) → Goes t Any (in_range t.pair.first_calls eres functions n q b) (in_range t.pair.second_calls eres functions n q b)
   goes_in_range n q may' true = goes_bind (goes_holds q may') (λ ends _. goes_stays n (not ends))
   goes_in_range n q may' false = goes_plain false
 
-  goes_selects : (n : ℕ) (s : Selector) → AllowsSelector t.pair.permits s → Goes t Any (selects t.pair.first_calls patterns functions n s) (selects t.pair.second_calls patterns functions n s)
+  goes_selects : (n : ℕ) (s : Selector) → AllowsSelector t.pair.permits s → Goes t Any (selects t.pair.first_calls eres functions n s) (selects t.pair.second_calls eres functions n s)
   goes_selects n always may' = goes_plain true
   goes_selects n (matching e) may' = goes_holds e may'
   goes_selects n (between p q) may' = goes_bind (goes_begins n p may'.0) (λ b _. goes_in_range n q may'.1 b)
 
-  goes_rules : (n : ℕ) (rules : List Rule) → AllowsRules t.pair.permits rules → Goes t Any (rules_from t.pair.first_calls patterns functions n rules) (rules_from t.pair.second_calls patterns functions n rules)
+  goes_rules : (n : ℕ) (rules : List Rule) → AllowsRules t.pair.permits rules → Goes t Any (rules_from t.pair.first_calls eres functions n rules) (rules_from t.pair.second_calls eres functions n rules)
   goes_rules n [] may' = goes_plain (tt {0})
   goes_rules n (r ∷ rs) may' = goes_bind (goes_selects n r.selector may'.0) (λ h _. goes_bind (goes_if h (goes_does r.body may'.1) (goes_plain (tt {0}))) (λ _ _. goes_rules (suc n) rs may'.2))
 
-module _ {S T : Type 0} {t : Track S T} (patterns : List Regular) (functions : List Function) (rules : List Rule) (may : AllowsMain t.pair.permits functions rules) where
-  pub goes_record : (i : Item) → Goes t Any (one_record t.pair.first_calls patterns functions rules i) (one_record t.pair.second_calls patterns functions rules i)
-  goes_record i = goes_bind (goes_reads patterns functions may.1 may.0 i) (λ _ _. goes_rules patterns functions may.1 0 rules may.2)
+module _ {S T : Type 0} {t : Track S T} (eres : List (List ℕ)) (functions : List Function) (rules : List Rule) (may : AllowsMain t.pair.permits functions rules) where
+  pub goes_record : (i : Item) → Goes t Any (one_record t.pair.first_calls eres functions rules i) (one_record t.pair.second_calls eres functions rules i)
+  goes_record i = goes_bind (goes_reads eres functions may.1 may.0 i) (λ _ _. goes_rules eres functions may.1 0 rules may.2)
 
 -- ---- the end of a part
 
@@ -154,26 +153,26 @@ module _ {S : Type 0} (permits : Access → Global → Type 0) (before : S → S
       let k = behind_onto go file e.left e h in
       (on.then s e.world (behind go file e.left e).world is.0 k.0, prefix_then out e.output (behind go file e.left e).output is.1 k.1)
 
-  module _ (patterns : List Regular) (code : Code) (budget : ℕ) where
+  module _ (eres : List (List ℕ)) (code : Code) (budget : ℕ) where
     abbrev record_end : Item → End S → End S
-    record_end i e = started (one_record calls patterns code.functions code.rules i) budget e.world e.state e.output
+    record_end i e = run_part (one_record calls eres code.functions code.rules i) budget e.world e.state e.output
 
     module _ (goes : (i : Item) (e : End S) → Onto e (record_end i e) × LeftBy (EndsBy on) (record_end i e).left) where
-      records_onto : (items : List Item) (skip : Option ℕ) (e : End S) → Onto e (records_from calls patterns code budget skip e items)
+      records_onto : (items : List Item) (skip : Option ℕ) (e : End S) → Onto e (records_from calls eres code budget skip e items)
       records_onto [] skip e = onto_here e
       records_onto (i ∷ is') skip e =
           let r = record_end i e in
-          let go : Option ℕ → End S → End S = λ s x. records_from calls patterns code budget s x is' in
-          onto_if (is_skipped skip i) e (records_from calls patterns code budget skip e is') (behind go i.file r.left r)
+          let go : Option ℕ → End S → End S = λ s x. records_from calls eres code budget s x is' in
+          onto_if (is_skipped skip i) e (records_from calls eres code budget skip e is') (behind go i.file r.left r)
           (records_onto is' skip e)
           (onto_then e r (behind go i.file r.left r) (goes i e).0 (behind_onto go i.file r.left r (λ s. records_onto is' s r)))
 
-      records_left : (items : List Item) (skip : Option ℕ) (e : End S) → LeftBy (EndsBy on) e.left → LeftBy (EndsBy on) (records_from calls patterns code budget skip e items).left
+      records_left : (items : List Item) (skip : Option ℕ) (e : End S) → LeftBy (EndsBy on) e.left → LeftBy (EndsBy on) (records_from calls eres code budget skip e items).left
       records_left [] skip e h = h
       records_left (i ∷ is') skip e h =
           let r = record_end i e in
-          let go : Option ℕ → End S → End S = λ s x. records_from calls patterns code budget s x is' in
-          left_if (is_skipped skip i) (records_from calls patterns code budget skip e is') (behind go i.file r.left r)
+          let go : Option ℕ → End S → End S = λ s x. records_from calls eres code budget s x is' in
+          left_if (is_skipped skip i) (records_from calls eres code budget skip e is') (behind go i.file r.left r)
           (records_left is' skip e h)
           (behind_left go i.file r.left r (goes i e).1 (λ s. records_left is' s r (goes i e).1))
 
@@ -221,34 +220,34 @@ module _ {S T : Type 0} (w : Pair S T) where
   same_behind go go' file (fault x) e f same h = inl same
   same_behind go go' file clash e f same h = inl same
 
-module _ {S T : Type 0} (t : Track S T) (final : RefusalsAreFinal t.pair.first_calls) (final' : RefusalsAreFinal t.pair.second_calls) (patterns : List Regular) (code : Code) (may : AllowsMain t.pair.permits code.functions code.rules) (budget : ℕ) where
+module _ {S T : Type 0} (t : Track S T) (final : RefusalsAreFinal t.pair.first_calls) (final' : RefusalsAreFinal t.pair.second_calls) (eres : List (List ℕ)) (code : Code) (may : AllowsMain t.pair.permits code.functions code.rules) (budget : ℕ) where
   abbrev first_record_end : Item → End S → End S
-  first_record_end i e = record_end t.pair.permits t.pair.before t.pair.first_calls t.first patterns code budget i e
+  first_record_end i e = record_end t.pair.permits t.pair.before t.pair.first_calls t.first eres code budget i e
 
   abbrev second_record_end : Item → End T → End T
-  second_record_end i f = record_end t.pair.permits t.pair.before_second t.pair.second_calls t.second patterns code budget i f
+  second_record_end i f = record_end t.pair.permits t.pair.before_second t.pair.second_calls t.second eres code budget i f
 
   abbrev moment_of : {Q : Type 0} → End Q → Moment Q
   moment_of e = record { world = e.world; state = e.state; frame = []; arrays = []; output = e.output; left = budget }
 
   first_goes : (i : Item) (e : End S) → Onto t.pair.permits t.pair.before t.pair.first_calls t.first e (first_record_end i e) × LeftBy (EndsBy t.first) (first_record_end i e).left
   first_goes i e =
-      let l = (goes_record {t = t} patterns code.functions code.rules may i).first (moment_of e) tt in
-      let o = one_record t.pair.first_calls patterns code.functions code.rules i (moment_of e) in
+      let l = (goes_record {t = t} eres code.functions code.rules may i).first (moment_of e) tt in
+      let o = one_record t.pair.first_calls eres code.functions code.rules i (moment_of e) in
       (end_onto t.pair.before e.world e.output o (l.world, l.output), end_left t.pair.permits (EndsBy t.first) t.pair.before Any e.world e.output o l)
 
   second_goes : (i : Item) (f : End T) → Onto t.pair.permits t.pair.before_second t.pair.second_calls t.second f (second_record_end i f) × LeftBy (EndsBy t.second) (second_record_end i f).left
   second_goes i f =
-      let l = (goes_record {t = t} patterns code.functions code.rules may i).second (moment_of f) tt in
-      let o = one_record t.pair.second_calls patterns code.functions code.rules i (moment_of f) in
+      let l = (goes_record {t = t} eres code.functions code.rules may i).second (moment_of f) tt in
+      let o = one_record t.pair.second_calls eres code.functions code.rules i (moment_of f) in
       (end_onto t.pair.before_second f.world f.output o (l.world, l.output), end_left t.pair.permits (EndsBy t.second) t.pair.before_second Any f.world f.output o l)
 
   record_in_step : (i : Item) (e : End S) (f : End T) → SameEnd t.pair e f → EndsInStep t.pair (first_record_end i e) (second_record_end i f)
   record_in_step i e f same =
       in_step_ends t.pair
-      (one_record t.pair.first_calls patterns code.functions code.rules i (moment_of e))
-      (one_record t.pair.second_calls patterns code.functions code.rules i (moment_of f))
-      ((goes_record {t = t} patterns code.functions code.rules may i).alike (moment_of e) (moment_of f)
+      (one_record t.pair.first_calls eres code.functions code.rules i (moment_of e))
+      (one_record t.pair.second_calls eres code.functions code.rules i (moment_of f))
+      ((goes_record {t = t} eres code.functions code.rules may i).alike (moment_of e) (moment_of f)
       (record { worlds = same.worlds; states = same.states; frames = refl; arrays = refl; outputs = same.outputs; lefts = refl }) tt)
 
   -- how both go on behind a record
@@ -268,25 +267,25 @@ module _ {S T : Type 0} (t : Track S T) (final : RefusalsAreFinal t.pair.first_c
         second_then = reaches_behind t.pair.permits t.pair.before_second t.pair.second_calls t.second (refusal_of b) (state_of b) k.state k.output f go' file (final' k.request k.second) onto' k.second_then;
       }))
 
-  pub records_in_step : (items : List Item) (skip : Option ℕ) (e : End S) (f : End T) → SameEnd t.pair e f → EndsInStep t.pair (records_from t.pair.first_calls patterns code budget skip e items) (records_from t.pair.second_calls patterns code budget skip f items)
+  pub records_in_step : (items : List Item) (skip : Option ℕ) (e : End S) (f : End T) → SameEnd t.pair e f → EndsInStep t.pair (records_from t.pair.first_calls eres code budget skip e items) (records_from t.pair.second_calls eres code budget skip f items)
   records_in_step [] skip e f same = inl same
   records_in_step (i ∷ is') skip e f same =
       let r = first_record_end i e in
       let r' = second_record_end i f in
-      let go : Option ℕ → End S → End S = λ s x. records_from t.pair.first_calls patterns code budget s x is' in
-      let go' : Option ℕ → End T → End T = λ s x. records_from t.pair.second_calls patterns code budget s x is' in
+      let go : Option ℕ → End S → End S = λ s x. records_from t.pair.first_calls eres code budget s x is' in
+      let go' : Option ℕ → End T → End T = λ s x. records_from t.pair.second_calls eres code budget s x is' in
       in_step_if t.pair (is_skipped skip i)
-      (records_from t.pair.first_calls patterns code budget skip e is') (behind go i.file r.left r)
-      (records_from t.pair.second_calls patterns code budget skip f is') (behind go' i.file r'.left r')
+      (records_from t.pair.first_calls eres code budget skip e is') (behind go i.file r.left r)
+      (records_from t.pair.second_calls eres code budget skip f is') (behind go' i.file r'.left r')
       (records_in_step is' skip e f same)
       (behind_in_step go go' i.file r r'
-      (λ s. records_onto t.pair.permits t.pair.before t.pair.first_calls t.first patterns code budget first_goes is' s r)
-      (λ s. records_onto t.pair.permits t.pair.before_second t.pair.second_calls t.second patterns code budget second_goes is' s r')
+      (λ s. records_onto t.pair.permits t.pair.before t.pair.first_calls t.first eres code budget first_goes is' s r)
+      (λ s. records_onto t.pair.permits t.pair.before_second t.pair.second_calls t.second eres code budget second_goes is' s r')
       (λ s k. records_in_step is' s r r' k)
       (record_in_step i e f same))
 
-  pub first_left : (items : List Item) (skip : Option ℕ) (e : End S) → LeftBy (EndsBy t.first) e.left → LeftBy (EndsBy t.first) (records_from t.pair.first_calls patterns code budget skip e items).left
-  first_left items skip e h = records_left t.pair.permits t.pair.before t.pair.first_calls t.first patterns code budget first_goes items skip e h
+  pub first_left : (items : List Item) (skip : Option ℕ) (e : End S) → LeftBy (EndsBy t.first) e.left → LeftBy (EndsBy t.first) (records_from t.pair.first_calls eres code budget skip e items).left
+  first_left items skip e h = records_left t.pair.permits t.pair.before t.pair.first_calls t.first eres code budget first_goes items skip e h
 
-  pub second_left : (items : List Item) (skip : Option ℕ) (f : End T) → LeftBy (EndsBy t.second) f.left → LeftBy (EndsBy t.second) (records_from t.pair.second_calls patterns code budget skip f items).left
-  second_left items skip f h = records_left t.pair.permits t.pair.before_second t.pair.second_calls t.second patterns code budget second_goes items skip f h
+  pub second_left : (items : List Item) (skip : Option ℕ) (f : End T) → LeftBy (EndsBy t.second) f.left → LeftBy (EndsBy t.second) (records_from t.pair.second_calls eres code budget skip f items).left
+  second_left items skip f h = records_left t.pair.permits t.pair.before_second t.pair.second_calls t.second eres code budget second_goes items skip f h

@@ -14,7 +14,7 @@ use Rattle.pawk_code.specs.declared.name.Array.{Array}
 use Rattle.pawk_code.specs.declared.name.Array.TheVariants as array
 use Rattle.pawk_code.specs.declared.program.Kind.{Kind}
 use Rattle.pawk_code.specs.declared.program.Kind.TheVariants as kind
-use Rattle.pawk_meaning.specs.Parts.{Hold, value, global_array, local_array, Moment, Outcome, gives, halts, Part, halt_with, ask, then_do, tick_at, hold_or_none, Entry, extended}
+use Rattle.pawk_meaning.specs.Parts.{Hold, value, global_array, local_array, Moment, Outcome, gives, halts, Part, halt_with, ask, then_do, tick_at, hold_or_none, Entry, with_locals}
 use Rattle.pawk_meaning.specs.Places.{as_array, array_at}
 use Rattle.pawk_meaning.specs.Lockstep.{Global, array_slot, Access, IsPrefix, IsHeld, AllHeld, refusal_of, state_of, world_of, output_of, Reaches, RefusesIn, GoesOn, EndsBy}
 use Rattle.pawk_meaning.specs.Allows.{TouchesArray, AllowsWhole}
@@ -62,7 +62,7 @@ module _ (permits : Access → Global → Type 0) where
   held_more [] x h k = (k, tt)
   held_more (y ∷ hs) x h k = (h.0, held_more hs x h.1 k)
 
-  pub held_extended : (ks : List Kind) (e : Entry) → AllHeld permits e.frame → AllHeld permits (extended ks e).frame
+  pub held_extended : (ks : List Kind) (e : Entry) → AllHeld permits e.frame → AllHeld permits (with_locals ks e).frame
   held_extended [] e h = h
   held_extended (kind.Scalar ∷ ks) e h = held_extended ks _ (held_more e.frame (value Uninit) h tt)
   held_extended (kind.Array ∷ ks) e h = held_extended ks _ (held_more e.frame (local_array (length e.arrays)) h tt)

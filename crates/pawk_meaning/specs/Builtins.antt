@@ -171,9 +171,22 @@ pattern_or_fault (Some e) = Ok e
 abbrev pub pattern_of_text : List ℕ → Result Pattern Fault
 pattern_of_text s = pattern_or_fault (read_ere s)
 
--- the expression between slashes of this number
-abbrev pub fixed_at : List Pattern → ℕ → Result Pattern Fault
-fixed_at patterns n = pattern_or_fault (slice_get patterns n)
+abbrev pub pattern_at : Option (List ℕ) → Result Pattern Fault
+pattern_at None = Err fault.Ere
+pattern_at (Some s) = pattern_of_text s
+
+-- the expression of this number, of the texts between slashes
+abbrev pub fixed_at : List (List ℕ) → ℕ → Result Pattern Fault
+fixed_at eres n = pattern_at (slice_get eres n)
+
+-- what is found of an expression in a text, and the text with its matches replaced; or the fault of the expression
+abbrev pub found_by : Result Pattern Fault → List ℕ → Result (Option (ℕ × ℕ)) Fault
+found_by (Err f) s = Err f
+found_by (Ok e) s = Ok (find e s 0)
+
+abbrev pub replaced_by : Count → Result Pattern Fault → List ℕ → List ℕ → Result Replaced Fault
+replaced_by c (Err f) r s = Err f
+replaced_by c (Ok e) r s = Ok (replaced c e r s)
 
 -- ---- operators
 

@@ -1,6 +1,5 @@
 -- The lockstep law: runs over two worlds that answer what a program may ask equally, or part there, go in step.
 use Rattle.std.specs.Prelude.{◌≡◌, ℕ, List, ◌⊎◌, Option, Some, None}
-use Rattle.pawk_pattern.specs.Pattern.{Pattern}
 use Rattle.pawk_world.specs.Halts.{Halt}
 use Rattle.pawk_world.specs.Halts as halt
 use Rattle.pawk_world.specs.Worlds.{Request, Calls}
@@ -19,22 +18,22 @@ use Rattle.pawk_meaning.specs.Allows.{AllowsStmts, AllowsFunctions, AllowsMain}
 abbrev pub StatementsLaw : {S T : Type 0} → Pair S T → Type 0
 StatementsLaw {S} {T} w =
     AreInLockstep w → FirstGoesOn w → SecondGoesOn w →
-    (patterns : List Pattern) (functions : List Function) (body : Stmts) →
+    (eres : List (List ℕ)) (functions : List Function) (body : Stmts) →
     AllowsFunctions w.permits functions → AllowsStmts w.permits body →
     (depth : ℕ) (m : Moment S) (n : Moment T) → SameMoment w.alike m n → AllHeld w.permits m.frame →
     InStep w
-    (execs w.first_calls patterns (call_at w.first_calls patterns functions depth) body m)
-    (execs w.second_calls patterns (call_at w.second_calls patterns functions depth) body n)
+    (execs w.first_calls eres (call_at w.first_calls eres functions depth) body m)
+    (execs w.second_calls eres (call_at w.second_calls eres functions depth) body n)
 
 -- one record
 abbrev pub RecordLaw : {S T : Type 0} → Pair S T → Type 0
 RecordLaw {S} {T} w =
     AreInLockstep w → FirstGoesOn w → SecondGoesOn w →
-    (patterns : List Pattern) (functions : List Function) (rules : List Rule) → AllowsMain w.permits functions rules →
+    (eres : List (List ℕ)) (functions : List Function) (rules : List Rule) → AllowsMain w.permits functions rules →
     (i : Item) (m : Moment S) (n : Moment T) → SameMoment w.alike m n → AllHeld w.permits m.frame →
     InStep w
-    (one_record w.first_calls patterns functions rules i m)
-    (one_record w.second_calls patterns functions rules i n)
+    (one_record w.first_calls eres functions rules i m)
+    (one_record w.second_calls eres functions rules i n)
 
 -- where the records of one world are after a request that may have been refused: ended there, or somewhere later
 abbrev pub EndReaches : {S : Type 0} → (S → S → Type 0) → Option (Halt × S) → S → RecordState → List ℕ → End S → Type 0
@@ -93,11 +92,11 @@ abbrev pub RecordsLaw : {S T : Type 0} → Pair S T → Type 0
 RecordsLaw {S} {T} w =
     AreInLockstep w → (on : FirstGoesOn w) → (on' : SecondGoesOn w) →
     RefusalsAreFinal w.first_calls → RefusalsAreFinal w.second_calls →
-    (patterns : List Pattern) (code : Code) → AllowsMain w.permits code.functions code.rules →
+    (eres : List (List ℕ)) (code : Code) → AllowsMain w.permits code.functions code.rules →
     (budget : ℕ) (skip : Option ℕ) (items : List Item) (e : End S) (f : End T) → SameEnd w e f →
     LeftBy (EndsBy on) e.left → LeftBy (EndsBy on') f.left →
     EndsInStep w
-    (records_from w.first_calls patterns code budget skip e items)
-    (records_from w.second_calls patterns code budget skip f items)
-    × LeftBy (EndsBy on) (records_from w.first_calls patterns code budget skip e items).left
-    × LeftBy (EndsBy on') (records_from w.second_calls patterns code budget skip f items).left
+    (records_from w.first_calls eres code budget skip e items)
+    (records_from w.second_calls eres code budget skip f items)
+    × LeftBy (EndsBy on) (records_from w.first_calls eres code budget skip e items).left
+    × LeftBy (EndsBy on') (records_from w.second_calls eres code budget skip f items).left

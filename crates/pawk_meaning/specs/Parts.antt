@@ -67,14 +67,14 @@ bind part go m = then_do (part m) go
 
 module _ {S : Type 0} where
   -- the number of a part's value, its truth, and its text behind what is there; a fault of the conversion is a result yet
-  abbrev pub numbered : Part S Val → Part S (Result ℤ Fault)
-  numbered part = bind part (λ v. give (num_of v))
+  abbrev pub as_number : Part S Val → Part S (Result ℤ Fault)
+  as_number part = bind part (λ v. give (num_of v))
 
-  abbrev pub tested : Part S Val → Part S (Result Bool Fault)
-  tested part = bind part (λ v. give (truth_of v))
+  abbrev pub as_truth : Part S Val → Part S (Result Bool Fault)
+  as_truth part = bind part (λ v. give (truth_of v))
 
-  abbrev pub texted : List ℕ → Part S Val → Part S (List ℕ)
-  texted before part = bind part (λ v. give (before ++ text_of v))
+  abbrev pub as_text : List ℕ → Part S Val → Part S (List ℕ)
+  as_text before part = bind part (λ v. give (before ++ text_of v))
 
   abbrev pub tick_at : ℕ → Part S (Unit {0})
   tick_at zero m = halts (halt.fault fault.Steps) m.world m.state m.output
@@ -106,11 +106,11 @@ pub record Entry : Type 0 where
   pub arrays : List Entries
 
 -- fresh locals for the parameters that got no argument: a scalar without a value, an empty array
-abbrev pub extended : List Kind → Entry → Entry
-extended [] e = e
-extended (kind.Scalar ∷ ks) e = extended ks (record { frame = e.frame ++ value Uninit ∷ []; arrays = e.arrays })
-extended (kind.Array ∷ ks) e =
-    extended ks (record { frame = e.frame ++ local_array (length e.arrays) ∷ []; arrays = e.arrays ++ [] ∷ [] })
+abbrev pub with_locals : List Kind → Entry → Entry
+with_locals [] e = e
+with_locals (kind.Scalar ∷ ks) e = with_locals ks (record { frame = e.frame ++ value Uninit ∷ []; arrays = e.arrays })
+with_locals (kind.Array ∷ ks) e =
+    with_locals ks (record { frame = e.frame ++ local_array (length e.arrays) ∷ []; arrays = e.arrays ++ [] ∷ [] })
 
-abbrev pub entered : List Kind → List Hold → List Entries → Entry
-entered kinds arguments arrays = extended (drop (length arguments) kinds) (record { frame = arguments; arrays = arrays })
+abbrev pub entry_of : List Kind → List Hold → List Entries → Entry
+entry_of kinds arguments arrays = with_locals (drop (length arguments) kinds) (record { frame = arguments; arrays = arrays })

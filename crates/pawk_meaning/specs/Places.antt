@@ -6,7 +6,7 @@ use Rattle.pawk_value.specs.Fault.TheVariants as fault
 use Rattle.pawk_value.specs.Value.{Val, Uninit, Num}
 use Rattle.pawk_value.specs.Conversion.{text_of}
 use Rattle.pawk_scalar.specs.declared.arithmetic.Op.{Op}
-use Rattle.pawk_world.specs.Sums.{combined, op_of}
+use Rattle.pawk_world.specs.Sums.{arith_by, op_of}
 use Rattle.pawk_array.specs.Entries.{Entries, found, put, touched, without, keys, value_of}
 use Rattle.pawk_record.specs.Records.{Record, field_at, with_field, with_text}
 use Rattle.pawk_world.specs.Worlds.{Calls, Cell}
@@ -18,7 +18,7 @@ use Rattle.pawk_code.specs.declared.name.Array.TheVariants as array
 use Rattle.pawk_code.specs.declared.name.Variable.{Variable}
 use Rattle.pawk_code.specs.declared.name.Variable.TheVariants as variable
 use Rattle.pawk_code.specs.declared.word.Sign.{Sign}
-use Rattle.pawk_meaning.specs.Parts.{Hold, value, global_array, local_array, Moment, Part, gives, give, settle, ask, then_do, bind, numbered, hold_at, local_at}
+use Rattle.pawk_meaning.specs.Parts.{Hold, value, global_array, local_array, Moment, Part, gives, give, settle, ask, then_do, bind, as_number, hold_at, local_at}
 
 -- where a place is, once its subscripts or its index are evaluated
 pub data Aim : Type 0 where
@@ -106,9 +106,9 @@ module _ {S : Type 0} (calls : Calls S) where
   -- a change whose value is used: the old value, and the new one; the old value is converted first
   abbrev pub change_at : Op → Aim → Result ℤ Fault → Part S (ℤ × ℤ)
   change_at op aim y =
-      bind (numbered (old_at aim)) (λ x.
+      bind (as_number (old_at aim)) (λ x.
       bind (settle x) (λ old.
-      bind (settle (combined op x y)) (λ z.
+      bind (settle (arith_by op x y)) (λ z.
       bind (write_at aim (Num z)) (λ _. give (old, z)))))
 
   -- a change by a sum whose value is dropped

@@ -3,7 +3,6 @@ use Rattle.std.specs.Prelude.{ℕ, suc, Bool, true, false, not, if◌then◌else
 use Rattle.std.specs.Prelude.{slice_index_or, slice_set}
 use Rattle.pawk_value.specs.Fault.{Fault}
 use Rattle.pawk_value.specs.Value.{Maybe}
-use Rattle.pawk_pattern.specs.Pattern.{Pattern}
 use Rattle.pawk_record.specs.Records.{read}
 use Rattle.pawk_world.specs.Worlds.{Calls}
 use Rattle.pawk_world.specs.Halts.{Halt}
@@ -15,7 +14,7 @@ use Rattle.pawk_code.specs.Statements.{Stmts}
 use Rattle.pawk_code.specs.Programs.{Selector, always, matching, between, Rule, Function}
 use Rattle.pawk_input.specs.Input.{Item}
 use Rattle.pawk_meaning.specs.Limits.{greatest_calls}
-use Rattle.pawk_meaning.specs.Parts.{Outcome, gives, halts, Part, give, settle, bind, tested}
+use Rattle.pawk_meaning.specs.Parts.{Outcome, gives, halts, Part, give, settle, bind, as_truth}
 use Rattle.pawk_meaning.specs.Places.{text_at}
 use Rattle.pawk_meaning.specs.Meaning.{eval, execs, call_at}
 
@@ -53,8 +52,8 @@ module _ {S : Type 0} where
   end_of (halts h s state out) = end_of_halt h s state out
 
   -- a part run from a world, a record state and an output, with so many steps
-  abbrev pub started : {X : Type 0} → Part S X → ℕ → S → RecordState → List ℕ → End S
-  started part budget s state out =
+  abbrev pub run_part : {X : Type 0} → Part S X → ℕ → S → RecordState → List ℕ → End S
+  run_part part budget s state out =
       end_of (part (record { world = s; state = state; frame = []; arrays = []; output = out; left = budget }))
 
   abbrev pub after_read : Option Fault → Part S (Unit {0})
@@ -64,12 +63,12 @@ module _ {S : Type 0} where
   abbrev pub stays_inside : ℕ → Bool → Part S Bool
   stays_inside n inside m = gives true (record m { state = record m.state { ranges = slice_set m.state.ranges n inside } })
 
-module _ {S : Type 0} (calls : Calls S) (patterns : List Pattern) (functions : List Function) where
+module _ {S : Type 0} (calls : Calls S) (eres : List (List ℕ)) (functions : List Function) where
   abbrev pub holds : Expr → Part S Bool
-  holds e = bind (tested (eval calls patterns (call_at calls patterns functions greatest_calls) e)) settle
+  holds e = bind (as_truth (eval calls eres (call_at calls eres functions greatest_calls) e)) settle
 
   abbrev pub does : Stmts → Part S (Unit {0})
-  does body = bind (execs calls patterns (call_at calls patterns functions greatest_calls) body) (λ _. give tt)
+  does body = bind (execs calls eres (call_at calls eres functions greatest_calls) body) (λ _. give tt)
 
   -- the record is read: NR, FNR, FILENAME, $0 and then the fields by the FS of that moment
   abbrev pub reads : Item → Part S (Unit {0})

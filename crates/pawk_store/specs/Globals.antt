@@ -5,7 +5,7 @@ use Rattle.pawk_value.specs.Value.{Val, Uninit, Num}
 use Rattle.pawk_value.specs.Conversion.{num_of}
 use Rattle.pawk_array.specs.Entries.{Entries, found, put, without, keys, value_of, touched}
 use Rattle.pawk_world.specs.Halts as halt
-use Rattle.pawk_world.specs.Sums.{combined, op_of}
+use Rattle.pawk_world.specs.Sums.{arith_by, op_of}
 use Rattle.pawk_world.specs.Worlds.{Cell, scalar, element, Request, Reply, Answer, gives, halts, Calls}
 use Rattle.pawk_world.specs.Worlds as request
 
@@ -44,7 +44,7 @@ abbrev pub answer : (q : Request) → Globals → Answer Globals (Reply q)
 answer (request.read n key) g = gives (value_at (element n key) g) (with_cell (element n key) g)
 answer (request.old n key) g = gives (value_at (element n key) g) (with_cell (element n key) g)
 answer (request.write c v) g = gives tt (with_value c v g)
-answer (request.add sign c amount) g = with_sum c (combined (op_of sign) (num_of (value_at c g)) amount) g
+answer (request.add sign c amount) g = with_sum c (arith_by (op_of sign) (num_of (value_at c g)) amount) g
 answer (request.test n key) g = gives (is_some (found key (array_at g n))) g
 answer (request.remove n key) g = gives tt (with_array n (without key (array_at g n)) g)
 answer (request.clear n) g = gives tt (with_array n [] g)

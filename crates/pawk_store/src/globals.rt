@@ -6,7 +6,7 @@ ghost use Rattle.pawk_store.specs.Openings.{texts_of, pairs_of, opened};
 
 use crate::copies::{copy_arrays, copy_names, copy_scalars};
 use crate::openings::{empty_arrays, extra_names, push_opening_values};
-use pawk_array::{Array, Keys};
+use pawk_array::{Array, Texts};
 use pawk_code::word::Sign;
 use pawk_settings::Assignment;
 use pawk_value::{Fault, Held, Value, ValueRef, assign, hold, lend, to_num, to_num_lent};
@@ -180,7 +180,7 @@ impl World for Globals {
         Ok(())
     }
 
-    fn keys(&mut self, array: usize) -> Result<Keys, Halt> {
+    fn keys(&mut self, array: usize) -> Result<Texts, Halt> {
         match self.arrays.get(array) {
             Some(elements) => Ok(elements.keys(self.alloc)?),
             None => Ok(Array::new(self.alloc).keys(self.alloc)?),

@@ -1,6 +1,8 @@
 -- Why a run halts.
 use Rattle.std.specs.Prelude.{ℕ, Option, Some, None}
 use Rattle.pawk_value.specs.Fault.{Fault}
+use Rattle.pawk_scalar.specs.declared.faults.Stop.{Stop}
+use Rattle.pawk_scalar.specs.declared.faults.Stop.TheVariants as stop
 use Rattle.pawk_world.specs.declared.halt.Halt.{Halt as Code}
 use Rattle.pawk_world.specs.declared.halt.Halt.TheVariants as code
 
@@ -20,3 +22,8 @@ halt_of code.Next = Some next
 halt_of code.NextFile = Some next_file
 halt_of (code.Exit status) = Some (exit status)
 halt_of code.Memory = None
+
+-- why a run halts where a call gave no value
+abbrev pub halt_by : Stop → Code
+halt_by (stop.Fault f) = code.Fault f
+halt_by stop.Memory = code.Memory

@@ -8,10 +8,10 @@ use Rattle.pawk_code.specs.declared.word.Sign.{Sign}
 use Rattle.pawk_code.specs.declared.word.Sign.TheVariants.{Plus, Minus}
 
 -- the result of an operation; the fault of the left side's conversion comes first, then the right side's
-abbrev pub combined : Op → Result ℤ Fault → Result ℤ Fault → Result ℤ Fault
-combined op (Err f) y = Err f
-combined op (Ok a) (Err f) = Err f
-combined op (Ok a) (Ok b) = arith op a b
+abbrev pub arith_by : Op → Result ℤ Fault → Result ℤ Fault → Result ℤ Fault
+arith_by op (Err f) y = Err f
+arith_by op (Ok a) (Err f) = Err f
+arith_by op (Ok a) (Ok b) = arith op a b
 
 abbrev pub op_of : Sign → Op
 op_of Plus = Add

@@ -2,7 +2,7 @@
 
 ghost use Rattle.std.specs.Prelude.{◌≡◌};
 
-use pawk_value::Fault;
+use pawk_value::{Fault, Stop};
 use std::alloc::{AllocError, AllocFailed};
 
 /// Why a part of a run gives nothing.
@@ -49,5 +49,18 @@ impl From<Fault> for Halt {
 
     fn from(fault: Fault) -> Halt {
         Halt::Fault(fault)
+    }
+}
+
+impl From<Stop> for Halt {
+    ghost use Rattle.pawk_world.specs.Halts.{halt_by};
+
+    ghost from_gives = { λ stop result. result ≡ halt_by stop };
+
+    fn from(stop: Stop) -> Halt {
+        match stop {
+            Stop::Fault(fault) => Halt::Fault(fault),
+            Stop::Memory => Halt::Memory,
+        }
     }
 }

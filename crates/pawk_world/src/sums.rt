@@ -1,7 +1,7 @@
 //! Sums of numbers whose conversion may have faulted.
 
 ghost use Rattle.std.specs.Prelude.{◌≡◌};
-ghost use Rattle.pawk_world.specs.Sums.{combined};
+ghost use Rattle.pawk_world.specs.Sums.{arith_by};
 ghost use Rattle.pawk_world.specs.Sums as spec;
 
 use pawk_code::word::Sign;
@@ -20,7 +20,7 @@ fn op_of(sign: Sign) -> Op
 /// The sum or difference of two numbers. The fault of the left one's conversion comes first, then
 /// that of the right one's, then `overflow`.
 pub fn sum(sign: Sign, left: Result<i64, Fault>, right: Result<i64, Fault>) -> Result<i64, Fault>
-    ensures { result ≡ combined (spec.op_of sign) left right }
+    ensures { result ≡ arith_by (spec.op_of sign) left right }
 {
     let left = left?;
     let right = right?;

@@ -8,7 +8,7 @@ ghost use Rattle.pawk_world.specs.Worlds as cells;
 ghost use Rattle.pawk_world.specs.Answers.{Answers};
 
 use crate::halt::Halt;
-use pawk_array::Keys;
+use pawk_array::Texts;
 use pawk_code::word::Sign;
 use pawk_value::{Fault, Held, ValueRef};
 
@@ -98,6 +98,6 @@ pub trait World {
             result (state self.new) };
 
     /// All keys of an array, in the order of their bytes.
-    fn keys(&mut self, array: usize) -> Result<Keys, Halt>
+    fn keys(&mut self, array: usize) -> Result<Texts, Halt>
         ensures { Answers (λ k. k) (calls.ask (keys array) (state self.old)) result (state self.new) };
 }

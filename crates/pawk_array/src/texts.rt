@@ -1,4 +1,4 @@
-//! Keys of an array, in order.
+//! Texts in one room of bytes.
 
 ghost use Rattle.std.specs.Prelude.{◌≡◌, ◌<◌, ◌++◌, ◌∷◌, [], length, map, slice_get, Some, IfOk, OnOk};
 
@@ -6,67 +6,67 @@ use std::alloc::{AllocError, Global};
 use std::marker::Model;
 use std::ops::Range;
 
-/// The keys of an array in one room of bytes. Contracts see them in their order.
+/// Texts in their order, in one room of bytes: the keys of an array, or what is printed or joined.
 #[derive(Drop)]
-pub struct Keys {
+pub struct Texts {
     bytes: Vec<u8>,
     ranges: Vec<Range<usize>>,
 }
 
-impl Model for Keys {
+impl Model for Texts {
     ghost use Rattle.std.specs.Prelude.{ℕ, List};
 
     ghost Value = { List (List ℕ) };
 
-    ghost use Rattle.pawk_array.specs.Keys.{texts_in, AreWithin};
+    ghost use Rattle.pawk_array.specs.Texts.{texts_in, AreWithin};
 
     ghost view = { λ a. texts_in a.bytes.items a.ranges.items };
 
     ghost invariant = { λ a. AreWithin a.bytes.items a.ranges.items };
 }
 
-impl Keys {
-    /// No keys.
-    fn none(alloc: Global) -> Keys
+impl Texts {
+    /// No texts. Takes no memory.
+    pub fn new(alloc: Global) -> Texts
         ensures { result ≡ [] }
     {
-        Keys {
+        Texts {
             bytes: Vec::new(alloc),
             ranges: Vec::new(alloc),
         }
     }
 
-    /// Appends a key.
-    fn push(&mut self, key: &[u8]) -> Result<(), AllocError>
-        ensures { OnOk result (self.new ≡ self.old ++ key.now ∷ []) }
+    /// Appends a copy of a text. Where memory was refused nothing is said of the texts.
+    pub fn push(&mut self, text: &[u8]) -> Result<(), AllocError>
+        ensures { OnOk result (self.new ≡ self.old ++ text.now ∷ []) }
     {
         let start = self.bytes.len();
-        self.bytes.extend_from_slice(key)?;
+        self.bytes.extend_from_slice(text)?;
         let end = self.bytes.len();
         self.ranges.push(start..end)?;
         Ok(())
     }
 
-    /// These keys.
-    pub(crate) fn of(alloc: Global, keys: &[&[u8]]) -> Result<Keys, AllocError>
-        ensures { IfOk result (λ k. k ≡ map (λ x. x.now) keys.now) }
+    /// Copies of these texts.
+    pub(crate) fn of(alloc: Global, texts: &[&[u8]]) -> Result<Texts, AllocError>
+        ensures { IfOk result (λ copy. copy ≡ map (λ x. x.now) texts.now) }
     {
-        let mut copy = Keys::none(alloc);
-        for key in keys {
-            copy.push(key)?;
+        let mut copy = Texts::new(alloc);
+        for text in texts {
+            copy.push(text)?;
         }
         Ok(copy)
     }
 
-    /// How many keys there are.
+    /// How many texts there are.
     pub fn len(&self) -> usize
         ensures { result ≡ length self.now }
     {
         self.ranges.len()
     }
 
-    /// The key with this number, counted from 0.
-    pub fn key(&self, number: usize) -> &[u8]
+    /// The text with this number, counted from 0.
+    pub fn text(&self, number: usize) -> &[u8]
         requires { number < length self.now }
         ensures { slice_get self.now number ≡ Some result.now }
     {

@@ -1,0 +1,16 @@
+-- The expressions that patterns of a running program are.
+use Rattle.std.specs.Prelude.{ℕ, List, map, Result}
+use Rattle.std.specs.declared.vec.Vec.{Vec}
+use Rattle.std.specs.declared.alloc.Global.{Global}
+use Rattle.pawk_value.specs.Fault.{Fault}
+use Rattle.pawk_pattern.specs.Pattern.{Pattern}
+use Rattle.pawk_code.specs.ExpressionViews.{pattern_view}
+use Rattle.pawk_meaning.specs.Meaning.{pattern_of}
+use Rattle.pawk_builtins.specs.declared.expression.Expression.{Expression}
+
+-- what stands between slashes
+abbrev pub texts_of : List (Vec ℕ Global) → List (List ℕ)
+texts_of = map (λ x. x.items)
+
+abbrev pub expression_of : Expression → Result Pattern Fault
+expression_of e = pattern_of (texts_of e.eres.now) (pattern_view e.pattern.now) e.text.now

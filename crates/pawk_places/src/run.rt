@@ -1,0 +1,78 @@
+//! What a run of one record, or of BEGIN or END, has beside the globals.
+
+ghost use Rattle.std.specs.Prelude.{◌≡◌, ◌++◌, ◌∷◌, [], List, IfOk};
+ghost use Rattle.pawk_meaning.specs.Parts.{Hold, entry_of, with_locals};
+ghost use Rattle.pawk_places.specs.Moments.{hold_of, holds_of};
+
+use pawk_array::Array;
+use pawk_builtins::Matchers;
+use pawk_code::program::Kind;
+use pawk_store::RecordState;
+use pawk_value::Value;
+use std::alloc::{AllocError, Global};
+
+/// What a parameter of a function that runs holds.
+#[derive(Drop)]
+pub enum Parameter {
+    Value(Value),
+    /// The global array of this slot.
+    Global(usize),
+    /// The local array of this number among all that are open.
+    Local(usize),
+}
+
+/// What a run has beside the globals.
+#[derive(Drop)]
+pub struct Run<'a> {
+    pub alloc: Global,
+    /// The record, and what is kept from record to record.
+    pub state: RecordState<'a>,
+    /// The parameters of the function that runs; none outside of functions.
+    pub frame: Vec<Parameter>,
+    /// The local arrays of all calls that are open.
+    pub arrays: Vec<Array>,
+    pub output: Vec<u8>,
+    /// How many steps are left.
+    pub left: u64,
+    pub matchers: Matchers,
+}
+
+/// A parameter that got no argument: a scalar without a value, or an empty array that is opened.
+fn open_local(alloc: Global, kind: Kind, arrays: &mut Vec<Array>) -> Result<Parameter, AllocError>
+    ensures { IfOk result (λ parameter. (front : List Hold) →
+        with_locals (kind ∷ []) (record { frame = front; arrays = arrays.old.items })
+        ≡ record { frame = front ++ hold_of parameter ∷ []; arrays = arrays.new.items }) }
+{
+    match kind {
+        Kind::Scalar => Ok(Parameter::Value(Value::Uninit)),
+        Kind::Array => {
+            let number = arrays.len();
+            arrays.push(Array::new(alloc))?;
+            Ok(Parameter::Local(number))
+        }
+    }
+}
+
+/// The parameters of a call: the arguments, and for each kind behind them a fresh one, a scalar
+/// without a value, or an empty array that is opened.
+///
+/// POSIX.1-2017, awk, "User-Defined Functions".
+pub fn parameters(
+    alloc: Global,
+    arguments: Vec<Parameter>,
+    kinds: &[Kind],
+    arrays: &mut Vec<Array>,
+) -> Result<Vec<Parameter>, AllocError>
+    ensures { IfOk result (λ frame. entry_of kinds.now (holds_of arguments.items) arrays.old.items
+        ≡ record { frame = holds_of frame.items; arrays = arrays.new.items }) }
+{
+    let mut frame = arguments;
+    let given = frame.len();
+    if given < kinds.len() {
+        for kind in &kinds[given..] {
+            let parameter = open_local(alloc, *kind, arrays)?;
+            frame.push(parameter)?;
+        }
+    }
+    Ok(frame)
+}

@@ -1,0 +1,70 @@
+//! Where places are, once their subscripts or indices are evaluated.
+
+ghost use Rattle.std.specs.Prelude.{◌≡◌};
+ghost use Rattle.pawk_meaning.specs.Places.{array_at, element_of, variable_aim};
+ghost use Rattle.pawk_places.specs.Moments.{aim_view, holds_of, table_view};
+
+use crate::run::Parameter;
+use pawk_code::name::{Array, Variable};
+
+/// Where a place is.
+#[derive(Drop)]
+pub enum Target {
+    /// The parameter of this number.
+    Parameter(usize),
+    /// The global scalar of this slot.
+    Scalar(usize),
+    /// The element with this key of the global array of this slot.
+    Element(usize, Vec<u8>),
+    /// The element with this key of the local array of this number.
+    LocalElement(usize, Vec<u8>),
+    /// The field with this index; 0 is the record.
+    Field(usize),
+    Nowhere,
+}
+
+/// The array that a name stands for.
+#[derive(Clone, Copy)]
+pub enum Table {
+    /// None: the name is that of a value.
+    None,
+    /// The global array of this slot.
+    Global(usize),
+    /// The local array of this number.
+    Local(usize),
+}
+
+/// The array that a name stands for, among these parameters.
+pub fn table_of(frame: &[Parameter], array: Array) -> Table
+    ensures { table_view result ≡ array_at (holds_of frame.now) array }
+{
+    match array {
+        Array::Global(slot) => Table::Global(slot),
+        Array::Local(number) => match frame.get(number) {
+            Some(Parameter::Global(slot)) => Table::Global(*slot),
+            Some(Parameter::Local(number)) => Table::Local(*number),
+            _ => Table::None,
+        },
+    }
+}
+
+/// Where the element of an array is.
+pub fn element_target(table: Table, key: Vec<u8>) -> Target
+    ensures { aim_view result ≡ element_of (table_view table) key.items }
+{
+    match table {
+        Table::None => Target::Nowhere,
+        Table::Global(slot) => Target::Element(slot, key),
+        Table::Local(number) => Target::LocalElement(number, key),
+    }
+}
+
+/// Where a scalar is.
+pub fn variable_target(variable: Variable) -> Target
+    ensures { aim_view result ≡ variable_aim variable }
+{
+    match variable {
+        Variable::Global(slot) => Target::Scalar(slot),
+        Variable::Local(number) => Target::Parameter(number),
+    }
+}
