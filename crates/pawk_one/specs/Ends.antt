@@ -6,6 +6,11 @@ use Rattle.pawk_world.specs.declared.halt.Halt.{Halt as Code}
 use Rattle.pawk_world.specs.Halts.{Halt, halt_of}
 use Rattle.pawk_meaning.specs.Parts.{Moment, Outcome, gives, halts}
 use Rattle.pawk_meaning.specs.Records.{Left as Leaving, through, next_file, exit, fault, clash, End}
+use Rattle.pawk_meaning.specs.Runs.{Place, in_begin, at_record, in_end, Ending, status, fault_at, disallowed, Finish}
+use Rattle.pawk_one.specs.declared.ending.Place.{Place as CodePlace}
+use Rattle.pawk_one.specs.declared.ending.Place.TheVariants as place
+use Rattle.pawk_one.specs.declared.ending.Ending.{Ending as CodeEnding}
+use Rattle.pawk_one.specs.declared.ending.Ending.TheVariants as ending
 use Rattle.pawk_one.specs.declared.left.Left.{Left}
 use Rattle.pawk_one.specs.declared.left.Left.TheVariants as left
 
@@ -33,3 +38,22 @@ module _ {S : Type 0} where
   abbrev pub EndsBy : Outcome S (Unit {0}) → Result (Unit {0}) Code → Moment S → Type 0
   EndsBy outcome (Ok t) m = outcome ≡ gives tt m
   EndsBy outcome (Err e) m = HaltsBy outcome e m
+
+abbrev pub place_view : CodePlace → Place
+place_view place.Begin = in_begin
+place_view (place.Record n) = at_record n
+place_view place.End = in_end
+
+abbrev pub ending_view : CodeEnding → Ending
+ending_view (ending.Status n) = status n
+ending_view (ending.Fault f p) = fault_at f (place_view p)
+ending_view ending.Disallowed = disallowed
+
+-- the end of a run, as the code has it
+abbrev pub finish_view : {S : Type 0} → S → Run → CodeEnding → Finish S
+finish_view world run ending = record {
+  world = world;
+  state = state_of run.state;
+  output = run.output.items;
+  ending = ending_view ending;
+}

@@ -1,10 +1,14 @@
 //! Runs of one thread: one record, the actions of BEGIN and END, and a whole run.
 #![tactic(auto)]
 
+mod ending;
 mod left;
 mod limits;
 mod part;
 mod rules;
+mod whole;
 
+pub use ending::{Ending, Place};
 pub use left::Left;
 pub use part::{actions, record};
+pub use whole::{Job, run_program};
