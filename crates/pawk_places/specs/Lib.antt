@@ -1,2 +1,3 @@
 pub mod Yields
 pub mod Moments
+pub mod Ready

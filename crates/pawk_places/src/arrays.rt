@@ -60,11 +60,7 @@ pub fn remove_element<W: World>(
 }
 
 /// Takes all elements away.
-pub fn clear_array<W: World>(
-    table: Table,
-    world: &mut W,
-    run: &mut Run<'_>,
-) -> Result<(), Halt>
+pub fn clear_array<W: World>(table: Table, world: &mut W, run: &mut Run<'_>) -> Result<(), Halt>
     ensures left { run.new.left ≤ run.old.left }
     ensures outcome { Yields (λ _. tt)
         (clear_of W.calls (table_view table)
@@ -74,11 +70,7 @@ pub fn clear_array<W: World>(
 }
 
 /// All keys of an array, in the order of their bytes.
-pub fn array_keys<W: World>(
-    table: Table,
-    world: &mut W,
-    run: &mut Run<'_>,
-) -> Result<Texts, Halt>
+pub fn array_keys<W: World>(table: Table, world: &mut W, run: &mut Run<'_>) -> Result<Texts, Halt>
     ensures left { run.new.left ≤ run.old.left }
     ensures outcome { Yields (λ keys. keys)
         (keys_of W.calls (table_view table)

@@ -9,7 +9,7 @@ mod run;
 mod target;
 mod writing;
 
-pub use arrays::{array_keys, clear_array, element_exists, remove_element, split_into, Separator};
+pub use arrays::{Separator, array_keys, clear_array, element_exists, remove_element, split_into};
 pub use leaves::{compare_leaves, leaf_number, leaf_text, leaf_truth, leaf_value};
 pub use outputs::{key_of_texts, print_bytes, print_line, tick};
 pub use reading::read_place;

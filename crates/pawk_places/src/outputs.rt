@@ -13,10 +13,7 @@ use pawk_world::{Halt, World};
 /// One step of the budget.
 ///
 /// Fault `steps` where none is left.
-pub fn tick<W: World>(
-    world: &W,
-    run: &mut Run<'_>,
-) -> Result<(), Halt>
+pub fn tick<W: World>(world: &W, run: &mut Run<'_>) -> Result<(), Halt>
     ensures left { run.new.left ≤ run.old.left }
     ensures less { OnOk result (run.new.left < run.old.left) }
     ensures outcome { Yields (λ _. tt)
@@ -31,11 +28,7 @@ pub fn tick<W: World>(
 /// Fault `length` where it is longer than a text may be.
 ///
 /// POSIX.1-2017, awk, "Variables and Special Variables" (`SUBSEP`).
-pub fn key_of_texts<W: World>(
-    texts: &Texts,
-    world: &W,
-    run: &mut Run<'_>,
-) -> Result<Vec<u8>, Halt>
+pub fn key_of_texts<W: World>(texts: &Texts, world: &W, run: &mut Run<'_>) -> Result<Vec<u8>, Halt>
     ensures left { run.new.left ≤ run.old.left }
     ensures outcome { Yields (λ key. key.items)
         (key_of W.calls texts.now
@@ -47,11 +40,7 @@ pub fn key_of_texts<W: World>(
 /// Prints texts with OFS between them and ORS behind.
 ///
 /// POSIX.1-2017, awk, "Output Statements" (`print`).
-pub fn print_line<W: World>(
-    texts: &Texts,
-    world: &W,
-    run: &mut Run<'_>,
-) -> Result<(), Halt>
+pub fn print_line<W: World>(texts: &Texts, world: &W, run: &mut Run<'_>) -> Result<(), Halt>
     ensures left { run.new.left ≤ run.old.left }
     ensures outcome { Yields (λ _. tt)
         (print_line W.calls texts.now
@@ -61,11 +50,7 @@ pub fn print_line<W: World>(
 }
 
 /// Prints a text as it is.
-pub fn print_bytes<W: World>(
-    text: &[u8],
-    world: &W,
-    run: &mut Run<'_>,
-) -> Result<(), Halt>
+pub fn print_bytes<W: World>(text: &[u8], world: &W, run: &mut Run<'_>) -> Result<(), Halt>
     ensures left { run.new.left ≤ run.old.left }
     ensures outcome { Yields (λ _. tt)
         (print_text text.now
