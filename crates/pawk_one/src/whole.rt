@@ -13,6 +13,7 @@ ghost use Rattle.pawk_eval.specs.Contexts.{eres_of, functions_of};
 ghost use Rattle.pawk_meaning.specs.Runs as spec;
 ghost use Rattle.pawk_one.specs.declared.left.Left.TheVariants.{Through};
 ghost use Rattle.pawk_one.specs.Ends.{end_view, finish_view, left_view};
+ghost use Rattle.pawk_one.specs.Ends as ends;
 
 use crate::ending::{Ending, Place};
 use crate::left::Left;
@@ -90,15 +91,22 @@ fn is_skipped(skip: Option<usize>, item: &Item<'_>) -> bool
 }
 
 /// The file whose rest is left unread behind this record.
-fn file_left(left: Left, item: &Item<'_>) -> Option<usize> {
+fn file_left(left: Left, item: &Item<'_>) -> Option<usize>
+    ensures { result ≡ ends.file_left (left_view left) item.now.file }
+{
     match left {
+        Left::Through => None,
         Left::NextFile => Some(item.file),
-        _ => None,
+        Left::Exit(_) => None,
+        Left::Fault(_) => None,
+        Left::Clash => None,
     }
 }
 
 /// Whether no record is read behind a part that is left so.
-fn ends_records(left: Left) -> bool {
+fn ends_records(left: Left) -> bool
+    ensures { result ≡ ends.ends_records (left_view left) }
+{
     match left {
         Left::Through => false,
         Left::NextFile => false,
