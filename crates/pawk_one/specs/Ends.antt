@@ -11,6 +11,8 @@ use Rattle.pawk_one.specs.declared.ending.Place.{Place as CodePlace}
 use Rattle.pawk_one.specs.declared.ending.Place.TheVariants as place
 use Rattle.pawk_one.specs.declared.ending.Ending.{Ending as CodeEnding}
 use Rattle.pawk_one.specs.declared.ending.Ending.TheVariants as ending
+use Rattle.pawk_one.specs.declared.outcome.Outcome.{Outcome as CodeOutcome}
+use Rattle.pawk_store.specs.Globals.{Globals}
 use Rattle.pawk_one.specs.declared.left.Left.{Left}
 use Rattle.pawk_one.specs.declared.left.Left.TheVariants as left
 
@@ -73,3 +75,9 @@ file_left next_file file = Some file
 file_left (exit n) file = None
 file_left (fault f) file = None
 file_left clash file = None
+
+-- the output, the globals and the ending are those with which a run finished
+pub record Answers (meant : Finish Globals) (outcome : CodeOutcome) : Type 0 where
+  pub output : meant.output ≡ outcome.output.items
+  pub globals : meant.world ≡ outcome.globals
+  pub ending : meant.ending ≡ ending_view outcome.ending
