@@ -91,6 +91,8 @@ impl<'a> RecordState<'a> {
     pub fn read(&mut self, item: &Item<'a>, fs: &[u8]) -> Result<(), Stop>
         ensures record { OnOk result
             (state_of self.new ≡ spec.with_item fs.now (item_of item.now) (state_of self.old)) }
+        ensures plain { OnOk result
+            ((read fs.now (spec.is_paragraph (state_of self.old)) (item_of item.now).bytes).1 ≡ None) }
         ensures fault { IfErr result (λ stop. IfFault stop (λ fault.
             (state_of self.new ≡ spec.with_item fs.now (item_of item.now) (state_of self.old))
             × ((read fs.now (spec.is_paragraph (state_of self.old)) (item_of item.now).bytes).1
