@@ -1,3 +1,5 @@
+pub mod SplitLemmas
+pub mod MatchLemmas
 pub mod FormatLemmas
 pub mod OccurrenceLemmas
 pub mod PlaceLemmas
