@@ -1,3 +1,4 @@
+pub mod ReplaceLemmas
 pub mod SplitLemmas
 pub mod MatchLemmas
 pub mod FormatLemmas

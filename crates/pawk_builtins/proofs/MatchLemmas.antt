@@ -1,6 +1,6 @@
 -- What matchers answer is what the definitions say.
-use Rattle.std.proofs.Common.{◌≡◌, ℕ, suc, ◌+◌, ◌<◌, ◌≤◌, arith, Option, Some, None, Result, Ok, Err, List, [], ◌∷◌, length, drop, IfOk, IfErr, IfSome, refl, sym, ap, ◌∙◌, length-drop}
-use Rattle.pawk_pattern.specs.Pattern.{Pattern, Matches}
+use Rattle.std.proofs.Common.{◌≡◌, ℕ, suc, ◌+◌, ◌<◌, ◌≤◌, arith, Option, Some, None, Result, Ok, Err, List, [], ◌∷◌, length, drop, IfOk, IfErr, IfSome, sym, ap, ◌∙◌, length-drop}
+use Rattle.pawk_pattern.specs.Pattern.{Pattern}
 use Rattle.pawk_pattern.specs.Tokens.{SpellsEre, SpellsNone}
 use Rattle.pawk_machine.specs.Expand.{expand}
 use Rattle.pawk_machine.specs.Regex.{Regex}
@@ -12,7 +12,6 @@ use Rattle.pawk_value.specs.Fault.TheVariants as faults
 use Rattle.pawk_scalar.specs.declared.faults.Stop.{Stop}
 use Rattle.pawk_scalar.specs.declared.faults.Stop.TheVariants as stop
 use Rattle.pawk_split.specs.FieldsOf.{TellsNone}
-use Rattle.pawk_search.specs.ReadEre.{read_ere}
 use Rattle.pawk_search.specs.Search.{find, first_match, longest_end, match_or}
 use Rattle.pawk_search.proofs.SearchLemmas.{find_law_lem}
 use Rattle.pawk_search.proofs.ReadLemmas.{read_law_lem}
@@ -29,7 +28,7 @@ none_is bytes f tells = ap pattern_or_fault ((read_law_lem bytes).none.1 tells.1
 
 -- ---- where a match is
 
-first_within : (e : Regex) (rest : List ℕ) (p : ℕ) (m : ℕ × ℕ) → first_match e p rest ≡ Some m → (p ≤ m.0) × (m.0 ≤ p + length rest)
+pub first_within : (e : Regex) (rest : List ℕ) (p : ℕ) (m : ℕ × ℕ) → first_match e p rest ≡ Some m → (p ≤ m.0) × (m.0 ≤ p + length rest)
 unfolding first_match
 first_within e [] p m is = go (longest_end e p []) is
   where

@@ -1,12 +1,10 @@
 -- The ranges that a split gives are those of the pieces.
-use Rattle.std.proofs.Common.{◌≡◌, ◌⊎◌, ℕ, zero, suc, ◌+◌, ◌<◌, ◌≤◌, arith, Bool, true, false, cond, ltb, Option, Some, None, Result, Ok, Err, List, [], ◌∷◌, ◌++◌, length, map, drop, slice_range, IfOk, IfErr, Vec, Global, refl, sym, ap, ◌∙◌, subst, inl, inr, ⊎_elim}
-use Rattle.std.specs.List.{All}
+use Rattle.std.proofs.Common.{◌≡◌, ℕ, zero, suc, ◌+◌, ◌<◌, ◌≤◌, arith, Bool, true, false, cond, ltb, Option, Some, None, Result, Ok, Err, List, [], ◌∷◌, ◌++◌, length, map, drop, slice_range, IfOk, IfErr, Vec, Global, refl, sym, ap, ◌∙◌, subst, inl, ⊎_elim}
 use Rattle.std.specs.declared.ops.Range.{Range}
-use Rattle.std.proofs.lemmas.Bool.{cases_lt, ltb-true, ltb-false, lt-ltb, le-ltb}
-use Rattle.pawk_value.specs.Fault.{Fault}
+use Rattle.std.proofs.lemmas.Bool.{cases_lt, ltb-true, ltb-false}
 use Rattle.pawk_scalar.specs.declared.faults.Stop.{Stop}
 use Rattle.pawk_scalar.specs.declared.faults.Stop.TheVariants as stop
-use Rattle.pawk_pattern.specs.Pattern.{Pattern, StartsNone, IsLongest, Leftmost}
+use Rattle.pawk_pattern.specs.Pattern.{Pattern, StartsNone, IsLongest}
 use Rattle.pawk_pattern.specs.Tokens.{SpellsEre}
 use Rattle.pawk_machine.specs.Expand.{expand}
 use Rattle.pawk_machine.specs.Regex.{Takes}
@@ -18,7 +16,7 @@ use Rattle.pawk_split.specs.Law.{AreInOrder}
 use Rattle.pawk_split.proofs.BetweenLemmas.{some_inside}
 use Rattle.pawk_split.proofs.LawLemmas.{split_law_lem}
 use Rattle.pawk_search.specs.Search.{longest_end}
-use Rattle.pawk_search.specs.FieldList.{end_beyond, separator_end, cut_or_on, fields_behind, fields_of}
+use Rattle.pawk_search.specs.FieldList.{end_beyond, separator_end, cut_or_on, fields_behind}
 use Rattle.pawk_search.proofs.SearchLemmas.{IsCons, cons_at, nil_at, IsLongestOrNone, longest_end_is}
 use Rattle.pawk_search.proofs.FieldLemmas.{fields_law_lem}
 use Rattle.pawk_meaning.specs.Builtins.{pattern_of_text, pieces_at, pieces_by, pieces_between}

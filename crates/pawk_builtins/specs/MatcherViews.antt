@@ -1,8 +1,8 @@
 -- What the matchers of a run keep, and what one of them answers.
-use Rattle.std.specs.Prelude.{◌≡◌, ℕ, List, Option, Ok, IfSome, length, map, ◌≤◌}
+use Rattle.std.specs.Prelude.{◌≡◌, ℕ, List, Option, Ok, IfSome, length, ◌≤◌}
 use Rattle.std.specs.List.{All}
 use Rattle.std.specs.declared.ops.Range.{Range}
-use Rattle.pawk_ere.specs.Kept.{IsOfText, IsOfItsText}
+use Rattle.pawk_ere.specs.Kept.{IsOfItsText}
 use Rattle.pawk_ere.specs.declared.loan.Loan.{Loan}
 use Rattle.pawk_pattern.specs.Pattern.{Pattern}
 use Rattle.pawk_pattern.specs.Tokens.{SpellsEre}

@@ -1,8 +1,8 @@
 -- How all matches of an expression in a text are replaced by searches.
-use Rattle.std.specs.Prelude.{◌≡◌, ℕ, ◌+◌, ◌*◌, ◌-◌, ◌<◌, ◌≤◌, Bool, true, not, ◌||◌, nat_lt, if◌then◌else◌, Option, Some, None, List, [], ◌++◌, length, drop, slice_range}
+use Rattle.std.specs.Prelude.{◌≡◌, ℕ, ◌+◌, ◌<◌, ◌≤◌, Bool, true, not, ◌||◌, nat_lt, if◌then◌else◌, Option, Some, None, List, ◌++◌, length, drop, slice_range}
 use Rattle.pawk_pattern.specs.Pattern.{Pattern}
 use Rattle.pawk_machine.specs.Expand.{expand}
-use Rattle.pawk_meaning.specs.Builtins.{Replaced, replacement, replace_from, onto}
+use Rattle.pawk_meaning.specs.Builtins.{Replaced, replacement, replace_from}
 
 -- the text from a place on with its matches replaced, and how many they are; `behind`: a match that is not empty ended there
 abbrev pub replaced_behind : Pattern → List ℕ → List ℕ → ℕ → Bool → Replaced
@@ -24,11 +24,14 @@ match_replaced r s from m rest =
       count = rest.count + 1;
     }
 
+-- the text from a place on with the match replaced that was found, if there is one
+abbrev pub found_replaced : Pattern → List ℕ → List ℕ → ℕ → Option (ℕ × ℕ) → Replaced
+found_replaced e r s from None = record { text = drop from s; count = 0 }
+found_replaced e r s from (Some m) = match_replaced r s from m (replaced_behind e r s (from_behind s m) (is_behind s m))
+
 -- what is found is the next match that is replaced, whatever it is replaced by
 abbrev pub IsNextReplaced : Pattern → List ℕ → ℕ → Bool → Option (ℕ × ℕ) → Type 0
-IsNextReplaced e s from behind None = (r : List ℕ) → replaced_behind e r s from behind ≡ record { text = drop from s; count = 0 }
-IsNextReplaced e s from behind (Some m) =
-    (r : List ℕ) → replaced_behind e r s from behind ≡ match_replaced r s from m (replaced_behind e r s (from_behind s m) (is_behind s m))
+IsNextReplaced e s from behind o = (r : List ℕ) → replaced_behind e r s from behind ≡ found_replaced e r s from o
 
 -- a match lies from a place on, and is not the empty one there where a match that is not empty ended there
 pub record IsAhead (s : List ℕ) (from : ℕ) (behind : Bool) (m : ℕ × ℕ) : Type 0 where
@@ -40,4 +43,4 @@ pub record IsAhead (s : List ℕ) (from : ℕ) (behind : Bool) (m : ℕ × ℕ) 
 -- of the whole text this is laid out, and from a place on it goes on so
 pub record IsLaidOut (whole : Replaced) (s out : List ℕ) (place from count : ℕ) (rest : Replaced) : Type 0 where
   pub text : whole.text ≡ out ++ (slice_range s place from ++ rest.text)
-  pub count : whole.count ≡ count + rest.count
+  pub number : whole.count ≡ count + rest.count

@@ -1,6 +1,4 @@
-use Rattle.std.proofs.Common.{arith, ◌^◌, subst, sym}
-use Rattle.pawk_meaning.specs.Builtins.{found_by}
-use Rattle.pawk_builtins.specs.Settles.{Settles}
+use Rattle.std.proofs.Common.{arith, ◌^◌}
 use Rattle.pawk_builtins.proofs.MatchLemmas.{answer_settles, answer_inside, answer_before}
 use Rattle.pawk_builtins.proofs.matchers.Matchers.find.Goals as goal
 
