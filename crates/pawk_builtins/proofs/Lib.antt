@@ -1,3 +1,4 @@
+pub mod ReplacementLemmas
 pub mod ReplaceLemmas
 pub mod SplitLemmas
 pub mod MatchLemmas

@@ -1,18 +1,20 @@
 -- Searches skip the bytes at which no match starts.
-use Rattle.std.proofs.Common.{◌≡◌, ℕ, zero, suc, ◌+◌, ◌-◌, ◌<◌, ◌≤◌, arith, Bool, true, false, cond, eqb, ltb, not, ◌||◌, if◌then◌else◌, Option, Some, None, List, [], ◌∷◌, ◌++◌, length, take, drop, slice_range, refl, sym, ap, ◌∙◌, subst, ⊎_elim, length-drop, append_assoc, zero-add}
+use Rattle.std.proofs.Common.{◌≡◌, ℕ, zero, suc, ◌+◌, ◌-◌, ◌<◌, ◌≤◌, arith, Bool, true, false, cond, eqb, eqb-true, eq-eqb, Ok, IfSome, ltb, not, ◌||◌, if◌then◌else◌, Option, Some, None, List, [], ◌∷◌, ◌++◌, length, take, drop, slice_range, refl, sym, ap, ◌∙◌, subst, ⊎_elim, length-drop, append_assoc, zero-add}
 use Rattle.std.proofs.Math.Seq.{take-add}
 use Rattle.std.proofs.lemmas.List.Folds.{drop_split}
-use Rattle.pawk_code.specs.declared.word.Count.TheVariants.{All}
-use Rattle.std.proofs.lemmas.Bool.{cases_lt, lt-ltb, le-ltb, cond-true, cond-false}
+use Rattle.pawk_code.specs.declared.word.Count.TheVariants.{First, All}
+use Rattle.std.proofs.lemmas.Bool.{cases_lt, and_from, and_parts, lt-ltb, le-ltb, cond-true, cond-false}
 use Rattle.std.proofs.lemmas.List.{drop-drop, append-nil}
 use Rattle.pawk_pattern.specs.Pattern.{Pattern}
 use Rattle.pawk_machine.specs.Expand.{expand}
 use Rattle.pawk_machine.specs.Regex.{Regex}
 use Rattle.pawk_machine.specs.Table.{ends_with}
 use Rattle.pawk_search.specs.Search.{find, first_match, last_end, longest_end, match_or}
-use Rattle.pawk_search.proofs.SearchLemmas.{cons_at, nil_at}
-use Rattle.pawk_meaning.specs.Builtins.{Replaced, replaced, replacement, replace_from, replace_here, replace_end, onto, one_more}
-use Rattle.pawk_builtins.specs.ReplaceWalks.{replaced_behind, from_behind, is_behind, match_replaced, found_replaced, IsNextReplaced, IsLaidOut}
+use Rattle.pawk_search.proofs.SearchLemmas.{cons_at, nil_at, find_law_lem}
+use Rattle.pawk_meaning.specs.Builtins.{Replaced, replaced, replaced_at, replacement, replace_from, replace_here, replace_end, onto, one_more}
+use Rattle.pawk_builtins.specs.ReplaceWalks.{replaced_behind, from_behind, is_behind, match_replaced, found_replaced, is_used, IsAhead, IsNextReplaced, IsLaidOut}
+use Rattle.pawk_builtins.specs.Replaces.{Left}
+use Rattle.pawk_ere.specs.Answers.{IsAnswer}
 use Rattle.pawk_builtins.proofs.MatchLemmas.{find_inside, first_within}
 
 drop_nil : (n : ℕ) → drop {A = ℕ} n [] ≡ []
@@ -333,3 +335,86 @@ laid_all e r s whole out place from count behind low laid next =
 -- how many there are at most
 pub count_within : (e : Pattern) (r s : List ℕ) → (replaced All e r s).count ≤ length s + 1
 count_within e r s = count_from (expand e) r s 0 0 false
+
+pub laid_step : (e : Pattern) (r s : List ℕ) (whole : Replaced) (out : List ℕ) (place from count : ℕ) (behind : Bool) (m : ℕ × ℕ) (new : List ℕ) (next : ℕ × Bool) → place ≤ from → IsAhead s from behind m →
+    IsLaidOut whole s out place from count (replaced_behind e r s from behind) → IsNextReplaced e s from behind (Some m) →
+    new ≡ out ++ slice_range s place m.0 ++ replacement (slice_range s m.0 m.1) r → next ≡ (from_behind s m, is_behind s m) →
+    IsLaidOut whole s new m.1 next.0 (count + 1) (replaced_behind e r s next.0 next.1)
+laid_step e r s whole out place from count behind m new next low ahead laid found is goes_on =
+    subst (λ (t : List ℕ). IsLaidOut whole s t m.1 next.0 (count + 1) (replaced_behind e r s next.0 next.1)) (sym is)
+    (subst (λ (b : ℕ × Bool). IsLaidOut whole s (out ++ slice_range s place m.0 ++ replacement (slice_range s m.0 m.1) r) m.1 b.0 (count + 1) (replaced_behind e r s b.0 b.1)) (sym goes_on)
+    (laid_more e r s whole out place from count behind m low ahead.after laid found))
+
+pub count_more : (e : Pattern) (r s out : List ℕ) (place from count : ℕ) (behind : Bool) (m : ℕ × ℕ) →
+    IsLaidOut (replaced All e r s) s out place from count (replaced_behind e r s from behind) → IsNextReplaced e s from behind (Some m) → count + 1 ≤ length s + 1
+count_more e r s out place from count behind m laid found =
+    let most = count_within e r s in
+    let counts = ap (λ (x : Replaced). x.count) (found r) in
+    let all = laid.number in
+    omega arith
+
+-- ---- what a matcher finds
+
+-- what is found is ahead
+ahead_of : (e : Pattern) (s : List ℕ) (p : ℕ) (behind : Bool) (m : ℕ × ℕ) → p ≤ length s → find e s p ≡ Some m → is_used (Some m) p behind ≡ false → IsAhead s p behind m
+ahead_of e s p behind m w is unused =
+    let at = find_inside e s p m w is in
+    record {
+      after = at.after;
+      ordered = at.ordered;
+      high = at.high;
+      new = λ b. ⊎_elim (λ lt. lt)
+          (λ ge. let here : m.1 ≡ p = (let h = at.after in let g = at.ordered in omega arith) in
+              let yes = and_from behind (eqb m.1 p) b (eq-eqb m.1 p here) in let no = sym yes ∙ unused in absurd cc)
+          (cases_lt p m.1);
+    }
+
+pub unused_next : (e : Pattern) (s : List ℕ) (p : ℕ) (behind : Bool) (o : Option (ℕ × ℕ)) → p ≤ length s → IsAnswer e s p o → is_used o p behind ≡ false → IsNextReplaced e s p behind o
+unused_next e s p behind o w answer unused =
+    let is = sym ((find_law_lem e s p w).only o answer) in
+    next_plain e s p behind o w is (λ m h. (ahead_of e s p behind m w (is ∙ h) (subst (λ (o : Option (ℕ × ℕ)). is_used o p behind ≡ false) h unused)).new)
+
+pub unused_ahead : (e : Pattern) (s : List ℕ) (p : ℕ) (behind : Bool) (o : Option (ℕ × ℕ)) → p ≤ length s → IsAnswer e s p o → is_used o p behind ≡ false → IfSome o (IsAhead s p behind)
+unused_ahead e s p behind None w answer unused = tt
+unused_ahead e s p behind (Some m) w answer unused = ahead_of e s p behind m w (sym ((find_law_lem e s p w).only (Some m) answer)) unused
+
+pub used_end : (e : Pattern) (s : List ℕ) (p : ℕ) (behind : Bool) (o : Option (ℕ × ℕ)) → p ≡ length s → is_used o p behind ≡ true → IsNextReplaced e s p behind None
+used_end e s p behind None end used = absurd cc
+used_end e s p behind (Some m) end used =
+    let both = and_parts _ _ used in
+    subst (λ (v : Bool). IsNextReplaced e s p v None) (sym both.0) (next_end e s p end)
+
+pub used_next : (e : Pattern) (s : List ℕ) (p : ℕ) (behind : Bool) (o found : Option (ℕ × ℕ)) → p < length s → IsAnswer e s p o → is_used o p behind ≡ true → IsAnswer e s (p + 1) found → IsNextReplaced e s p behind found
+used_next e s p behind None found w answer used next = absurd cc
+used_next e s p behind (Some m) found w answer used next =
+    let both = and_parts _ _ used in
+    let is = sym ((find_law_lem e s p (omega arith)).only (Some m) answer) in
+    let later = sym ((find_law_lem e s (p + 1) (omega arith)).only found next) in
+    subst (λ (v : Bool). IsNextReplaced e s p v found) (sym both.0) (next_passed e s p m found w is (eqb-true m.1 p both.1) later)
+
+pub used_ahead : (e : Pattern) (s : List ℕ) (p : ℕ) (behind : Bool) (found : Option (ℕ × ℕ)) → p < length s → IsAnswer e s (p + 1) found → IfSome found (IsAhead s p behind)
+used_ahead e s p behind None w next = tt
+used_ahead e s p behind (Some m) w next =
+    let is = sym ((find_law_lem e s (p + 1) (omega arith)).only (Some m) next) in
+    let at = find_inside e s (p + 1) m (omega arith) is in
+    let a = at.after in
+    let b = at.ordered in
+    record { after = omega arith; ordered = at.ordered; high = at.high; new = λ h. omega arith }
+
+-- ---- the first match alone
+
+pub first_is : (e : Pattern) (s : List ℕ) (o : Option (ℕ × ℕ)) → IsAnswer e s 0 o → o ≡ find e s 0
+first_is e s o answer = (find_law_lem e s 0 (omega arith)).only o answer
+
+pub first_ahead : (e : Pattern) (s : List ℕ) (o : Option (ℕ × ℕ)) → IsAnswer e s 0 o → IfSome o (IsAhead s 0 false)
+first_ahead e s o answer = unused_ahead e s 0 false o (omega arith) answer (go o)
+  where
+    go : (o : Option (ℕ × ℕ)) → is_used o 0 false ≡ false
+    go None = refl
+    go (Some m) = refl
+
+pub first_none : (e : Pattern) (r s out : List ℕ) → None ≡ find e s 0 → Left out 0 (Ok (replaced First e r s))
+first_none e r s out is = subst (λ (o : Option (ℕ × ℕ)). Left out 0 (Ok (replaced_at r s o))) is (refl, λ h. absurd (omega arith))
+
+pub first_some : (e : Pattern) (r s out : List ℕ) (m : ℕ × ℕ) → Some m ≡ find e s 0 → out ≡ take m.0 s ++ (replacement (slice_range s m.0 m.1) r ++ drop m.1 s) → Left out 1 (Ok (replaced First e r s))
+first_some e r s out m is laid = subst (λ (o : Option (ℕ × ℕ)). Left out 1 (Ok (replaced_at r s o))) is (refl, λ h. sym laid)

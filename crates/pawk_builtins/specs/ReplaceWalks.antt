@@ -1,5 +1,5 @@
 -- How all matches of an expression in a text are replaced by searches.
-use Rattle.std.specs.Prelude.{◌≡◌, ℕ, ◌+◌, ◌<◌, ◌≤◌, Bool, true, not, ◌||◌, nat_lt, if◌then◌else◌, Option, Some, None, List, ◌++◌, length, drop, slice_range}
+use Rattle.std.specs.Prelude.{◌≡◌, ℕ, ◌+◌, ◌*◌, ◌-◌, ◌<◌, ◌≤◌, ◌==◌, Bool, true, false, not, ◌||◌, ◌&&◌, nat_lt, if◌then◌else◌, Option, Some, None, List, [], ◌∷◌, ◌++◌, length, drop, slice_range}
 use Rattle.pawk_pattern.specs.Pattern.{Pattern}
 use Rattle.pawk_machine.specs.Expand.{expand}
 use Rattle.pawk_meaning.specs.Builtins.{Replaced, replacement, replace_from}
@@ -44,3 +44,17 @@ pub record IsAhead (s : List ℕ) (from : ℕ) (behind : Bool) (m : ℕ × ℕ) 
 pub record IsLaidOut (whole : Replaced) (s out : List ℕ) (place from count : ℕ) (rest : Replaced) : Type 0 where
   pub text : whole.text ≡ out ++ (slice_range s place from ++ rest.text)
   pub number : whole.count ≡ count + rest.count
+
+-- a byte that a backslash before it makes one of the text: an ampersand or a backslash
+abbrev pub begins_escaped : List ℕ → Bool
+begins_escaped [] = false
+begins_escaped (b ∷ s) = (b == 38) || (b == 92)
+
+-- how much is left to be searched
+abbrev pub left_behind : List ℕ → ℕ → Bool → ℕ
+left_behind s from behind = 2 * (length s - from) + (if behind then 0 else 1)
+
+-- what is found is an empty match at a place where a match that is not empty ended
+abbrev pub is_used : Option (ℕ × ℕ) → ℕ → Bool → Bool
+is_used None from behind = false
+is_used (Some m) from behind = behind && (m.1 == from)

@@ -9,6 +9,8 @@ mod letters;
 mod matchers;
 mod occurrence;
 mod operators;
+mod replace;
+mod replacement;
 mod slot;
 mod substrings;
 mod values;
