@@ -1,5 +1,5 @@
 -- What matchers answer is what the definitions say.
-use Rattle.std.proofs.Common.{◌≡◌, ℕ, suc, ◌+◌, ◌<◌, ◌≤◌, arith, Option, Some, None, Result, Ok, Err, List, [], ◌∷◌, length, drop, IfOk, IfErr, IfSome, sym, ap, ◌∙◌, length-drop}
+use Rattle.std.proofs.Common.{◌≡◌, ℕ, suc, ◌+◌, ◌<◌, ◌≤◌, arith, Option, Some, None, Result, Ok, Err, List, [], ◌∷◌, length, drop, IfOk, IfErr, IfSome, sym, ap, subst, ◌∙◌, length-drop}
 use Rattle.pawk_pattern.specs.Pattern.{Pattern}
 use Rattle.pawk_pattern.specs.Tokens.{SpellsEre, SpellsNone}
 use Rattle.pawk_machine.specs.Expand.{expand}
@@ -15,7 +15,10 @@ use Rattle.pawk_split.specs.FieldsOf.{TellsNone}
 use Rattle.pawk_search.specs.Search.{find, first_match, longest_end, match_or}
 use Rattle.pawk_search.proofs.SearchLemmas.{find_law_lem}
 use Rattle.pawk_search.proofs.ReadLemmas.{read_law_lem}
-use Rattle.pawk_meaning.specs.Builtins.{pattern_of_text, pattern_or_fault, found_by}
+use Rattle.pawk_meaning.specs.Builtins.{pattern_of_text, pattern_or_fault, found_by, replaced_by}
+use Rattle.pawk_code.specs.declared.word.Count.{Count}
+use Rattle.pawk_builtins.specs.MatcherViews.{IsReplaced}
+use Rattle.pawk_builtins.specs.Replaces.{Left, Replaces}
 use Rattle.pawk_builtins.specs.Settles.{Settles}
 
 -- ---- the expression of a text
@@ -83,3 +86,10 @@ answer_before bytes s (Ok (Some m)) limit a h =
     let at = find_inside a.pattern s 0 m (omega arith) (sym is) in
     (at.ordered, omega (arith, at.high, h))
 answer_before bytes s (Err e) limit a h = tt
+
+-- ---- what a call of replace answers
+
+pub replace_settles : (bytes : List ℕ) (c : Count) (r s out : List ℕ) (a : Result ℕ Stop) → IfOk a (IsReplaced bytes c r s out) → IfErr a (TellsNone bytes) → Replaces (replaced_by c (pattern_of_text bytes) r s) out a
+replace_settles bytes c r s out (Ok n) a t = subst (λ (e : Result Pattern Fault). Left out n (replaced_by c e r s)) (sym (spells_is bytes a.pattern a.spelled)) a.left
+replace_settles bytes c r s out (Err (stop.Fault f)) a t = ap (λ e. replaced_by c e r s) (none_is bytes f t)
+replace_settles bytes c r s out (Err stop.Memory) a t = tt

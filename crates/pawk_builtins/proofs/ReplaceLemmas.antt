@@ -176,9 +176,9 @@ module _ (e : Pattern) (r s : List ℕ) where
       let size = length-drop i s in
       let long : suc (length rest) ≡ length s - i = sym (ap length is) ∙ size in
       let behind : drop (j - i - 1) rest ≡ drop j s =
-          ap (drop (j - i - 1)) (sym at.behind) ∙ (drop-drop (j - i - 1) (i + 1) s ∙ ap (λ n. drop n s) (let n : i + 1 + (j - i - 1) ≡ j = omega arith in n)) in
+      ap (drop (j - i - 1)) (sym at.behind) ∙ (drop-drop (j - i - 1) (i + 1) s ∙ ap (λ n. drop n s) (let n : i + 1 + (j - i - 1) ≡ j = omega arith in n)) in
       let next : replace_from (expand e) r (suc i) (j - i - 1) true rest ≡ From j true =
-          passes (expand e) r (j - i - 1) (suc i) rest (omega arith) ∙ (ap (λ n. replace_from (expand e) r n 0 true (drop (j - i - 1) rest)) place ∙ ap (λ t. replace_from (expand e) r j 0 true t) behind) in
+      passes (expand e) r (j - i - 1) (suc i) rest (omega arith) ∙ (ap (λ n. replace_from (expand e) r n 0 true (drop (j - i - 1) rest)) place ∙ ap (λ t. replace_from (expand e) r j 0 true t) behind) in
       let more : suc (From j true).count ≡ (From j true).count + 1 = omega arith in
       same_from (i, j) j true f v _
       (cond-true _ _ _ yes
@@ -200,7 +200,7 @@ module _ (e : Pattern) (r s : List ℕ) where
       let byte : slice_range s i (i + 1) ≡ b ∷ [] = ap (λ n. take n (drop i s)) one ∙ ap (take 1) is in
       let place : suc i ≡ i + 1 = omega arith in
       let next : replace_from (expand e) r (suc i) 0 false rest ≡ From (i + 1) false =
-          ap (λ n. replace_from (expand e) r n 0 false rest) place ∙ ap (λ t. replace_from (expand e) r (i + 1) 0 false t) (sym at.behind) in
+      ap (λ n. replace_from (expand e) r n 0 false rest) place ∙ ap (λ t. replace_from (expand e) r (i + 1) 0 false t) (sym at.behind) in
       let count : suc (From (i + 1) false).count ≡ (From (i + 1) false).count + 1 = omega arith in
       same_from (i, i) (i + 1) false f v _
       (cond-false _ _ _ no
@@ -221,8 +221,8 @@ module _ (e : Pattern) (r s : List ℕ) where
       go (b ∷ rest) is = ⊎_elim
           (λ lt. tail_some m.0 m.1 b rest lt high is)
           (λ ge. let same : m.0 ≡ m.1 = omega arith in
-              let at = cons_at s m.0 b rest (omega arith) is in
-              subst (λ (j : ℕ). TailIs (m.0, j) (b ∷ rest)) same (tail_none m.0 b rest at.more is))
+          let at = cons_at s m.0 b rest (omega arith) is in
+          subst (λ (j : ℕ). TailIs (m.0, j) (b ∷ rest)) same (tail_none m.0 b rest at.more is))
           (cases_lt m.0 m.1)
 
 -- what is found from a place on is the next match that is replaced, unless it is the empty one where another ended
@@ -310,9 +310,9 @@ laid_more e r s whole out place from count behind m low high laid next =
     let counts = ap (λ (x : Replaced). x.count) gives in
     record {
       text = laid.text ∙ (ap (λ t. out ++ (slice_range s place from ++ t)) texts
-      ∙ (ap (λ t. out ++ t) (sym (append_assoc (slice_range s place from) (slice_range s from m.0) (there ++ later)))
-      ∙ (ap (λ t. out ++ (t ++ (there ++ later))) (slices s place from m.0 low high)
-      ∙ (sym (append_assoc out (slice_range s place m.0) (there ++ later)) ∙ sym (append_assoc (out ++ slice_range s place m.0) there later)))));
+          ∙ (ap (λ t. out ++ t) (sym (append_assoc (slice_range s place from) (slice_range s from m.0) (there ++ later)))
+          ∙ (ap (λ t. out ++ (t ++ (there ++ later))) (slices s place from m.0 low high)
+          ∙ (sym (append_assoc out (slice_range s place m.0) (there ++ later)) ∙ sym (append_assoc (out ++ slice_range s place m.0) there later)))));
       number = laid.number ∙ (let h = counts in omega arith);
     }
   where
@@ -365,7 +365,7 @@ ahead_of e s p behind m w is unused =
       high = at.high;
       new = λ b. ⊎_elim (λ lt. lt)
           (λ ge. let here : m.1 ≡ p = (let h = at.after in let g = at.ordered in omega arith) in
-              let yes = and_from behind (eqb m.1 p) b (eq-eqb m.1 p here) in let no = sym yes ∙ unused in absurd cc)
+          let yes = and_from behind (eqb m.1 p) b (eq-eqb m.1 p here) in let no = sym yes ∙ unused in absurd cc)
           (cases_lt p m.1);
     }
 
@@ -387,7 +387,7 @@ used_end e s p behind (Some m) end used =
 pub used_next : (e : Pattern) (s : List ℕ) (p : ℕ) (behind : Bool) (o found : Option (ℕ × ℕ)) → p < length s → IsAnswer e s p o → is_used o p behind ≡ true → IsAnswer e s (p + 1) found → IsNextReplaced e s p behind found
 used_next e s p behind None found w answer used next = absurd cc
 used_next e s p behind (Some m) found w answer used next =
-    let both = and_parts _ _ used in
+    let both = and_parts behind (eqb m.1 p) used in
     let is = sym ((find_law_lem e s p (omega arith)).only (Some m) answer) in
     let later = sym ((find_law_lem e s (p + 1) (omega arith)).only found next) in
     subst (λ (v : Bool). IsNextReplaced e s p v found) (sym both.0) (next_passed e s p m found w is (eqb-true m.1 p both.1) later)

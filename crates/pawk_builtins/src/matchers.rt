@@ -6,13 +6,14 @@ ghost use Rattle.pawk_ere.specs.Kept.{IsAnswerOfText};
 ghost use Rattle.pawk_split.specs.FieldsOf.{TellsNone};
 ghost use Rattle.pawk_meaning.specs.Builtins.{found_by, replaced_by, pieces_by, pieces_between, fixed_at};
 ghost use Rattle.pawk_builtins.specs.ExpressionViews.{expression_of, texts_of};
-ghost use Rattle.pawk_builtins.specs.MatcherViews.{AreOfTheirTexts};
+ghost use Rattle.pawk_builtins.specs.MatcherViews.{AreOfTheirTexts, IsReplaced};
 ghost use Rattle.pawk_builtins.specs.Pieces.{pieces_in};
 ghost use Rattle.pawk_builtins.specs.Replaces.{Replaces};
 ghost use Rattle.pawk_builtins.specs.Settles.{Settles};
 
 use crate::between::split_fixed;
 use crate::expression::{Expression, fixed_text, spelled_text};
+use crate::replace::{Change, replace_fixed, replace_lent};
 use crate::slot::find_in;
 use pawk_code::expression::Pattern;
 use pawk_code::word::Count;
@@ -135,6 +136,29 @@ impl Matchers {
         }
     }
 
+    /// Replaces by the matcher of the expression, which `ere` spells.
+    fn replace_spelled(
+        &mut self,
+        pattern: &Pattern,
+        ere: &[u8],
+        change: Change<'_>,
+        out: &mut Vec<u8>,
+    ) -> Result<usize, Stop>
+        requires short { length change.text.now + 1 < 2 ^ 63 }
+        requires empty { out.old.items ≡ [] }
+        ensures text { IfOk result (IsReplaced ere.now change.entry.count
+            change.entry.replacement.now change.entry.text.now out.new.items) }
+        ensures few { IfOk result (λ n. n < 2 ^ 63) }
+        ensures fault { IfErr result (TellsNone ere.now) }
+    {
+        match pattern {
+            Pattern::Fixed(number) => {
+                replace_fixed(&mut self.fixed, *number, self.alloc, ere, change, out)
+            }
+            Pattern::Value(_) => replace_lent(&mut self.cache, ere, change, out),
+        }
+    }
+
     /// Replaces the first match in a text, or all from left to right, and says how many. The new text
     /// is laid into `out`, which was empty, where there is one; nothing is copied where nothing matches.
     ///
@@ -155,7 +179,18 @@ impl Matchers {
             out.new.items result }
         ensures few { IfOk result (λ count. count < 2 ^ 63) }
     {
-        Err(Stop::Memory)
+        if text.len() > LONGEST_TEXT {
+            return Err(Stop::Memory);
+        }
+        let change = Change {
+            count,
+            replacement,
+            text,
+        };
+        match spelled_text(expression) {
+            Some(ere) => self.replace_spelled(expression.pattern, ere, change, out),
+            None => Err(Stop::Fault(Fault::Ere)),
+        }
     }
 
     /// Where the pieces of a text lie that an FS separates.

@@ -1,6 +1,6 @@
 //! Replacing matches.
 
-ghost use Rattle.std.specs.Prelude.{◌≡◌, ◌+◌, ◌^◌, ◌<◌, ◌≤◌, ◌++◌, [], false, ℕ, Ok, length, slice_range, IfOk, IfSome, OnOk};
+ghost use Rattle.std.specs.Prelude.{◌≡◌, ◌+◌, ◌^◌, ◌<◌, ◌≤◌, ◌++◌, [], false, ℕ, Ok, length, slice_range, IfErr, IfOk, IfSome, OnOk};
 ghost use Rattle.pawk_pattern.specs.Pattern.{Pattern};
 ghost use Rattle.pawk_ere.specs.Answers.{IsFor};
 ghost use Rattle.pawk_search.specs.Search as search;
@@ -9,11 +9,16 @@ ghost use Rattle.pawk_meaning.specs.Builtins as spec;
 ghost use Rattle.pawk_builtins.specs.ReplaceWalks as spec_walks;
 ghost use Rattle.pawk_builtins.specs.ReplaceWalks.{from_behind, is_behind, IsAhead, IsNextReplaced};
 ghost use Rattle.pawk_builtins.specs.Replaces.{Left};
+ghost use Rattle.pawk_builtins.specs.MatcherViews.{AreOfTheirTexts, IsReplaced};
+ghost use Rattle.pawk_ere.specs.Kept.{IsOfItsText};
+ghost use Rattle.pawk_split.specs.FieldsOf.{TellsNone};
 
 use crate::replacement::push_replacement;
+use crate::slot::{fill_slot, lend_matcher};
 use pawk_code::word::Count;
-use pawk_ere::Matcher;
-use std::alloc::AllocError;
+use pawk_ere::{Cache, Loan, Matcher};
+use pawk_value::Stop;
+use std::alloc::{AllocError, Global};
 
 /// Whether what is found is an empty match at a place where a match that is not empty ended.
 fn is_used(found: Option<(usize, usize)>, from: usize, behind: bool) -> bool
@@ -148,25 +153,104 @@ fn replace_first(
     Ok(1)
 }
 
+/// What is to be replaced in a text.
+#[derive(Clone, Copy)]
+pub(crate) struct Change<'c> {
+    /// Whether the first match is replaced, or all.
+    pub(crate) count: Count,
+    /// What a match is replaced by, with ampersands and backslashes.
+    pub(crate) replacement: &'c [u8],
+    /// The text.
+    pub(crate) text: &'c [u8],
+}
+
 /// Lays a text with the first match or all replaced into `out`, which was empty, if there are some,
 /// and says how many.
-pub(crate) fn replace_with(
+fn replace_with(
     matcher: &mut Matcher,
-    count: Count,
-    replacement: &[u8],
-    text: &[u8],
+    change: Change<'_>,
     out: &mut Vec<u8>,
 ) -> Result<usize, AllocError>
     requires matcher { (e : Pattern) × IsFor e matcher.old }
-    requires short { length text.now + 1 < 2 ^ 63 }
+    requires short { length change.text.now + 1 < 2 ^ 63 }
     requires empty { out.old.items ≡ [] }
     ensures text { (e : Pattern) → IsFor e matcher.old → IfOk result
-        (λ n. Left out.new.items n (Ok (replaced count e replacement.now text.now))) }
+        (λ n. Left out.new.items n
+        (Ok (replaced change.entry.count e change.entry.replacement.now change.entry.text.now))) }
     ensures few { IfOk result (λ n. n < 2 ^ 63) }
     ensures matcher { matcher.new ≡ matcher.old }
 {
-    match count {
-        Count::First => replace_first(matcher, replacement, text, out),
-        Count::All => replace_all(matcher, replacement, text, out),
+    match change.count {
+        Count::First => replace_first(matcher, change.replacement, change.text, out),
+        Count::All => replace_all(matcher, change.replacement, change.text, out),
     }
+}
+
+/// Replaces by the matcher in a place, which is read if it is not there.
+fn replace_in(
+    slot: &mut Option<Loan>,
+    alloc: Global,
+    ere: &[u8],
+    change: Change<'_>,
+    out: &mut Vec<u8>,
+) -> Result<usize, Stop>
+    requires slot { IfSome slot.old IsOfItsText }
+    requires short { length change.text.now + 1 < 2 ^ 63 }
+    requires empty { out.old.items ≡ [] }
+    ensures slot { IfSome slot.new IsOfItsText }
+    ensures text { IfOk result (IsReplaced ere.now change.entry.count
+        change.entry.replacement.now change.entry.text.now out.new.items) }
+    ensures few { IfOk result (λ n. n < 2 ^ 63) }
+    ensures fault { IfErr result (TellsNone ere.now) }
+{
+    fill_slot(slot, alloc, ere)?;
+    match slot {
+        Some(loan) => Ok(replace_with(&mut loan.matcher, change, out)?),
+        None => unreachable!(),
+    }
+}
+
+/// Replaces by the matcher of this number.
+pub(crate) fn replace_fixed(
+    fixed: &mut Vec<Option<Loan>>,
+    number: usize,
+    alloc: Global,
+    ere: &[u8],
+    change: Change<'_>,
+    out: &mut Vec<u8>,
+) -> Result<usize, Stop>
+    requires fixed { AreOfTheirTexts fixed.old.items }
+    requires short { length change.text.now + 1 < 2 ^ 63 }
+    requires empty { out.old.items ≡ [] }
+    ensures fixed { AreOfTheirTexts fixed.new.items }
+    ensures text { IfOk result (IsReplaced ere.now change.entry.count
+        change.entry.replacement.now change.entry.text.now out.new.items) }
+    ensures few { IfOk result (λ n. n < 2 ^ 63) }
+    ensures fault { IfErr result (TellsNone ere.now) }
+{
+    match fixed.get_mut(number) {
+        Some(slot) => replace_in(slot, alloc, ere, change, out),
+        None => replace_in(&mut None, alloc, ere, change, out),
+    }
+}
+
+/// Replaces by a matcher that a cache lends for the whole text.
+pub(crate) fn replace_lent(
+    cache: &mut Cache,
+    ere: &[u8],
+    change: Change<'_>,
+    out: &mut Vec<u8>,
+) -> Result<usize, Stop>
+    requires short { length change.text.now + 1 < 2 ^ 63 }
+    requires empty { out.old.items ≡ [] }
+    ensures text { IfOk result (IsReplaced ere.now change.entry.count
+        change.entry.replacement.now change.entry.text.now out.new.items) }
+    ensures few { IfOk result (λ n. n < 2 ^ 63) }
+    ensures fault { IfErr result (TellsNone ere.now) }
+    ensures cache { cache.new ≡ cache.old }
+{
+    let mut loan = lend_matcher(cache, ere)?;
+    let answer = replace_with(&mut loan.matcher, change, out);
+    cache.take_back(loan);
+    Ok(answer?)
 }

@@ -1,12 +1,14 @@
 //! Places for matchers.
 
-ghost use Rattle.std.specs.Prelude.{◌≡◌, true, IfErr, IfOk, IfSome, IsSomeAnd, OnOk};
+ghost use Rattle.std.specs.Prelude.{◌≡◌, ℕ, List, true, IfErr, IfOk, IfSome, IsSomeAnd, OnOk};
 ghost use Rattle.pawk_ere.specs.Kept.{IsAnswerOfText, IsOfItsText, IsOfText};
+ghost use Rattle.pawk_pattern.specs.Refusals.{Tells};
+ghost use Rattle.pawk_pattern.specs.Tokens.{SpellsNone};
 ghost use Rattle.pawk_split.specs.FieldsOf.{TellsNone};
 
-use pawk_ere::Loan;
+use pawk_ere::{Cache, EreRefusal, Loan};
 use pawk_split::expression_matcher;
-use pawk_value::Stop;
+use pawk_value::{Fault, Stop};
 use std::alloc::Global;
 
 /// Whether the matcher of a text is there.
@@ -64,5 +66,28 @@ pub(crate) fn find_in(
     match slot {
         Some(loan) => Ok(loan.matcher.find(text, 0)?),
         None => unreachable!(),
+    }
+}
+
+/// Why an expression was not read, as a stop of a run.
+fn stop_of(why: EreRefusal) -> Stop
+    ensures { (p : List ℕ) → Tells why (SpellsNone p) → TellsNone p result }
+{
+    match why {
+        EreRefusal::Memory => Stop::Memory,
+        _ => Stop::Fault(Fault::Ere),
+    }
+}
+
+/// The matcher of a text, which a cache lends; fault `ere` where it spells no expression.
+pub(crate) fn lend_matcher(cache: &mut Cache, ere: &[u8]) -> Result<Loan, Stop>
+    ensures own { IfOk result IsOfItsText }
+    ensures matcher { IfOk result (λ loan. IsOfText ere.now loan.matcher) }
+    ensures fault { IfErr result (TellsNone ere.now) }
+    ensures cache { cache.new ≡ cache.old }
+{
+    match cache.lend(ere) {
+        Ok(loan) => Ok(loan),
+        Err(why) => Err(stop_of(why)),
     }
 }
