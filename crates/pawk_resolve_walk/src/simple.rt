@@ -9,6 +9,8 @@ ghost use Rattle.pawk_code.specs.StatementViews.{simple_view, head_view, stmt_vi
 ghost use Rattle.pawk_syntax_tree.specs.Tree as tree;
 ghost use Rattle.pawk_syntax_tree.specs.Tree.{trees, view as tree_view, views as tree_views};
 ghost use Rattle.pawk_syntax_program.specs.Statement.{stmt_view as tree_stmt_view, option_view};
+ghost use Rattle.pawk_code.specs.Statements as statements;
+ghost use Rattle.pawk_resolve.specs.Scopes.{array_of};
 ghost use Rattle.pawk_resolve.specs.ScopeViews.{scope_view};
 ghost use Rattle.pawk_resolve.specs.Resolved.{resolved, resolved_all};
 ghost use Rattle.pawk_resolve.specs.ResolvedStatements as spec;
@@ -22,7 +24,7 @@ use pawk_resolve::scope::Scope;
 use pawk_resolve::sorted::{format, nothing};
 use pawk_scalar::Op;
 use pawk_syntax_program::statement::{Leave as Word, Statement as TreeStatement};
-use pawk_syntax_tree::tree::Expr as Tree;
+use pawk_syntax_tree::tree::{Expr as Tree, Name};
 use std::alloc::{AllocError, Global};
 
 /// A number whose value is dropped.
@@ -147,6 +149,29 @@ fn printf<'t>(scope: &Scope<'_, 't>, alloc: Global, es: &'t [Tree]) -> Result<Si
     }
 }
 
+/// `delete a[k, l]`
+fn delete<'t>(
+    scope: &Scope<'_, 't>,
+    alloc: Global,
+    name: &'t Name,
+    keys: &'t [Tree],
+) -> Result<Simple, AllocError>
+    ensures { IfOk result (λ x. simple_view x ≡ statements.delete
+        (array_of (scope_view scope.now) name.now.text.items)
+        (resolved_all (scope_view scope.now) (trees (tree_views keys.now)))) }
+{
+    let keys = list(scope, alloc, keys)?;
+    Ok(Simple::Delete(scope.array(name.text.as_slice()), keys))
+}
+
+/// `delete a`
+fn clear(scope: &Scope<'_, '_>, name: &Name) -> Simple
+    ensures { simple_view result ≡
+        statements.clear (array_of (scope_view scope.now) name.now.text.items) }
+{
+    Simple::Clear(scope.array(name.text.as_slice()))
+}
+
 /// A word that leaves.
 fn left_by(word: Word) -> Leave
     ensures { leave_view result ≡ spec.left_by word }
@@ -192,14 +217,9 @@ pub fn plain<'t>(
         TreeStatement::Print(es) => Ok(Statement::Simple(print(scope, alloc, es)?)),
         TreeStatement::Printf(es) => Ok(Statement::Simple(printf(scope, alloc, es)?)),
         TreeStatement::Delete(name, keys) => {
-            let keys = list(scope, alloc, keys)?;
-            let array = scope.array(name.text.as_slice());
-            Ok(Statement::Simple(Simple::Delete(array, keys)))
+            Ok(Statement::Simple(delete(scope, alloc, name, keys)?))
         }
-        TreeStatement::DeleteArray(name) => {
-            let array = scope.array(name.text.as_slice());
-            Ok(Statement::Simple(Simple::Clear(array)))
-        }
+        TreeStatement::DeleteArray(name) => Ok(Statement::Simple(clear(scope, name))),
         _ => leave(scope, alloc, x),
     }
 }
