@@ -1,0 +1,3 @@
+mod Between
+mod Among
+mod Choice
