@@ -106,21 +106,17 @@ abbrev pub functions_from : Globals → ℕ → List Part → List Function
 functions_from g n [] = []
 functions_from g n (p ∷ ps) = function_at g n p ++ functions_from g (suc n) ps
 
--- the place of each text among texts that may repeat it
-abbrev pub slots : List Text → List Text → List ℕ
-slots all xs = map (slot all) xs
-
-abbrev pub resolved_items : Globals → List Text → List Part → Code
-resolved_items g eres ps = record {
+abbrev pub resolved_items : Globals → List Part → Code
+resolved_items g ps = record {
   begins = flat_map (begin_of g) ps;
   rules = flat_map (rule_of g) ps;
   ends = flat_map (end_of g) ps;
   functions = functions_from g 1 ps;
   scalars = g.scalars;
   arrays = g.arrays;
-  expressions = slots eres g.expressions;
+  expressions = g.expressions;
 }
 
 -- the code of a program whose names have these kinds, and between whose slashes these expressions stand
 abbrev pub resolved_program : Kinds → List Text → List Part → Code
-resolved_program k eres ps = resolved_items (globals_of k eres ps) eres ps
+resolved_program k eres ps = resolved_items (globals_of k eres ps) ps

@@ -5,7 +5,7 @@ ghost use Rattle.pawk_syntax_program.specs.Item.{part};
 ghost use Rattle.pawk_syntax.specs.Programs.{parts};
 ghost use Rattle.pawk_code.specs.ProgramViews.{code_view};
 ghost use Rattle.pawk_resolve.specs.Tables.{texts as seen_texts};
-ghost use Rattle.pawk_resolve.specs.ScopeViews.{table_names, globals_view};
+ghost use Rattle.pawk_resolve.specs.ScopeViews.{globals_view};
 ghost use Rattle.pawk_resolve.specs.ResolvedPrograms as spec;
 ghost use Rattle.pawk_resolve_program.specs.Codes.{IsCodeOf};
 
@@ -14,7 +14,6 @@ use crate::globals::globals_of;
 use crate::texts::texts_of;
 use pawk_code::program::Code;
 use pawk_resolve::scope::Globals;
-use pawk_resolve::table::Table;
 use pawk_syntax::Program;
 use pawk_syntax_program::item::Item;
 use std::alloc::{AllocError, Global};
@@ -30,30 +29,6 @@ fn copied(alloc: Global, texts: &[&[u8]]) -> Result<Vec<Vec<u8>>, AllocError>
     Ok(all)
 }
 
-/// These texts, each with the place where it first stands.
-fn all_places<'t>(alloc: Global, texts: &[&'t [u8]]) -> Result<Table<'t>, AllocError>
-    ensures { IfOk result (λ t. table_names t ≡ seen_texts texts.now) }
-{
-    let mut table = Table::new(alloc);
-    for text in texts {
-        table.push(text)?;
-    }
-    Ok(table)
-}
-
-/// Where each of the different texts first stands among all.
-fn places(alloc: Global, all: &[&[u8]], different: &[&[u8]]) -> Result<Vec<usize>, AllocError>
-    ensures { IfOk result (λ v. v.items ≡
-        spec.slots (seen_texts all.now) (seen_texts different.now)) }
-{
-    let table = all_places(alloc, all)?;
-    let mut places = Vec::new(alloc);
-    for text in different {
-        places.push(table.slot(text))?;
-    }
-    Ok(places)
-}
-
 /// The names of the global scalars and arrays.
 fn names(alloc: Global, globals: &Globals<'_>) -> Result<(Vec<Vec<u8>>, Vec<Vec<u8>>), AllocError>
     ensures scalars { IfOk result (λ both. map (λ x. x.items) both.0.items ≡
@@ -66,17 +41,16 @@ fn names(alloc: Global, globals: &Globals<'_>) -> Result<(Vec<Vec<u8>>, Vec<Vec<
     Ok((scalars, arrays))
 }
 
-/// The code of items whose names are given, and between whose slashes these texts stand.
+/// The code of items whose names are given.
 fn code<'t>(
     alloc: Global,
     globals: &Globals<'t>,
-    texts: &[&[u8]],
     items: &'t [Item],
 ) -> Result<Code, AllocError>
-    ensures { IfOk result (λ c. code_view c ≡ spec.resolved_items
-        (globals_view globals.now) (seen_texts texts.now) (map part items.now)) }
+    ensures { IfOk result (λ c. code_view c ≡
+        spec.resolved_items (globals_view globals.now) (map part items.now)) }
 {
-    let expressions = places(alloc, texts, globals.expressions.names.as_slice())?;
+    let expressions = copied(alloc, globals.expressions.names.as_slice())?;
     let (scalars, arrays) = names(alloc, globals)?;
     let functions = functions(globals, alloc, items)?;
     let actions = actions_of(globals, alloc, items)?;
@@ -97,7 +71,7 @@ pub fn resolve_items(alloc: Global, items: &[Item]) -> Result<Code, AllocError>
 {
     let texts = texts_of(alloc, items)?;
     let globals = globals_of(alloc, items, texts.as_slice())?;
-    code(alloc, &globals, texts.as_slice(), items)
+    code(alloc, &globals, items)
 }
 
 /// The code of a program. It is refused for want of memory alone.

@@ -14,6 +14,6 @@ returns c =
     let ps = map part c.args.items.now in
     let g = c.in_ok-globals.globals in
     let xs = texts c.in_ok-texts.texts.items in
-    let whole : IfOk c.code.result (λ d. code_view d ≡ resolved_items (globals_view g) xs ps) = search rules in
+    let whole : IfOk c.code.result (λ d. code_view d ≡ resolved_items (globals_view g) ps) = search rules in
     let names : globals_view g ≡ globals_of (kinds_in g.kinds) xs ps = search rules in
     codes_are ps c.code.result (globals_view g) (kinds_in g.kinds) xs whole names c.in_ok-texts.ensures c.in_ok-globals.ensures.kinds
