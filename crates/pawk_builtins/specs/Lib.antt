@@ -4,3 +4,4 @@ pub mod Replaces
 pub mod Pieces
 pub mod ValueViews
 pub mod FormatViews
+pub mod PlaceViews

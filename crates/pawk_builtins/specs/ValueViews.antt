@@ -1,5 +1,5 @@
 -- Values in one room of bytes.
-use Rattle.std.specs.Prelude.{ℕ, ◌≤◌, List, map, length, slice_range}
+use Rattle.std.specs.Prelude.{ℕ, ◌≤◌, List, length, slice_range}
 use Rattle.std.specs.List.{All}
 use Rattle.std.specs.declared.ops.Range.{Range}
 use Rattle.pawk_value.specs.Value.{Val}

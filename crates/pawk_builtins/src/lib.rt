@@ -1,12 +1,18 @@
 //! The built-in functions of awk, on what their operands were converted to.
 #![tactic(auto)]
 
+mod conversions;
 mod expression;
 mod formats;
 mod matchers;
+mod operators;
+mod substrings;
 mod values;
 
+pub use conversions::{both, exit_status, field_index, match_place, within_limit};
 pub use expression::Expression;
 pub use formats::format_values;
 pub use matchers::Matchers;
+pub use operators::{related, same_truth, step_side, step_sign};
+pub use substrings::{substring, suffix};
 pub use values::Values;

@@ -1,6 +1,6 @@
 //! The matchers of a run.
 
-ghost use Rattle.std.specs.Prelude.{◌≡◌, ◌≤◌, ◌<◌, ◌^◌, [], length, map, slice_range, IfOk, IfSome};
+ghost use Rattle.std.specs.Prelude.{◌≡◌, ◌≤◌, ◌<◌, ◌+◌, ◌^◌, [], length, map, slice_range, IfOk, IfSome};
 ghost use Rattle.std.specs.List.{All};
 ghost use Rattle.pawk_meaning.specs.Builtins.{found_by, replaced_by, pieces_by, pieces_between, fixed_at};
 ghost use Rattle.pawk_builtins.specs.ExpressionViews.{expression_of, texts_of};
@@ -50,6 +50,8 @@ impl Matchers {
             (found_by (expression_of expression.entry) text.now) result }
         ensures within { IfOk result
             (λ found. IfSome found (λ m. (m.0 ≤ m.1) × (m.1 < 2 ^ 63))) }
+        ensures place { IfOk result
+            (λ found. IfSome found (λ m. (m.0 ≤ m.1) × (m.1 + 1 < 2 ^ 63))) }
     {
         Err(Stop::Memory)
     }
