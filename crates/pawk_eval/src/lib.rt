@@ -1,0 +1,11 @@
+//! Expressions and statements of a program, run over any world.
+#![tactic(auto)]
+
+mod context;
+mod evaluate;
+mod flow;
+mod operations;
+
+pub use context::Context;
+pub use evaluate::truth;
+pub use flow::Flow;
