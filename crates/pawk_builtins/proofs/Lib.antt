@@ -1,1 +1,4 @@
+pub mod FormatLemmas
+pub mod OccurrenceLemmas
 pub mod PlaceLemmas
+pub mod ValueLemmas

@@ -1,6 +1,7 @@
 //! Formats of values.
 
-ghost use Rattle.std.specs.Prelude.{◌≡◌};
+ghost use Rattle.std.specs.Prelude.{◌≡◌, map};
+ghost use Rattle.pawk_value.specs.Value.{lent_value};
 ghost use Rattle.pawk_meaning.specs.Builtins.{formatted_text};
 ghost use Rattle.pawk_code.specs.ExpressionViews.{format_view};
 ghost use Rattle.pawk_builtins.specs.FormatViews.{format_text};
@@ -8,8 +9,25 @@ ghost use Rattle.pawk_builtins.specs.Settles.{Settles};
 
 use crate::values::Values;
 use pawk_code::expression::Format;
-use pawk_value::Stop;
+use pawk_value::{Stop, ValueRef, format_into, template_into};
 use std::alloc::Global;
+
+/// Makes a buffer the text of a format with lent values.
+fn write_format(
+    out: &mut Vec<u8>,
+    format: &Format,
+    text: &[u8],
+    values: &[ValueRef<'_>],
+) -> Result<(), Stop>
+    ensures { Settles (λ _. out.new.items)
+        (formatted_text (format_text (format_view format.now) text.now) (map lent_value values.now))
+        result }
+{
+    match format {
+        Format::Fixed(fixed) => template_into(out, &fixed.template, values),
+        Format::Value(_) => format_into(out, text, values),
+    }
+}
 
 /// The text that a format makes of values, where the format that is a value has the text `text`.
 ///
@@ -25,5 +43,8 @@ pub fn format_values(
     ensures { Settles (λ text. text.items)
         (formatted_text (format_text (format_view format.now) text.now) values.now) result }
 {
-    Err(Stop::Memory)
+    let lent = values.lend(alloc)?;
+    let mut out = Vec::new(alloc);
+    write_format(&mut out, format, text, &lent)?;
+    Ok(out)
 }

@@ -4,7 +4,7 @@ ghost use Rattle.std.specs.Prelude.{◌≡◌, ◌++◌, ◌∷◌, [], map, IfO
 ghost use Rattle.pawk_value.specs.Value.{lent_value};
 ghost use Rattle.pawk_value.specs.Held.{held_value};
 
-use pawk_value::{Held, ValueRef};
+use pawk_value::{Held, ValueRef, lend_held};
 use std::alloc::{AllocError, Global};
 use std::marker::Model;
 use std::ops::Range;
@@ -12,7 +12,6 @@ use std::ops::Range;
 /// Values in their order, in one room of bytes.
 #[derive(Drop)]
 pub struct Values {
-    alloc: Global,
     bytes: Vec<u8>,
     values: Vec<(Held, Range<usize>)>,
 }
@@ -36,7 +35,6 @@ impl Values {
         ensures { result ≡ [] }
     {
         Values {
-            alloc,
             bytes: Vec::new(alloc),
             values: Vec::new(alloc),
         }
@@ -47,6 +45,21 @@ impl Values {
     pub fn push(&mut self, held: Held, bytes: &[u8]) -> Result<(), AllocError>
         ensures { OnOk result (self.new ≡ self.old ++ held_value held bytes.now ∷ []) }
     {
-        Err(AllocError)
+        let begin = self.bytes.len();
+        self.bytes.extend_from_slice(bytes)?;
+        let end = self.bytes.len();
+        self.values.push((held, begin..end))?;
+        Ok(())
+    }
+
+    /// The values, with their bytes lent.
+    pub(crate) fn lend(&self, alloc: Global) -> Result<Vec<ValueRef<'_>>, AllocError>
+        ensures { IfOk result (λ lent. map lent_value lent.items ≡ self.now) }
+    {
+        let mut lent = Vec::with_capacity(alloc, self.values.len())?;
+        for (held, range) in &self.values {
+            lent.push(lend_held(*held, &self.bytes[range.start..range.end]))?;
+        }
+        Ok(lent)
     }
 }

@@ -1,0 +1,26 @@
+-- Values in one room stay when bytes are appended to it.
+use Rattle.std.proofs.Common.{◌≡◌, ℕ, zero, suc, ◌+◌, ◌-◌, ◌≤◌, List, [], ◌∷◌, ◌++◌, length, map, drop, refl, arith, length-drop}
+use Rattle.std.specs.Prelude.{slice_range}
+use Rattle.std.specs.declared.ops.Range.{Range}
+use Rattle.std.proofs.lemmas.List.{drop-append-le, take-append-le}
+use Rattle.std.proofs.Math.Seq.{drop-append_seam, take-length}
+use Rattle.pawk_value.specs.declared.held.Held.{Held}
+use Rattle.pawk_builtins.specs.ValueViews.{value_in, AreWithin}
+
+range_stays : (bytes more : List ℕ) (a b : ℕ) → a ≤ b → b ≤ length bytes → slice_range (bytes ++ more) a b ≡ slice_range bytes a b
+range_stays bytes more a b g h =
+    let start : a ≤ length bytes = omega (arith, g, h) in
+    let end : b - a ≤ length (drop a bytes) = omega (arith, g, h, length-drop a bytes) in
+    rw (drop-append-le a bytes more start) (take-append-le (b - a) (drop a bytes) more end)
+
+pub values_stay : (bytes more : List ℕ) (ps : List (Held × Range ℕ)) → AreWithin bytes ps → map (value_in (bytes ++ more)) ps ≡ map (value_in bytes) ps
+values_stay bytes more [] h = refl
+values_stay bytes more (p ∷ ps) h =
+    let first = h zero p (omega arith) in
+    let rest : AreWithin bytes ps = λ k d below. h (suc k) d (omega (arith, below)) in
+    rw (range_stays bytes more p.1.start p.1.end first.0 first.1, values_stay bytes more ps rest) refl
+
+pub last_range : (bytes more : List ℕ) (n : ℕ) → n ≡ length bytes + length more → slice_range (bytes ++ more) (length bytes) n ≡ more
+last_range bytes more n e =
+    let size : n - length bytes ≡ length more = omega (arith, e) in
+    rw (drop-append_seam bytes more, size) (take-length more)
