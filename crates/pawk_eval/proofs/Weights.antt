@@ -1,7 +1,7 @@
 -- What code weighs: more than its parts, with room for the demands on them.
 use Rattle.std.proofs.Common.{◌≡◌, ℕ, zero, suc, ◌+◌, ◌*◌, ◌<◌, ◌≤◌, List, [], ◌∷◌, Option, Some, None, ap, arith, get_or, length, slice_get}
 use Rattle.pawk_code.specs.Expressions.{Expr, leaf, numeric, test, textual, read, choice, assign, call, Exprs, none, more, Place, to_global, to_local, to_element, to_field, Numeric, arithmetic, signed, change, step, function, split, replace, find, NumericFunction, length_of, index_of, whole, Test, compare, both, either, negation, matches, member, Textual, join, suffix, substring, letters, formatted, Pattern, fixed_pattern, spelled_by, FieldsBy, by_fs, by_fixed, by_value, Format, fixed_format, format_of, Argument, pass, pass_array, Arguments, no_arguments, more_arguments, exprs, arguments}
-use Rattle.pawk_code.specs.Statements.{Simple, drop, set, add, count, print, printf, delete, clear, Leave, break, continue, next_record, next_file, exit, return, Stmt, simple, leave, when, choose, repeat, do_while, loop, walk, Stmts, done, next, stmts}
+use Rattle.pawk_code.specs.Statements.{Simple, drop, set, add, count, print, printf, delete, clear, Leave, break, continue, next_record, next_file, exit, return, Head, Stmt, simple, leave, when, choose, repeat, do_while, loop, walk, Stmts, done, next, stmts}
 use Rattle.pawk_code.specs.Programs.{Function}
 
 abbrev mutual
@@ -102,6 +102,9 @@ leave_weight next_file = 1
 leave_weight (exit e) = option_weight e + 1
 leave_weight (return e) = option_weight e + 1
 
+abbrev pub head_weight : Head → ℕ
+head_weight head = option_simple_weight head.first + option_weight head.condition + option_simple_weight head.last
+
 abbrev mutual
   pub statement_weight : Stmt → ℕ
   statement_weight (simple s) = simple_weight s + 1
@@ -110,8 +113,7 @@ abbrev mutual
   statement_weight (choose c a b) = weight c + body_weight a + body_weight b + 2
   statement_weight (repeat c a) = weight c + body_weight a + 5
   statement_weight (do_while a c) = weight c + body_weight a + 6
-  statement_weight (loop head a) =
-      option_simple_weight head.first + option_weight head.condition + option_simple_weight head.last + body_weight a + 3
+  statement_weight (loop head a) = head_weight head + body_weight a + 3
   statement_weight (walk k a body) = body_weight body + 3
 
   pub body_weight : Stmts → ℕ

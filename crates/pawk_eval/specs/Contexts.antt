@@ -6,8 +6,8 @@ use Rattle.pawk_value.specs.Value.{Val}
 use Rattle.pawk_world.specs.Worlds.{Calls}
 use Rattle.pawk_code.specs.declared.expression.Expr.{Expr as CodeExpr}
 use Rattle.pawk_code.specs.declared.statement.Simple.{Simple as CodeSimple}
-use Rattle.pawk_code.specs.Expressions.{Expr}
-use Rattle.pawk_code.specs.ExpressionViews.{view}
+use Rattle.pawk_code.specs.Expressions.{Expr, Numeric, replace}
+use Rattle.pawk_code.specs.ExpressionViews.{view, pattern_view, place_view}
 use Rattle.pawk_code.specs.Statements.{Simple}
 use Rattle.pawk_code.specs.StatementViews.{simple_view}
 use Rattle.pawk_code.specs.Programs.{Function}
@@ -16,6 +16,7 @@ use Rattle.pawk_builtins.specs.ExpressionViews.{texts_of}
 use Rattle.pawk_meaning.specs.Parts.{Hold, Part}
 use Rattle.pawk_meaning.specs.Meaning.{call_at}
 use Rattle.pawk_eval.specs.declared.context.Context.{Context}
+use Rattle.pawk_eval.specs.declared.operations.Replacement.{Replacement}
 
 -- the functions of the program
 abbrev pub functions_of : Context → List Function
@@ -35,3 +36,7 @@ test_view test = option_map view (option_copied test)
 
 abbrev pub last_view : Option (Bor CodeSimple) → Option Simple
 last_view last = option_map simple_view (option_copied last)
+
+-- `sub` and `gsub`, by their operands
+abbrev pub replacement_view : Replacement → Numeric
+replacement_view r = replace r.count (pattern_view r.pattern.now) (view r.text.now) (place_view r.place.now)

@@ -14,6 +14,7 @@ ghost use Rattle.pawk_code.specs.ExpressionViews.{
 ghost use Rattle.pawk_code.specs.StatementViews.{
     head_view, leave_view, seen, simple_view, stmt_view,
 };
+ghost use Rattle.pawk_code.specs.Statements as statements;
 ghost use Rattle.pawk_builtins.specs.FormatViews.{format_text};
 ghost use Rattle.pawk_meaning.specs.Parts.{as_number, as_text, as_truth, bind, give};
 ghost use Rattle.pawk_meaning.specs.Meaning.{
@@ -21,37 +22,40 @@ ghost use Rattle.pawk_meaning.specs.Meaning.{
     for_keys, function_of, joined_texts, leaves, number_of, operand_of, separator_of, subscripts,
     suffixed, test_or_true, text_of_textual, texts_of, truth_of, values_of, visit_keys, while_loop,
 };
+ghost use Rattle.pawk_meaning.specs.Meaning.{print_text};
+ghost use Rattle.pawk_meaning.specs.Meaning as spec;
 ghost use Rattle.pawk_meaning.specs.Places.{variable_aim};
 ghost use Rattle.pawk_places.specs.Moments.{aim_view, hold_of, holds_of, moment};
 ghost use Rattle.pawk_places.specs.Yields.{Yields};
-ghost use Rattle.pawk_eval.specs.Contexts.{enter_of, eres_of, functions_of, last_view};
+ghost use Rattle.pawk_eval.specs.Contexts.{enter_of, eres_of, last_view, replacement_view};
 ghost use Rattle.pawk_eval.specs.Contexts as contexts;
 ghost use Rattle.pawk_eval.specs.Flows.{way_of};
 
 use crate::context::Context;
 use crate::flow::Flow;
 use crate::operations::{
-    combine, fill_format, find_first, set_key, sign_op, substitute, value_with,
+    Replacement, array_parameter, combine, fill_format, find_first, place_in, set_key, sign_op,
+    substitute, value_with,
 };
 use pawk_array::Texts;
 use pawk_builtins::{
-    Expression, Values, both, exit_status, field_index, related, same_truth, step_side, step_sign,
-    substring, suffix, within_limit,
+    Expression, Values, both, exit_status, field_index, push_letters, related, same_truth,
+    step_side, step_sign, substring, suffix, within_limit,
 };
 use pawk_code::expression::{
     Argument, Expr, FieldsBy, Format, Numeric, NumericFunction, Pattern, Place, Test, Textual,
 };
 use pawk_code::name::{Array, Variable};
 use pawk_code::statement::{Head, Leave, Simple, Statement};
-use pawk_code::word::{Count, Relation};
+use pawk_code::word::Relation;
 use pawk_places::{
-    Parameter, Run, Separator, Table, Target, add_to_place, array_keys, change_place, clear_array,
+    Parameter, Run, Separator, Target, add_to_place, array_keys, change_place, clear_array,
     compare_leaves, element_exists, element_target, key_of_texts, leaf_number, leaf_text,
     leaf_truth, leaf_value, parameters, print_bytes, print_line, read_place, remove_element,
     set_match_place, split_into, table_of, tick, write_place,
 };
 use pawk_value::{
-    Fault, Held, Value, copy_lent, hold, lend, lend_held, push_text_lent, to_num_lent, truth_lent,
+    Fault, Held, Value, hold, lend, lend_held, push_text_lent, to_num_lent, truth_lent,
 };
 use pawk_world::{Halt, World, sum};
 use std::mem;
@@ -267,8 +271,121 @@ fn numeric<W: World>(
             let numbers = change_place(op, &target, Ok(1), world, run)?;
             Ok(step_side(*step, numbers.0, numbers.1))
         }
-        _ => Err(Halt::Memory),
+        Numeric::Function(f) => function(context, depth, f, world, run),
+        Numeric::Split(e, array, by) => split(context, depth, e, *array, by, world, run),
+        Numeric::Replace(count, pattern, e, to) => {
+            let parts = Replacement { count: *count, pattern, text: e, place: to };
+            replace(context, depth, parts, world, run)
+        }
+        Numeric::Find(e, pattern) => find(context, depth, e, pattern, world, run),
     }
+}
+
+/// What a built-in function of values that gives a number gives.
+#[cycle(evaluate)]
+fn function<W: World>(
+    context: Context<'_>,
+    depth: u64,
+    f: &NumericFunction,
+    world: &mut W,
+    run: &mut Run<'_>,
+) -> Result<i64, Halt>
+    ensures left { run.new.left ≤ run.old.left }
+    ensures outcome { Yields (λ number. number)
+        (function_of W.calls (eres_of context.entry) (enter_of W.calls context.entry depth)
+        (function_view f.now)
+        (moment (W.state world.old) run.old)) result (moment (W.state world.new) run.new) }
+{
+    match f {
+        NumericFunction::Length(e) => {
+            let text = text(context, depth, e, world, run)?;
+            Ok(text.len() as i64)
+        }
+        NumericFunction::Index(e, sought) => {
+            let text_e = text(context, depth, e, world, run)?;
+            let text_sought = text(context, depth, sought, world, run)?;
+            Ok(place_in(&text_e, &text_sought))
+        }
+        NumericFunction::Whole(e) => {
+            let whole = number(context, depth, e, world, run)?;
+            Ok(whole?)
+        }
+    }
+}
+
+/// Splits a text into an array, and gives how many pieces there are.
+///
+/// POSIX.1-2017, awk, "String Functions" (`split`).
+#[cycle(evaluate)]
+fn split<W: World>(
+    context: Context<'_>,
+    depth: u64,
+    e: &Expr,
+    array: Array,
+    by: &FieldsBy,
+    world: &mut W,
+    run: &mut Run<'_>,
+) -> Result<i64, Halt>
+    ensures left { run.new.left ≤ run.old.left }
+    ensures outcome { Yields (λ count. count)
+        (number_of W.calls (eres_of context.entry) (enter_of W.calls context.entry depth)
+        (codes.split (view e.now) array (fields_view by.now))
+        (moment (W.state world.old) run.old)) result (moment (W.state world.new) run.new) }
+{
+    let text = text(context, depth, e, world, run)?;
+    let separator = separator(context, depth, by, world, run)?;
+    let table = table_of(&run.frame, array);
+    let by = Separator { eres: context.eres, by, text: &separator };
+    split_into(table, by, &text, world, run)
+}
+
+/// Replaces matches in the text of a place, and gives how many.
+///
+/// POSIX.1-2017, awk, "String Functions" (`sub`, `gsub`).
+#[cycle(evaluate)]
+fn replace<W: World>(
+    context: Context<'_>,
+    depth: u64,
+    parts: Replacement<'_>,
+    world: &mut W,
+    run: &mut Run<'_>,
+) -> Result<i64, Halt>
+    ensures left { run.new.left ≤ run.old.left }
+    ensures outcome { Yields (λ count. count)
+        (number_of W.calls (eres_of context.entry) (enter_of W.calls context.entry depth)
+        (replacement_view parts.entry)
+        (moment (W.state world.old) run.old)) result (moment (W.state world.new) run.new) }
+{
+    let ere = operand(context, depth, parts.pattern, world, run)?;
+    let replacement = text(context, depth, parts.text, world, run)?;
+    let target = place(context, depth, parts.place, world, run)?;
+    let expression = Expression { eres: context.eres, pattern: parts.pattern, text: &ere };
+    substitute(parts.count, expression, &replacement, &target, world, run)
+}
+
+/// Finds the first match in a text, sets RSTART and RLENGTH, and gives RSTART.
+///
+/// POSIX.1-2017, awk, "String Functions" (`match`).
+#[cycle(evaluate)]
+fn find<W: World>(
+    context: Context<'_>,
+    depth: u64,
+    e: &Expr,
+    pattern: &Pattern,
+    world: &mut W,
+    run: &mut Run<'_>,
+) -> Result<i64, Halt>
+    ensures left { run.new.left ≤ run.old.left }
+    ensures outcome { Yields (λ begin. begin)
+        (number_of W.calls (eres_of context.entry) (enter_of W.calls context.entry depth)
+        (codes.find (view e.now) (pattern_view pattern.now))
+        (moment (W.state world.old) run.old)) result (moment (W.state world.new) run.new) }
+{
+    let text = text(context, depth, e, world, run)?;
+    let ere = operand(context, depth, pattern, world, run)?;
+    let expression = Expression { eres: context.eres, pattern, text: &ere };
+    let found = find_first(expression, &text, world, run)?;
+    set_match_place(found, world, run)
 }
 
 /// What gives 1 or 0.
@@ -310,7 +427,7 @@ fn test<W: World>(
             let truth_a = truth(context, depth, a, world, run)?;
             Ok(!truth_a?)
         }
-        Test::Match(wanted, a, pattern) => Err(Halt::Memory),
+        Test::Match(wanted, a, pattern) => matches(context, depth, *wanted, a, pattern, world, run),
         Test::In(array, keys) => {
             let key = key(context, depth, keys, world, run)?;
             element_exists(table_of(&run.frame, *array), &key, world, run)
@@ -347,6 +464,32 @@ fn compare<W: World>(
     Ok(related(relation, lend_held(x, &left), lend_held(y, &right))?)
 }
 
+/// Whether a text matches, or, where no match is wanted, does not match.
+///
+/// POSIX.1-2017, awk, "Regular Expressions".
+#[cycle(evaluate)]
+fn matches<W: World>(
+    context: Context<'_>,
+    depth: u64,
+    wanted: bool,
+    e: &Expr,
+    pattern: &Pattern,
+    world: &mut W,
+    run: &mut Run<'_>,
+) -> Result<bool, Halt>
+    ensures left { run.new.left ≤ run.old.left }
+    ensures outcome { Yields (λ holds. holds)
+        (truth_of W.calls (eres_of context.entry) (enter_of W.calls context.entry depth)
+        (codes.matches wanted (view e.now) (pattern_view pattern.now))
+        (moment (W.state world.old) run.old)) result (moment (W.state world.new) run.new) }
+{
+    let text = text(context, depth, e, world, run)?;
+    let ere = operand(context, depth, pattern, world, run)?;
+    let expression = Expression { eres: context.eres, pattern, text: &ere };
+    let found = find_first(expression, &text, world, run)?;
+    Ok(same_truth(wanted, found.is_some()))
+}
+
 /// Appends what gives a text.
 #[cycle(evaluate)]
 fn textual<W: World>(
@@ -367,8 +510,56 @@ fn textual<W: World>(
 {
     match t {
         Textual::Join(es) => join(context, depth, es, out, world, run),
-        _ => Err(Halt::Memory),
+        Textual::Suffix(e, a) => {
+            let text = text(context, depth, e, world, run)?;
+            let from = number(context, depth, a, world, run)?;
+            out.extend_from_slice(suffix(&text, from?))?;
+            Ok(())
+        }
+        Textual::Substring(e, a, b) => {
+            let text = text(context, depth, e, world, run)?;
+            let from = number(context, depth, a, world, run)?;
+            let count = number(context, depth, b, world, run)?;
+            let (from, count) = both(from, count)?;
+            out.extend_from_slice(substring(&text, from, count))?;
+            Ok(())
+        }
+        Textual::Case(case, e) => {
+            let text = text(context, depth, e, world, run)?;
+            push_letters(*case, &text, out)?;
+            Ok(())
+        }
+        Textual::Format(format, es) => {
+            let text = formatted(context, depth, format, es, world, run)?;
+            out.extend_from_slice(&text)?;
+            Ok(())
+        }
     }
+}
+
+/// The text that a format makes of the values of expressions.
+///
+/// POSIX.1-2017, awk, "Output Statements" and "String Functions" (`sprintf`).
+#[cycle(evaluate)]
+fn formatted<W: World>(
+    context: Context<'_>,
+    depth: u64,
+    format: &Format,
+    es: &[Expr],
+    world: &mut W,
+    run: &mut Run<'_>,
+) -> Result<Vec<u8>, Halt>
+    ensures left { run.new.left ≤ run.old.left }
+    ensures outcome { Yields (λ text. text.items)
+        (text_of_textual W.calls (eres_of context.entry) (enter_of W.calls context.entry depth)
+        (codes.formatted (format_view format.now) (exprs (views es.now)))
+        (moment (W.state world.old) run.old)) result (moment (W.state world.new) run.new) }
+{
+    let text = format_operand(context, depth, format, world, run)?;
+    let mut parts = Values::new(run.alloc);
+    let mut scratch = Vec::new(run.alloc);
+    values(context, depth, es, &mut parts, &mut scratch, world, run)?;
+    fill_format(format, &text, &parts, world, run)
 }
 
 /// Appends the texts of expressions one after the other.
@@ -509,6 +700,95 @@ fn texts<W: World>(
     Ok(())
 }
 
+/// Appends the value of each expression, whose bytes are made in `scratch`.
+#[cycle(evaluate)]
+fn values<W: World>(
+    context: Context<'_>,
+    depth: u64,
+    es: &[Expr],
+    parts: &mut Values,
+    scratch: &mut Vec<u8>,
+    world: &mut W,
+    run: &mut Run<'_>,
+) -> Result<(), Halt>
+    ensures left { run.new.left ≤ run.old.left }
+    ensures outcome { Yields (λ _. parts.new)
+        (values_of W.calls (eres_of context.entry) (enter_of W.calls context.entry depth)
+        (exprs (views es.now)) parts.old
+        (moment (W.state world.old) run.old)) result (moment (W.state world.new) run.new) }
+{
+    for e in es {
+        scratch.clear();
+        let held = eval(context, depth, e, scratch, world, run)?;
+        parts.push(held, scratch.as_slice())?;
+    }
+    Ok(())
+}
+
+/// The text of a pattern, where it is a value.
+#[cycle(evaluate)]
+fn operand<W: World>(
+    context: Context<'_>,
+    depth: u64,
+    pattern: &Pattern,
+    world: &mut W,
+    run: &mut Run<'_>,
+) -> Result<Vec<u8>, Halt>
+    ensures left { run.new.left ≤ run.old.left }
+    ensures outcome { Yields (λ text. text.items)
+        (operand_of W.calls (eres_of context.entry) (enter_of W.calls context.entry depth)
+        (pattern_view pattern.now)
+        (moment (W.state world.old) run.old)) result (moment (W.state world.new) run.new) }
+{
+    match pattern {
+        Pattern::Fixed(_) => Ok(Vec::new(run.alloc)),
+        Pattern::Value(e) => text(context, depth, e, world, run),
+    }
+}
+
+/// The text of a separator, where it is a value.
+#[cycle(evaluate)]
+fn separator<W: World>(
+    context: Context<'_>,
+    depth: u64,
+    by: &FieldsBy,
+    world: &mut W,
+    run: &mut Run<'_>,
+) -> Result<Vec<u8>, Halt>
+    ensures left { run.new.left ≤ run.old.left }
+    ensures outcome { Yields (λ text. text.items)
+        (separator_of W.calls (eres_of context.entry) (enter_of W.calls context.entry depth)
+        (fields_view by.now)
+        (moment (W.state world.old) run.old)) result (moment (W.state world.new) run.new) }
+{
+    match by {
+        FieldsBy::Fs => Ok(Vec::new(run.alloc)),
+        FieldsBy::Fixed(_) => Ok(Vec::new(run.alloc)),
+        FieldsBy::Value(e) => text(context, depth, e, world, run),
+    }
+}
+
+/// The text of a format, where it is a value.
+#[cycle(evaluate)]
+fn format_operand<W: World>(
+    context: Context<'_>,
+    depth: u64,
+    format: &Format,
+    world: &mut W,
+    run: &mut Run<'_>,
+) -> Result<Vec<u8>, Halt>
+    ensures left { run.new.left ≤ run.old.left }
+    ensures outcome { Yields (λ text. format_text (format_view format.now) text.items)
+        (format_of W.calls (eres_of context.entry) (enter_of W.calls context.entry depth)
+        (format_view format.now)
+        (moment (W.state world.old) run.old)) result (moment (W.state world.new) run.new) }
+{
+    match format {
+        Format::Fixed(_) => Ok(Vec::new(run.alloc)),
+        Format::Value(e) => text(context, depth, e, world, run),
+    }
+}
+
 /// What the arguments of a call give to its parameters.
 #[cycle(evaluate)]
 fn pass<W: World>(
@@ -549,11 +829,7 @@ fn parameter<W: World>(
 {
     match argument {
         Argument::Value(e) => Ok(Parameter::Value(value(context, depth, e, world, run)?)),
-        Argument::Array(array) => Ok(match table_of(&run.frame, *array) {
-            Table::None => Parameter::Value(Value::Uninit),
-            Table::Global(slot) => Parameter::Global(slot),
-            Table::Local(number) => Parameter::Local(number),
-        }),
+        Argument::Array(array) => Ok(array_parameter(table_of(&run.frame, *array))),
     }
 }
 
@@ -581,6 +857,7 @@ fn value<W: World>(
 /// Fault `depth` where none may.
 ///
 /// POSIX.1-2017, awk, "User-Defined Functions".
+#[cycle(evaluate)]
 fn call<W: World>(
     context: Context<'_>,
     depth: u64,
@@ -597,5 +874,430 @@ fn call<W: World>(
         (enter_of W.calls context.entry depth f (holds_of arguments.items)
         (moment (W.state world.old) run.old)) result (moment (W.state world.new) run.new) }
 {
-    Err(Halt::Memory)
+    tick(world, run)?;
+    if depth == 0 {
+        return Err(Halt::Fault(Fault::Depth));
+    }
+    match context.function(f) {
+        None => Ok(Held::Uninit),
+        Some(function) => {
+            let open = run.arrays.len();
+            let fresh = parameters(run.alloc, arguments, &function.kinds, &mut run.arrays)?;
+            let saved = mem::replace(&mut run.frame, fresh);
+            let flow = execute(context, depth - 1, &function.body, world, run)?;
+            run.frame = saved;
+            run.arrays.truncate(open);
+            let value = flow.value();
+            Ok(hold(lend(&value), out)?)
+        }
+    }
+}
+
+/// Runs a statement that leaves nothing and has no body.
+#[cycle(evaluate)]
+fn perform<W: World>(
+    context: Context<'_>,
+    depth: u64,
+    s: &Simple,
+    world: &mut W,
+    run: &mut Run<'_>,
+) -> Result<(), Halt>
+    ensures left { run.new.left ≤ run.old.left }
+    ensures outcome { Yields (λ _. tt)
+        (act W.calls (eres_of context.entry) (enter_of W.calls context.entry depth)
+        (simple_view s.now)
+        (moment (W.state world.old) run.old)) result (moment (W.state world.new) run.new) }
+{
+    match s {
+        Simple::Drop(e) => {
+            let mut bytes = Vec::new(run.alloc);
+            let _ = eval(context, depth, e, &mut bytes, world, run)?;
+            Ok(())
+        }
+        Simple::Set(to, e) => set(context, depth, to, e, world, run),
+        Simple::Add(sign, to, e) => {
+            let target = place(context, depth, to, world, run)?;
+            let amount = number(context, depth, e, world, run)?;
+            add_to_place(*sign, &target, amount, world, run)
+        }
+        Simple::Count(step, to) => {
+            let target = place(context, depth, to, world, run)?;
+            add_to_place(step_sign(*step), &target, Ok(1), world, run)
+        }
+        Simple::Print(operands) => print(context, depth, &operands.values, world, run),
+        Simple::Printf(format, operands) => {
+            printf(context, depth, format, &operands.values, world, run)
+        }
+        Simple::Delete(array, keys) => {
+            let key = key(context, depth, keys, world, run)?;
+            remove_element(table_of(&run.frame, *array), &key, world, run)
+        }
+        Simple::Clear(array) => clear_array(table_of(&run.frame, *array), world, run),
+    }
+}
+
+/// Assigns the value of an expression to a place.
+#[cycle(evaluate)]
+fn set<W: World>(
+    context: Context<'_>,
+    depth: u64,
+    to: &Place,
+    e: &Expr,
+    world: &mut W,
+    run: &mut Run<'_>,
+) -> Result<(), Halt>
+    ensures left { run.new.left ≤ run.old.left }
+    ensures outcome { Yields (λ _. tt)
+        (act W.calls (eres_of context.entry) (enter_of W.calls context.entry depth)
+        (statements.set (place_view to.now) (view e.now))
+        (moment (W.state world.old) run.old)) result (moment (W.state world.new) run.new) }
+{
+    let target = place(context, depth, to, world, run)?;
+    let mut bytes = Vec::new(run.alloc);
+    let held = eval(context, depth, e, &mut bytes, world, run)?;
+    write_place(&target, lend_held(held, &bytes), world, run)
+}
+
+/// Prints the values of expressions.
+///
+/// POSIX.1-2017, awk, "Output Statements" (`print`).
+#[cycle(evaluate)]
+fn print<W: World>(
+    context: Context<'_>,
+    depth: u64,
+    es: &[Expr],
+    world: &mut W,
+    run: &mut Run<'_>,
+) -> Result<(), Halt>
+    ensures left { run.new.left ≤ run.old.left }
+    ensures outcome { Yields (λ _. tt)
+        (bind (texts_of W.calls (eres_of context.entry) (enter_of W.calls context.entry depth)
+        (exprs (views es.now)) []) (spec.print_line W.calls)
+        (moment (W.state world.old) run.old)) result (moment (W.state world.new) run.new) }
+{
+    let mut parts = Texts::new(run.alloc);
+    let mut scratch = Vec::new(run.alloc);
+    texts(context, depth, es, &mut parts, &mut scratch, world, run)?;
+    print_line(&parts, world, run)
+}
+
+/// Prints the values of expressions by a format.
+///
+/// POSIX.1-2017, awk, "Output Statements" (`printf`).
+#[cycle(evaluate)]
+fn printf<W: World>(
+    context: Context<'_>,
+    depth: u64,
+    format: &Format,
+    es: &[Expr],
+    world: &mut W,
+    run: &mut Run<'_>,
+) -> Result<(), Halt>
+    ensures left { run.new.left ≤ run.old.left }
+    ensures outcome { Yields (λ _. tt)
+        (bind (text_of_textual W.calls (eres_of context.entry) (enter_of W.calls context.entry depth)
+        (codes.formatted (format_view format.now) (exprs (views es.now)))) print_text
+        (moment (W.state world.old) run.old)) result (moment (W.state world.new) run.new) }
+{
+    let text = formatted(context, depth, format, es, world, run)?;
+    print_bytes(&text, world, run)
+}
+
+/// Runs a statement that leaves what it stands in.
+///
+/// POSIX.1-2017, awk, "Actions" and "User-Defined Functions".
+#[cycle(evaluate)]
+fn go_out<W: World>(
+    context: Context<'_>,
+    depth: u64,
+    leave: &Leave,
+    world: &mut W,
+    run: &mut Run<'_>,
+) -> Result<Flow, Halt>
+    ensures left { run.new.left ≤ run.old.left }
+    ensures outcome { Yields (way_of)
+        (leaves W.calls (eres_of context.entry) (enter_of W.calls context.entry depth)
+        (leave_view leave.now)
+        (moment (W.state world.old) run.old)) result (moment (W.state world.new) run.new) }
+{
+    match leave {
+        Leave::Break => Ok(Flow::Break),
+        Leave::Continue => Ok(Flow::Continue),
+        Leave::Next => Err(Halt::Next),
+        Leave::NextFile => Err(Halt::NextFile),
+        Leave::Exit(None) => Err(Halt::Exit(run.state.status)),
+        Leave::Exit(Some(e)) => {
+            let status = number(context, depth, e, world, run)?;
+            Err(Halt::Exit(exit_status(status)?))
+        }
+        Leave::Return(None) => Ok(Flow::Return(Value::Uninit)),
+        Leave::Return(Some(e)) => Ok(Flow::Return(value(context, depth, e, world, run)?)),
+    }
+}
+
+/// Runs a statement, after its step.
+#[cycle(evaluate)]
+fn statement<W: World>(
+    context: Context<'_>,
+    depth: u64,
+    s: &Statement,
+    world: &mut W,
+    run: &mut Run<'_>,
+) -> Result<Flow, Halt>
+    ensures left { run.new.left ≤ run.old.left }
+    ensures outcome { Yields (way_of)
+        (exec W.calls (eres_of context.entry) (enter_of W.calls context.entry depth)
+        (stmt_view s.now)
+        (moment (W.state world.old) run.old)) result (moment (W.state world.new) run.new) }
+{
+    match s {
+        Statement::Simple(simple) => {
+            perform(context, depth, simple, world, run)?;
+            Ok(Flow::On)
+        }
+        Statement::Leave(leave) => go_out(context, depth, leave, world, run),
+        Statement::If(test, body) => choose(context, depth, test, body, &[], world, run),
+        Statement::Choose(test, a, b) => choose(context, depth, test, a, b, world, run),
+        Statement::While(test, body) => turns(context, depth, Some(test), None, body, world, run),
+        Statement::Do(body, test) => turns_after(context, depth, body, test, world, run),
+        Statement::For(head, body) => count(context, depth, head, body, world, run),
+        Statement::ForIn(variable, array, body) => {
+            walk(context, depth, *variable, *array, body, world, run)
+        }
+    }
+}
+
+/// Runs statements in turn, a step at the begin of each.
+///
+/// POSIX.1-2017, awk, "Actions".
+#[cycle(evaluate)]
+pub fn execute<W: World>(
+    context: Context<'_>,
+    depth: u64,
+    body: &[Statement],
+    world: &mut W,
+    run: &mut Run<'_>,
+) -> Result<Flow, Halt>
+    ensures left { run.new.left ≤ run.old.left }
+    ensures outcome { Yields (way_of)
+        (execs W.calls (eres_of context.entry) (enter_of W.calls context.entry depth)
+        (seen body.now)
+        (moment (W.state world.old) run.old)) result (moment (W.state world.new) run.new) }
+{
+    for s in body {
+        tick(world, run)?;
+        match statement(context, depth, s, world, run)? {
+            Flow::On => {}
+            flow => return Ok(flow),
+        }
+    }
+    Ok(Flow::On)
+}
+
+/// Runs the statements that a test chooses.
+#[cycle(evaluate)]
+fn choose<W: World>(
+    context: Context<'_>,
+    depth: u64,
+    test: &Expr,
+    a: &[Statement],
+    b: &[Statement],
+    world: &mut W,
+    run: &mut Run<'_>,
+) -> Result<Flow, Halt>
+    ensures left { run.new.left ≤ run.old.left }
+    ensures outcome { Yields (way_of)
+        (exec W.calls (eres_of context.entry) (enter_of W.calls context.entry depth)
+        (statements.choose (view test.now) (seen a.now) (seen b.now))
+        (moment (W.state world.old) run.old)) result (moment (W.state world.new) run.new) }
+{
+    let truth = truth(context, depth, test, world, run)?;
+    let holds = truth?;
+    if holds {
+        execute(context, depth, a, world, run)
+    } else {
+        execute(context, depth, b, world, run)
+    }
+}
+
+/// Runs a body while a test holds, a step at each test; `last` runs behind each turn. A missing test
+/// holds.
+///
+/// POSIX.1-2017, awk, "Actions" (`while`, `for`).
+#[cycle(evaluate)]
+fn turns<W: World>(
+    context: Context<'_>,
+    depth: u64,
+    test: Option<&Expr>,
+    last: Option<&Simple>,
+    body: &[Statement],
+    world: &mut W,
+    run: &mut Run<'_>,
+) -> Result<Flow, Halt>
+    ensures left { run.new.left ≤ run.old.left }
+    ensures outcome { Yields (way_of)
+        (while_loop (test_or_true W.calls (eres_of context.entry) (enter_of W.calls context.entry depth)
+        (contexts.test_view test.entry))
+        (execs W.calls (eres_of context.entry) (enter_of W.calls context.entry depth)
+        (seen body.now))
+        (act_or_none W.calls (eres_of context.entry) (enter_of W.calls context.entry depth)
+        (last_view last.entry))
+        (moment (W.state world.old) run.old)) result (moment (W.state world.new) run.new) }
+{
+    'turns: loop {
+        tick(world, run)?;
+        let truth = truth_or_true(context, depth, test, world, run)?;
+        let holds = truth?;
+        if !holds {
+            return Ok(Flow::On);
+        }
+        let flow = execute(context, depth, body, world, run)?;
+        if let Some(end) = flow.loop_end() {
+            return Ok(end);
+        }
+        perform_or_none(context, depth, last, world, run)?;
+    }
+}
+
+/// The truth of a test that may be missing; then it holds.
+#[cycle(evaluate)]
+fn truth_or_true<W: World>(
+    context: Context<'_>,
+    depth: u64,
+    test: Option<&Expr>,
+    world: &mut W,
+    run: &mut Run<'_>,
+) -> Result<Result<bool, Fault>, Halt>
+    ensures left { run.new.left ≤ run.old.left }
+    ensures outcome { Yields (λ truth. truth)
+        (test_or_true W.calls (eres_of context.entry) (enter_of W.calls context.entry depth)
+        (contexts.test_view test.entry)
+        (moment (W.state world.old) run.old)) result (moment (W.state world.new) run.new) }
+{
+    match test {
+        None => Ok(Ok(true)),
+        Some(e) => truth(context, depth, e, world, run),
+    }
+}
+
+/// Runs a statement that may be missing.
+#[cycle(evaluate)]
+fn perform_or_none<W: World>(
+    context: Context<'_>,
+    depth: u64,
+    s: Option<&Simple>,
+    world: &mut W,
+    run: &mut Run<'_>,
+) -> Result<(), Halt>
+    ensures left { run.new.left ≤ run.old.left }
+    ensures outcome { Yields (λ _. tt)
+        (act_or_none W.calls (eres_of context.entry) (enter_of W.calls context.entry depth)
+        (last_view s.entry)
+        (moment (W.state world.old) run.old)) result (moment (W.state world.new) run.new) }
+{
+    match s {
+        None => Ok(()),
+        Some(s) => perform(context, depth, s, world, run),
+    }
+}
+
+/// Runs a body, and again while a test holds.
+///
+/// POSIX.1-2017, awk, "Actions" (`do`).
+#[cycle(evaluate)]
+fn turns_after<W: World>(
+    context: Context<'_>,
+    depth: u64,
+    body: &[Statement],
+    test: &Expr,
+    world: &mut W,
+    run: &mut Run<'_>,
+) -> Result<Flow, Halt>
+    ensures left { run.new.left ≤ run.old.left }
+    ensures outcome { Yields (way_of)
+        (exec W.calls (eres_of context.entry) (enter_of W.calls context.entry depth)
+        (statements.do_while (seen body.now) (view test.now))
+        (moment (W.state world.old) run.old)) result (moment (W.state world.new) run.new) }
+{
+    let flow = execute(context, depth, body, world, run)?;
+    match flow.loop_end() {
+        Some(end) => Ok(end),
+        None => turns(context, depth, Some(test), None, body, world, run),
+    }
+}
+
+/// Runs a loop with a head.
+///
+/// POSIX.1-2017, awk, "Actions" (`for`).
+#[cycle(evaluate)]
+fn count<W: World>(
+    context: Context<'_>,
+    depth: u64,
+    head: &Head,
+    body: &[Statement],
+    world: &mut W,
+    run: &mut Run<'_>,
+) -> Result<Flow, Halt>
+    ensures left { run.new.left ≤ run.old.left }
+    ensures outcome { Yields (way_of)
+        (exec W.calls (eres_of context.entry) (enter_of W.calls context.entry depth)
+        (statements.loop (head_view head.now) (seen body.now))
+        (moment (W.state world.old) run.old)) result (moment (W.state world.new) run.new) }
+{
+    perform_or_none(context, depth, head.first.as_ref(), world, run)?;
+    let test = head.test.as_ref();
+    let last = head.last.as_ref();
+    turns(context, depth, test, last, body, world, run)
+}
+
+/// Runs a body for each key that an array has when the loop begins.
+///
+/// POSIX.1-2017, awk, "Actions" (`for` with `in`).
+#[cycle(evaluate)]
+fn walk<W: World>(
+    context: Context<'_>,
+    depth: u64,
+    variable: Variable,
+    array: Array,
+    body: &[Statement],
+    world: &mut W,
+    run: &mut Run<'_>,
+) -> Result<Flow, Halt>
+    ensures left { run.new.left ≤ run.old.left }
+    ensures outcome { Yields (way_of)
+        (for_keys W.calls variable array (execs W.calls (eres_of context.entry) (enter_of W.calls context.entry depth)
+        (seen body.now))
+        (moment (W.state world.old) run.old)) result (moment (W.state world.new) run.new) }
+{
+    let table = table_of(&run.frame, array);
+    let keys = array_keys(table, world, run)?;
+    visit(context, depth, variable, &keys, body, world, run)
+}
+
+/// Runs a body for each of these keys.
+#[cycle(evaluate)]
+fn visit<W: World>(
+    context: Context<'_>,
+    depth: u64,
+    variable: Variable,
+    keys: &Texts,
+    body: &[Statement],
+    world: &mut W,
+    run: &mut Run<'_>,
+) -> Result<Flow, Halt>
+    ensures left { run.new.left ≤ run.old.left }
+    ensures outcome { Yields (way_of)
+        (visit_keys W.calls keys.now (variable_aim variable) (execs W.calls (eres_of context.entry) (enter_of W.calls context.entry depth)
+        (seen body.now))
+        (moment (W.state world.old) run.old)) result (moment (W.state world.new) run.new) }
+{
+    for i in 0..keys.len() {
+        tick(world, run)?;
+        set_key(variable, keys.text(i), world, run)?;
+        let flow = execute(context, depth, body, world, run)?;
+        if let Some(end) = flow.loop_end() {
+            return Ok(end);
+        }
+    }
+    Ok(Flow::On)
 }

@@ -7,5 +7,5 @@ mod flow;
 mod operations;
 
 pub use context::Context;
-pub use evaluate::truth;
+pub use evaluate::{execute, truth};
 pub use flow::Flow;

@@ -1,6 +1,6 @@
 //! What a part of a run does once its operands are evaluated.
 
-ghost use Rattle.std.specs.Prelude.{◌≡◌, ◌≤◌, ◌<◌, ◌^◌, [], IfOk, IfSome};
+ghost use Rattle.std.specs.Prelude.{◌≡◌, ◌≤◌, ◌<◌, ◌^◌, [], pos, IfOk, IfSome};
 ghost use Rattle.pawk_value.specs.Value.{Text, shown};
 ghost use Rattle.pawk_value.specs.Held.{held_value};
 ghost use Rattle.pawk_world.specs.Sums.{arith_by};
@@ -10,18 +10,31 @@ ghost use Rattle.pawk_builtins.specs.ExpressionViews.{expression_of};
 ghost use Rattle.pawk_builtins.specs.FormatViews.{format_text};
 ghost use Rattle.pawk_meaning.specs.Parts.{as_text, bind, settle};
 ghost use Rattle.pawk_meaning.specs.Builtins.{formatted_text, found_by, replaced_by};
+ghost use Rattle.pawk_meaning.specs.Builtins as builtins;
 ghost use Rattle.pawk_meaning.specs.Meaning.{put_replaced};
 ghost use Rattle.pawk_meaning.specs.Places.{read_at, variable_aim, write_at};
-ghost use Rattle.pawk_places.specs.Moments.{aim_view, moment};
+ghost use Rattle.pawk_places.specs.Moments.{aim_view, hold_of, moment, table_view};
 ghost use Rattle.pawk_places.specs.Yields.{Yields};
 
-use pawk_builtins::{Expression, Values, format_values};
-use pawk_code::expression::Format;
+use itoa::Buffer;
+use pawk_builtins::{Expression, Values, format_values, index};
+use pawk_code::expression::{Expr, Format, Pattern, Place};
 use pawk_code::name::Variable;
 use pawk_code::word::{Count, Sign};
-use pawk_places::{Run, Target, put_text, read_place, variable_target, write_place};
-use pawk_value::{Fault, Held, Op, Value, ValueRef, arith, lend_held, push_text_lent};
+use pawk_places::{Parameter, Run, Table, Target, put_text, read_place, variable_target, write_place};
+use pawk_value::{Fault, Held, Op, Value, ValueRef, arith, lend_held, text_in};
 use pawk_world::{Halt, World};
+
+/// The operands of `sub` and `gsub`.
+#[derive(Clone, Copy)]
+pub struct Replacement<'e> {
+    pub count: Count,
+    pub pattern: &'e Pattern,
+    /// What stands for a match.
+    pub text: &'e Expr,
+    /// Where the text stands in which matches are replaced.
+    pub place: &'e Place,
+}
 
 /// The operation of a sign.
 pub fn sign_op(sign: Sign) -> Op
@@ -45,6 +58,26 @@ pub fn combine(
     let left = left?;
     let right = right?;
     arith(op, left, right)
+}
+
+/// What an array as an argument gives to its parameter.
+pub fn array_parameter(table: Table) -> Parameter
+    ensures { hold_of result ≡ table_view table }
+{
+    match table {
+        Table::None => Parameter::Value(Value::Uninit),
+        Table::Global(slot) => Parameter::Global(slot),
+        Table::Local(number) => Parameter::Local(number),
+    }
+}
+
+/// The place where one text first stands in another, in bytes counted from 1; 0 where it does not.
+///
+/// POSIX.1-2017, awk, "String Functions" (`index`).
+pub fn place_in(text: &[u8], sought: &[u8]) -> i64
+    ensures { result ≡ pos (builtins.index text.now sought.now) }
+{
+    index(text, sought) as i64
 }
 
 /// The value of these bytes.
@@ -133,10 +166,9 @@ pub fn substitute<W: World>(
 {
     let mut bytes = Vec::new(run.alloc);
     let held = read_place(target, &mut bytes, world, run)?;
-    let mut text = Vec::new(run.alloc);
-    push_text_lent(lend_held(held, &bytes), &mut text)?;
+    let mut buffer = Buffer::new();
+    let text = text_in(lend_held(held, &bytes), &mut buffer);
     let mut out = Vec::new(run.alloc);
-    let matchers = &mut run.matchers;
-    let number = matchers.replace(count, expression, replacement, &text, &mut out)?;
+    let number = run.matchers.replace(count, expression, replacement, text, &mut out)?;
     put_text(target, number, &out, world, run)
 }
