@@ -109,8 +109,8 @@ abbrev mutual
   pub statement_weight : Stmt → ℕ
   statement_weight (simple s) = simple_weight s + 1
   statement_weight (leave l) = leave_weight l + 1
-  statement_weight (when c a) = weight c + body_weight a + 2
-  statement_weight (choose c a b) = weight c + body_weight a + body_weight b + 2
+  statement_weight (when c a) = weight c + body_weight a + 3
+  statement_weight (choose c a b) = weight c + body_weight a + body_weight b + 3
   statement_weight (repeat c a) = weight c + body_weight a + 5
   statement_weight (do_while a c) = weight c + body_weight a + 6
   statement_weight (loop head a) = head_weight head + body_weight a + 3

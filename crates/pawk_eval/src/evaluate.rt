@@ -198,7 +198,8 @@ fn text_into<W: World>(
 ) -> Result<(), Halt>
     ensures left { run.new.left ≤ run.old.left }
     ensures outcome { Yields (λ _. out.new.items)
-        (as_text out.old.items (eval W.calls (eres_of context.entry) (enter_of W.calls context.entry depth)
+        (as_text out.old.items
+        (eval W.calls (eres_of context.entry) (enter_of W.calls context.entry depth)
         (view e.now))
         (moment (W.state world.old) run.old)) result (moment (W.state world.new) run.new) }
 {
@@ -520,8 +521,8 @@ fn textual<W: World>(
             let text = text(context, depth, e, world, run)?;
             let from = number(context, depth, a, world, run)?;
             let count = number(context, depth, b, world, run)?;
-            let (from, count) = both(from, count)?;
-            out.extend_from_slice(substring(&text, from, count))?;
+            let places = both(from, count)?;
+            out.extend_from_slice(substring(&text, places.0, places.1))?;
             Ok(())
         }
         Textual::Case(case, e) => {
@@ -995,7 +996,8 @@ fn printf<W: World>(
 ) -> Result<(), Halt>
     ensures left { run.new.left ≤ run.old.left }
     ensures outcome { Yields (λ _. tt)
-        (bind (text_of_textual W.calls (eres_of context.entry) (enter_of W.calls context.entry depth)
+        (bind (text_of_textual W.calls
+        (eres_of context.entry) (enter_of W.calls context.entry depth)
         (codes.formatted (format_view format.now) (exprs (views es.now)))) print_text
         (moment (W.state world.old) run.old)) result (moment (W.state world.new) run.new) }
 {
@@ -1056,7 +1058,7 @@ fn statement<W: World>(
             Ok(Flow::On)
         }
         Statement::Leave(leave) => go_out(context, depth, leave, world, run),
-        Statement::If(test, body) => choose(context, depth, test, body, &[], world, run),
+        Statement::If(test, body) => guard(context, depth, test, body, world, run),
         Statement::Choose(test, a, b) => choose(context, depth, test, a, b, world, run),
         Statement::While(test, body) => turns(context, depth, Some(test), None, body, world, run),
         Statement::Do(body, test) => turns_after(context, depth, body, test, world, run),
@@ -1092,6 +1094,31 @@ pub fn execute<W: World>(
         }
     }
     Ok(Flow::On)
+}
+
+/// Runs statements where a test holds.
+#[cycle(evaluate)]
+fn guard<W: World>(
+    context: Context<'_>,
+    depth: u64,
+    test: &Expr,
+    body: &[Statement],
+    world: &mut W,
+    run: &mut Run<'_>,
+) -> Result<Flow, Halt>
+    ensures left { run.new.left ≤ run.old.left }
+    ensures outcome { Yields (way_of)
+        (exec W.calls (eres_of context.entry) (enter_of W.calls context.entry depth)
+        (statements.when (view test.now) (seen body.now))
+        (moment (W.state world.old) run.old)) result (moment (W.state world.new) run.new) }
+{
+    let truth = truth(context, depth, test, world, run)?;
+    let holds = truth?;
+    if holds {
+        execute(context, depth, body, world, run)
+    } else {
+        Ok(Flow::On)
+    }
 }
 
 /// Runs the statements that a test chooses.
@@ -1136,7 +1163,8 @@ fn turns<W: World>(
 ) -> Result<Flow, Halt>
     ensures left { run.new.left ≤ run.old.left }
     ensures outcome { Yields (way_of)
-        (while_loop (test_or_true W.calls (eres_of context.entry) (enter_of W.calls context.entry depth)
+        (while_loop
+        (test_or_true W.calls (eres_of context.entry) (enter_of W.calls context.entry depth)
         (contexts.test_view test.entry))
         (execs W.calls (eres_of context.entry) (enter_of W.calls context.entry depth)
         (seen body.now))
@@ -1265,7 +1293,8 @@ fn walk<W: World>(
 ) -> Result<Flow, Halt>
     ensures left { run.new.left ≤ run.old.left }
     ensures outcome { Yields (way_of)
-        (for_keys W.calls variable array (execs W.calls (eres_of context.entry) (enter_of W.calls context.entry depth)
+        (for_keys W.calls variable array
+        (execs W.calls (eres_of context.entry) (enter_of W.calls context.entry depth)
         (seen body.now))
         (moment (W.state world.old) run.old)) result (moment (W.state world.new) run.new) }
 {
@@ -1287,7 +1316,8 @@ fn visit<W: World>(
 ) -> Result<Flow, Halt>
     ensures left { run.new.left ≤ run.old.left }
     ensures outcome { Yields (way_of)
-        (visit_keys W.calls keys.now (variable_aim variable) (execs W.calls (eres_of context.entry) (enter_of W.calls context.entry depth)
+        (visit_keys W.calls keys.now (variable_aim variable)
+        (execs W.calls (eres_of context.entry) (enter_of W.calls context.entry depth)
         (seen body.now))
         (moment (W.state world.old) run.old)) result (moment (W.state world.new) run.new) }
 {

@@ -21,7 +21,9 @@ use pawk_builtins::{Expression, Values, format_values, index};
 use pawk_code::expression::{Expr, Format, Pattern, Place};
 use pawk_code::name::Variable;
 use pawk_code::word::{Count, Sign};
-use pawk_places::{Parameter, Run, Table, Target, put_text, read_place, variable_target, write_place};
+use pawk_places::{
+    Parameter, Run, Table, Target, put_text, read_place, variable_target, write_place,
+};
 use pawk_value::{Fault, Held, Op, Value, ValueRef, arith, lend_held, text_in};
 use pawk_world::{Halt, World};
 

@@ -120,7 +120,7 @@ abbrev pub decreases-execute : goal.decreases-execute
 decreases-execute g l = rank (functions_of l.context) l.depth (body_weight (seen l.body.now))
 
 abbrev pub decreases-choose : goal.decreases-choose
-decreases-choose g l = rank (functions_of l.context) l.depth (weight (view l.test.now) + body_weight (seen l.a.now) + body_weight (seen l.b.now) + 1)
+decreases-choose g l = rank (functions_of l.context) l.depth (weight (view l.test.now) + body_weight (seen l.a.now) + body_weight (seen l.b.now) + 2)
 
 abbrev pub decreases-turns : goal.decreases-turns
 decreases-turns g l = rank (functions_of l.context) l.depth (option_weight (contexts.test_view l.test) + option_simple_weight (last_view l.last) + body_weight (seen l.body.now) + 1)
@@ -142,6 +142,9 @@ decreases-walk g l = rank (functions_of l.context) l.depth (body_weight (seen l.
 
 abbrev pub decreases-visit : goal.decreases-visit
 decreases-visit g l = rank (functions_of l.context) l.depth (body_weight (seen l.body.now) + 1)
+
+abbrev pub decreases-guard : goal.decreases-guard
+decreases-guard g l = rank (functions_of l.context) l.depth (weight (view l.test.now) + body_weight (seen l.body.now) + 2)
 
 -- the text so far and the operands that are left give the whole
 abbrev pub invariant-suffixes-loop-e : goal.invariant-suffixes-loop-e
