@@ -8,19 +8,56 @@ ghost use Rattle.pawk_value.specs.Held.{added, held_value};
 ghost use Rattle.pawk_code.specs.Expressions.{exprs};
 ghost use Rattle.pawk_code.specs.Expressions as codes;
 ghost use Rattle.pawk_code.specs.ExpressionViews.{
-    argument_view, argument_views, fields_view, format_view, function_view, numeric_view,
-    pattern_view, place_view, test_view, textual_view, view, views,
+  argument_view,
+  argument_views,
+  fields_view,
+  format_view,
+  function_view,
+  numeric_view,
+  pattern_view,
+  place_view,
+  test_view,
+  textual_view,
+  view,
+  views,
 };
 ghost use Rattle.pawk_code.specs.StatementViews.{
-    head_view, leave_view, seen, simple_view, stmt_view,
+  head_view,
+  leave_view,
+  seen,
+  simple_view,
+  stmt_view,
 };
 ghost use Rattle.pawk_code.specs.Statements as statements;
 ghost use Rattle.pawk_builtins.specs.FormatViews.{format_text};
 ghost use Rattle.pawk_meaning.specs.Parts.{as_number, as_text, as_truth, bind, give};
 ghost use Rattle.pawk_meaning.specs.Meaning.{
-    act, act_or_none, aim_of, argument_of, arguments_of, call_at, eval, exec, execs, format_of,
-    for_keys, function_of, joined_texts, leaves, number_of, operand_of, separator_of, subscripts,
-    suffixed, test_or_true, text_of_textual, texts_of, truth_of, values_of, visit_keys, while_loop,
+  act,
+  act_or_none,
+  aim_of,
+  argument_of,
+  arguments_of,
+  call_at,
+  eval,
+  exec,
+  execs,
+  format_of,
+  for_keys,
+  function_of,
+  joined_texts,
+  leaves,
+  number_of,
+  operand_of,
+  separator_of,
+  subscripts,
+  suffixed,
+  test_or_true,
+  text_of_textual,
+  texts_of,
+  truth_of,
+  values_of,
+  visit_keys,
+  while_loop,
 };
 ghost use Rattle.pawk_meaning.specs.Meaning.{print_text};
 ghost use Rattle.pawk_meaning.specs.Meaning as spec;
@@ -80,7 +117,11 @@ fn eval<W: World>(
     match e {
         Expr::Leaf(leaf) => leaf_value(leaf, out, world, run),
         Expr::Numeric(n) => Ok(Held::Num(numeric(context, depth, n, world, run)?)),
-        Expr::Test(t) => Ok(Held::Num(if test(context, depth, t, world, run)? { 1 } else { 0 })),
+        Expr::Test(t) => Ok(Held::Num(if test(context, depth, t, world, run)? {
+            1
+        } else {
+            0
+        })),
         Expr::Textual(t) => {
             textual(context, depth, t, out, world, run)?;
             Ok(Held::Text)
@@ -275,7 +316,12 @@ fn numeric<W: World>(
         Numeric::Function(f) => function(context, depth, f, world, run),
         Numeric::Split(e, array, by) => split(context, depth, e, *array, by, world, run),
         Numeric::Replace(count, pattern, e, to) => {
-            let parts = Replacement { count: *count, pattern, text: e, place: to };
+            let parts = Replacement {
+                count: *count,
+                pattern,
+                text: e,
+                place: to,
+            };
             replace(context, depth, parts, world, run)
         }
         Numeric::Find(e, pattern) => find(context, depth, e, pattern, world, run),
@@ -336,7 +382,11 @@ fn split<W: World>(
     let text = text(context, depth, e, world, run)?;
     let separator = separator(context, depth, by, world, run)?;
     let table = table_of(&run.frame, array);
-    let by = Separator { eres: context.eres, by, text: &separator };
+    let by = Separator {
+        eres: context.eres,
+        by,
+        text: &separator,
+    };
     split_into(table, by, &text, world, run)
 }
 
@@ -360,7 +410,11 @@ fn replace<W: World>(
     let ere = operand(context, depth, parts.pattern, world, run)?;
     let replacement = text(context, depth, parts.text, world, run)?;
     let target = place(context, depth, parts.place, world, run)?;
-    let expression = Expression { eres: context.eres, pattern: parts.pattern, text: &ere };
+    let expression = Expression {
+        eres: context.eres,
+        pattern: parts.pattern,
+        text: &ere,
+    };
     substitute(parts.count, expression, &replacement, &target, world, run)
 }
 
@@ -384,7 +438,11 @@ fn find<W: World>(
 {
     let text = text(context, depth, e, world, run)?;
     let ere = operand(context, depth, pattern, world, run)?;
-    let expression = Expression { eres: context.eres, pattern, text: &ere };
+    let expression = Expression {
+        eres: context.eres,
+        pattern,
+        text: &ere,
+    };
     let found = find_first(expression, &text, world, run)?;
     set_match_place(found, world, run)
 }
@@ -486,7 +544,11 @@ fn matches<W: World>(
 {
     let text = text(context, depth, e, world, run)?;
     let ere = operand(context, depth, pattern, world, run)?;
-    let expression = Expression { eres: context.eres, pattern, text: &ere };
+    let expression = Expression {
+        eres: context.eres,
+        pattern,
+        text: &ere,
+    };
     let found = find_first(expression, &text, world, run)?;
     Ok(same_truth(wanted, found.is_some()))
 }
@@ -1147,8 +1209,8 @@ fn choose<W: World>(
     }
 }
 
-/// Runs a body while a test holds, a step at each test; `last` runs behind each turn. A missing test
-/// holds.
+/// Runs a body while a test holds, a step at each test, and `last` behind each turn. A test that is
+/// missing holds.
 ///
 /// POSIX.1-2017, awk, "Actions" (`while`, `for`).
 #[cycle(evaluate)]

@@ -50,11 +50,7 @@ pub fn sign_op(sign: Sign) -> Op
 
 /// The result of an operation on two numbers. The fault of the left one's conversion comes first,
 /// then that of the right one's, then one of the operation.
-pub fn combine(
-    op: Op,
-    left: Result<i64, Fault>,
-    right: Result<i64, Fault>,
-) -> Result<i64, Fault>
+pub fn combine(op: Op, left: Result<i64, Fault>, right: Result<i64, Fault>) -> Result<i64, Fault>
     ensures { result ≡ arith_by op left right }
 {
     let left = left?;
@@ -171,6 +167,8 @@ pub fn substitute<W: World>(
     let mut buffer = Buffer::new();
     let text = text_in(lend_held(held, &bytes), &mut buffer);
     let mut out = Vec::new(run.alloc);
-    let number = run.matchers.replace(count, expression, replacement, text, &mut out)?;
+    let number = run
+        .matchers
+        .replace(count, expression, replacement, text, &mut out)?;
     put_text(target, number, &out, world, run)
 }

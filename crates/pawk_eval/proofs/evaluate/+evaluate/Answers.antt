@@ -10,7 +10,7 @@ use Rattle.pawk_code.specs.StatementViews.{seen, stmt_view}
 use Rattle.pawk_code.specs.ProgramViews.{function_view}
 use Rattle.pawk_meaning.specs.Builtins.{within_limit}
 use Rattle.pawk_meaning.specs.Parts.{Hold, Moment, gives, halts, then_do, Entry, entry_of, settle}
-use Rattle.pawk_meaning.specs.Meaning.{execs, texts_of, values_of, arguments_of, suffixed, call_at, while_loop, visit_keys, test_or_true, act_or_none}
+use Rattle.pawk_meaning.specs.Meaning.{eval, execs, texts_of, values_of, arguments_of, suffixed, call_at, while_loop, visit_keys, test_or_true, act_or_none}
 use Rattle.pawk_meaning.specs.Places.{variable_aim}
 use Rattle.pawk_places.specs.declared.run.Parameter.{Parameter}
 use Rattle.pawk_places.specs.Moments.{holds_of, moment}
@@ -44,18 +44,18 @@ eval-returns-in_ok-values-in-Call-clause-outcome g t c =
 
 pub place-key-requires : goal.place-key-requires
 place-key-requires g t c =
-    let is = element_shape c.args.p.now c.in-Element.array c.in-Element.keys c.deref-in-Element.result.now c.in-Element.is c.deref-in-Element.ensures.value in
-    let falls : row_weight (exprs (views c.deref-in-Element.result.now)) + 1 < place_weight (place_view c.args.p.now) = rw is (omega arith) in
+    let is = element_shape c.args.p.now c.in-Element.array c.in-Element.keys c.deref.result.now c.in-Element.is c.deref.ensures.value in
+    let falls : row_weight (exprs (views c.deref.result.now)) + 1 < place_weight (place_view c.args.p.now) = rw is (omega arith) in
     search rules
 
 pub place-returns-in_err-key-in-Element-clause-outcome : goal.place-returns-in_err-key-in-Element-clause-outcome
 place-returns-in_err-key-in-Element-clause-outcome g t c =
-    let is = element_shape c.args.p.now c.in-Element.array c.in-Element.keys c.deref-in-Element.result.now c.in-Element.is c.deref-in-Element.ensures.value in
+    let is = element_shape c.args.p.now c.in-Element.array c.in-Element.keys c.deref.result.now c.in-Element.is c.deref.ensures.value in
     rw is (grind (arith, common_steps))
 
 pub place-returns-in_ok-key-in-Element-clause-outcome : goal.place-returns-in_ok-key-in-Element-clause-outcome
 place-returns-in_ok-key-in-Element-clause-outcome g t c =
-    let is = element_shape c.args.p.now c.in-Element.array c.in-Element.keys c.deref-in-Element.result.now c.in-Element.is c.deref-in-Element.ensures.value in
+    let is = element_shape c.args.p.now c.in-Element.array c.in-Element.keys c.deref.result.now c.in-Element.is c.deref.ensures.value in
     rw (is, c.in_ok-key-in-Element.ensures.outcome) (grind (arith, common_steps))
 
 pub test-key-requires : goal.test-key-requires
@@ -76,13 +76,13 @@ test-returns-in_ok-key-in-In-clause-outcome g t c =
 
 pub textual-join-requires : goal.textual-join-requires
 textual-join-requires g t c =
-    let is = join_shape c.args.t.now c.in-Join.es c.deref-in-Join.result.now c.in-Join.is c.deref-in-Join.ensures.value in
-    let falls : row_weight (exprs (views c.deref-in-Join.result.now)) < textual_weight (textual_view c.args.t.now) = rw is (omega arith) in
+    let is = join_shape c.args.t.now c.in-Join.es c.deref.result.now c.in-Join.is c.deref.ensures.value in
+    let falls : row_weight (exprs (views c.deref.result.now)) < textual_weight (textual_view c.args.t.now) = rw is (omega arith) in
     search rules
 
 pub textual-returns-in-Join-clause-outcome : goal.textual-returns-in-Join-clause-outcome
 textual-returns-in-Join-clause-outcome g t c =
-    let is = join_shape c.args.t.now c.in-Join.es c.deref-in-Join.result.now c.in-Join.is c.deref-in-Join.ensures.value in
+    let is = join_shape c.args.t.now c.in-Join.es c.deref.result.now c.in-Join.is c.deref.ensures.value in
     rw is c.join.ensures.outcome
 
 pub textual-formatted-requires : goal.textual-formatted-requires
@@ -103,7 +103,7 @@ textual-returns-in_ok-extend_from_slice-in-Format-clause-outcome g t c =
 
 pub statement-returns-in-If-clause-outcome : goal.statement-returns-in-If-clause-outcome
 statement-returns-in-If-clause-outcome g t c =
-    let is = if_shape c.args.s.now c.in-If.test c.in-If.body c.deref-in-If.result.now c.in-If.is c.deref-in-If.ensures.value in
+    let is = if_shape c.args.s.now c.in-If.test c.in-If.body c.deref.result.now c.in-If.is c.deref.ensures.value in
     rw is c.guard.ensures.outcome
 
 pub statement-returns-in-Choose-clause-outcome : goal.statement-returns-in-Choose-clause-outcome
@@ -180,9 +180,10 @@ suffixes-loop-e-preserved g t c =
     let eres = eres_of c.args.context in
     let enter = enter_of g.W.World.calls c.args.context c.args.depth in
     let next = operand_next g.W.World.calls eres enter c.args.es.now c.loop-e.e-index c.e-item.result c.args.start c.loop-e.out.items c.text_into.new.out.items (moment (g.W.World.state c.loop-e.world) c.loop-e.run) _ c.loop-e-test.true c.e-item.is c.loop-e.invariant.3 c.in_ok-text_into.ensures.outcome in
-    let parts = text_behind _ c.args.start c.loop-e.out.items c.text_into.new.out.items (moment (g.W.World.state c.loop-e.world) c.loop-e.run) _ c.loop-e.invariant.3 c.in_ok-text_into.ensures.outcome in
     let short : within_limit (drop c.args.start c.text_into.new.out.items) ≡ Ok (drop c.args.start c.text_into.new.out.items) = grind (arith, common_steps) in
-    (sym (sym c.loop-e.invariant.0 ∙ next ∙ rw short refl), omega arith, parts.1 ∙ c.loop-e.invariant.2, parts.2)
+    let parts = text_behind (eval g.W.World.calls eres enter (view c.e-item.result)) c.args.start c.loop-e.out.items c.text_into.new.out.items (moment (g.W.World.state c.loop-e.world) c.loop-e.run) _ c.loop-e.invariant.3 c.in_ok-text_into.ensures.outcome in
+    let rest = sym c.loop-e.invariant.0 ∙ next ∙ ap (λ (r : Result (List ℕ) Fault). then_do (settle r (moment (g.W.World.state c.text_into.new.world) c.text_into.new.run)) (suffixed g.W.World.calls eres enter (exprs (views (drop (suc c.loop-e.e-index) c.args.es.now))))) short in
+    (rw add-one (sym rest), omega arith, parts.1 ∙ c.loop-e.invariant.2, parts.2)
 
 -- ---- calls
 
@@ -229,6 +230,10 @@ call-returns-in_ok-hold-in-Some-clause-outcome g t c =
     rw (runs, c.in_ok-flow-in-Some.ensures.outcome) (grind (arith, common_steps))
 
 -- ---- choices
+
+pub guard-returns-then-holds-clause-outcome : goal.guard-returns-then-holds-clause-outcome
+guard-returns-then-holds-clause-outcome g t c =
+    rw (c.in_ok-truth.ensures.outcome, c.in_ok-holds.was, c.if-holds.true) c.execute.ensures.outcome
 
 pub choose-returns-then-holds-clause-outcome : goal.choose-returns-then-holds-clause-outcome
 choose-returns-then-holds-clause-outcome g t c =

@@ -7,13 +7,13 @@ chosen_within : (here : Bool) (place later most : ℕ) → place < most → late
 chosen_within true place later most h k = h
 chosen_within false place later most h k = k
 
-index_from_within : (place : ℕ) (s t : List ℕ) → 0 < place → index_from place s t < place + length s + 1
+index_from_within : (place : ℕ) (s t : List ℕ) → 0 < place → index_from place s t < place + length s
 index_from_within place [] t h = omega arith
 index_from_within place (b ∷ s) t h =
     let r = index_from_within (suc place) s t (omega arith) in
-    chosen_within (begins_with t (b ∷ s)) place (index_from (suc place) s t) (place + suc (length s) + 1) (omega arith) (omega arith)
+    chosen_within (begins_with t (b ∷ s)) place (index_from (suc place) s t) (place + suc (length s)) (omega arith) (omega arith)
 
-index_within : (s t : List ℕ) → index s t < length s + 2
+index_within : (s t : List ℕ) → index s t < length s + 1
 index_within s [] = omega arith
 index_within s (c ∷ t) = let r = index_from_within 1 s (c ∷ t) (omega arith) in omega arith
 
