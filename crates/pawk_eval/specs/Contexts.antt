@@ -1,28 +1,42 @@
--- What a part of a run looks at.
-use Rattle.std.specs.Prelude.{ℕ, List, map}
-use Rattle.pawk_value.specs.Value.{Val, shown}
+-- What a part of a run looks at, as the definitions see it.
+use Rattle.std.specs.Prelude.{ℕ, List, map, Option}
+use Rattle.std.specs.Option.{option_map, option_copied}
+use Rattle.std.specs.Borrow.{Bor}
+use Rattle.pawk_value.specs.Value.{Val}
+use Rattle.pawk_world.specs.Worlds.{Calls}
+use Rattle.pawk_code.specs.declared.expression.Expr.{Expr as CodeExpr}
+use Rattle.pawk_code.specs.declared.statement.Simple.{Simple as CodeSimple}
+use Rattle.pawk_code.specs.Expressions.{Expr, Numeric, replace}
+use Rattle.pawk_code.specs.ExpressionViews.{view, pattern_view, place_view}
+use Rattle.pawk_code.specs.Statements.{Simple}
+use Rattle.pawk_code.specs.StatementViews.{simple_view}
 use Rattle.pawk_code.specs.Programs.{Function}
 use Rattle.pawk_code.specs.ProgramViews.{function_view}
 use Rattle.pawk_builtins.specs.ExpressionViews.{texts_of}
-use Rattle.pawk_world.specs.Worlds.{Calls}
 use Rattle.pawk_meaning.specs.Parts.{Hold, Part}
-use Rattle.pawk_meaning.specs.Meaning.{Way, on, by_break, by_continue, by_return, call_at}
+use Rattle.pawk_meaning.specs.Meaning.{call_at}
 use Rattle.pawk_eval.specs.declared.context.Context.{Context}
-use Rattle.pawk_eval.specs.declared.context.Flow.{Flow}
-use Rattle.pawk_eval.specs.declared.context.Flow.TheVariants as flow
+use Rattle.pawk_eval.specs.declared.operations.Replacement.{Replacement}
 
+-- the functions of the program
 abbrev pub functions_of : Context → List Function
-functions_of c = map function_view c.functions.now
+functions_of context = map function_view context.functions.now
 
+-- what stands between the slashes of the program
 abbrev pub eres_of : Context → List (List ℕ)
-eres_of c = texts_of c.eres.now
+eres_of context = texts_of context.eres.now
 
 -- the call of a function, where so many more may be nested
 abbrev pub enter_of : {S : Type 0} → Calls S → Context → ℕ → ℕ → List Hold → Part S Val
-enter_of calls c depth = call_at calls (eres_of c) (functions_of c) depth
+enter_of calls context depth = call_at calls (eres_of context) (functions_of context) depth
 
-abbrev pub way_of : Flow → Way
-way_of flow.On = on
-way_of flow.Break = by_break
-way_of flow.Continue = by_continue
-way_of (flow.Return v) = by_return (shown v)
+-- an expression and a statement that may be missing
+abbrev pub test_view : Option (Bor CodeExpr) → Option Expr
+test_view test = option_map view (option_copied test)
+
+abbrev pub last_view : Option (Bor CodeSimple) → Option Simple
+last_view last = option_map simple_view (option_copied last)
+
+-- `sub` and `gsub`, by their operands
+abbrev pub replacement_view : Replacement → Numeric
+replacement_view r = replace r.count (pattern_view r.pattern.now) (view r.text.now) (place_view r.place.now)

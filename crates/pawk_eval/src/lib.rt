@@ -1,8 +1,11 @@
-//! Stub.
+//! Expressions and statements of a program, run over any world.
 #![tactic(auto)]
 
 mod context;
-mod cycle;
+mod evaluate;
+mod flow;
+mod operations;
 
-pub use context::{Context, Flow};
-pub use cycle::{execute, truth};
+pub use context::Context;
+pub use evaluate::{execute, truth};
+pub use flow::Flow;

@@ -1,0 +1,6 @@
+pub mod Weights
+pub mod Rows
+pub mod Shapes
+pub mod Behind
+pub mod Turns
+pub mod Calls

@@ -1,0 +1,174 @@
+//! What a part of a run does once its operands are evaluated.
+
+ghost use Rattle.std.specs.Prelude.{◌≡◌, ◌≤◌, ◌<◌, ◌^◌, [], pos, IfOk, IfSome};
+ghost use Rattle.pawk_value.specs.Value.{Text, shown};
+ghost use Rattle.pawk_value.specs.Held.{held_value};
+ghost use Rattle.pawk_world.specs.Sums.{arith_by};
+ghost use Rattle.pawk_world.specs.Sums as spec;
+ghost use Rattle.pawk_code.specs.ExpressionViews.{format_view};
+ghost use Rattle.pawk_builtins.specs.ExpressionViews.{expression_of};
+ghost use Rattle.pawk_builtins.specs.FormatViews.{format_text};
+ghost use Rattle.pawk_meaning.specs.Parts.{as_text, bind, settle};
+ghost use Rattle.pawk_meaning.specs.Builtins.{formatted_text, found_by, replaced_by};
+ghost use Rattle.pawk_meaning.specs.Builtins as builtins;
+ghost use Rattle.pawk_meaning.specs.Meaning.{put_replaced};
+ghost use Rattle.pawk_meaning.specs.Places.{read_at, variable_aim, write_at};
+ghost use Rattle.pawk_places.specs.Moments.{aim_view, hold_of, moment, table_view};
+ghost use Rattle.pawk_places.specs.Yields.{Yields};
+
+use itoa::Buffer;
+use pawk_builtins::{Expression, Values, format_values, index};
+use pawk_code::expression::{Expr, Format, Pattern, Place};
+use pawk_code::name::Variable;
+use pawk_code::word::{Count, Sign};
+use pawk_places::{
+    Parameter, Run, Table, Target, put_text, read_place, variable_target, write_place,
+};
+use pawk_value::{Fault, Held, Op, Value, ValueRef, arith, lend_held, text_in};
+use pawk_world::{Halt, World};
+
+/// The operands of `sub` and `gsub`.
+#[derive(Clone, Copy)]
+pub struct Replacement<'e> {
+    pub count: Count,
+    pub pattern: &'e Pattern,
+    /// What stands for a match.
+    pub text: &'e Expr,
+    /// Where the text stands in which matches are replaced.
+    pub place: &'e Place,
+}
+
+/// The operation of a sign.
+pub fn sign_op(sign: Sign) -> Op
+    ensures { result ≡ spec.op_of sign }
+{
+    match sign {
+        Sign::Plus => Op::Add,
+        Sign::Minus => Op::Subtract,
+    }
+}
+
+/// The result of an operation on two numbers. The fault of the left one's conversion comes first,
+/// then that of the right one's, then one of the operation.
+pub fn combine(op: Op, left: Result<i64, Fault>, right: Result<i64, Fault>) -> Result<i64, Fault>
+    ensures { result ≡ arith_by op left right }
+{
+    let left = left?;
+    let right = right?;
+    arith(op, left, right)
+}
+
+/// What an array as an argument gives to its parameter.
+pub fn array_parameter(table: Table) -> Parameter
+    ensures { hold_of result ≡ table_view table }
+{
+    match table {
+        Table::None => Parameter::Value(Value::Uninit),
+        Table::Global(slot) => Parameter::Global(slot),
+        Table::Local(number) => Parameter::Local(number),
+    }
+}
+
+/// The place where one text first stands in another, in bytes counted from 1; 0 where it does not.
+///
+/// POSIX.1-2017, awk, "String Functions" (`index`).
+pub fn place_in(text: &[u8], sought: &[u8]) -> i64
+    ensures { result ≡ pos (builtins.index text.now sought.now) }
+{
+    index(text, sought) as i64
+}
+
+/// The value of these bytes.
+pub fn value_with(held: Held, bytes: Vec<u8>) -> Value
+    ensures { shown result ≡ held_value held bytes.items }
+{
+    match held {
+        Held::Uninit => Value::Uninit,
+        Held::Num(number) => Value::Num(number),
+        Held::Text => Value::Text(bytes),
+        Held::Maybe => Value::Maybe(bytes),
+    }
+}
+
+/// Sets the variable of a loop over keys.
+pub fn set_key<W: World>(
+    variable: Variable,
+    key: &[u8],
+    world: &mut W,
+    run: &mut Run<'_>,
+) -> Result<(), Halt>
+    ensures left { run.new.left ≤ run.old.left }
+    ensures outcome { Yields (λ _. tt)
+        (write_at W.calls (variable_aim variable) (Text key.now)
+        (moment (W.state world.old) run.old)) result (moment (W.state world.new) run.new) }
+{
+    let target = variable_target(variable);
+    write_place(&target, ValueRef::Text(key), world, run)
+}
+
+/// Where an expression matches first in a text.
+///
+/// Fault `ere` where it is a text that is no expression.
+///
+/// POSIX.1-2017, awk, "Regular Expressions".
+pub fn find_first<W: World>(
+    expression: Expression<'_>,
+    text: &[u8],
+    world: &W,
+    run: &mut Run<'_>,
+) -> Result<Option<(usize, usize)>, Halt>
+    ensures left { run.new.left ≤ run.old.left }
+    ensures within { IfOk result (λ found. IfSome found (λ m. (m.0 ≤ m.1) × (m.1 < 2 ^ 63))) }
+    ensures outcome { Yields (λ found. found)
+        (settle (found_by (expression_of expression.entry) text.now)
+        (moment (W.state world.now) run.old)) result (moment (W.state world.now) run.new) }
+{
+    Ok(run.matchers.find(expression, text)?)
+}
+
+/// The text that a format makes of values, where the format that is a value has the text `text`.
+///
+/// POSIX.1-2017, awk, "Output Statements" and "String Functions" (`sprintf`).
+pub fn fill_format<W: World>(
+    format: &Format,
+    text: &[u8],
+    values: &Values,
+    world: &W,
+    run: &mut Run<'_>,
+) -> Result<Vec<u8>, Halt>
+    ensures left { run.new.left ≤ run.old.left }
+    ensures outcome { Yields (λ text. text.items)
+        (settle (formatted_text (format_text (format_view format.now) text.now) values.now)
+        (moment (W.state world.now) run.old)) result (moment (W.state world.now) run.new) }
+{
+    Ok(format_values(run.alloc, format, text, values)?)
+}
+
+/// Replaces matches in the text of a place, and gives how many.
+///
+/// POSIX.1-2017, awk, "String Functions" (`sub`, `gsub`).
+pub fn substitute<W: World>(
+    count: Count,
+    expression: Expression<'_>,
+    replacement: &[u8],
+    target: &Target,
+    world: &mut W,
+    run: &mut Run<'_>,
+) -> Result<i64, Halt>
+    ensures left { run.new.left ≤ run.old.left }
+    ensures outcome { Yields (λ number. number)
+        (bind (as_text [] (read_at W.calls (aim_view target.now))) (λ s.
+        bind (settle (replaced_by count (expression_of expression.entry) replacement.now s))
+        (put_replaced W.calls (aim_view target.now)))
+        (moment (W.state world.old) run.old)) result (moment (W.state world.new) run.new) }
+{
+    let mut bytes = Vec::new(run.alloc);
+    let held = read_place(target, &mut bytes, world, run)?;
+    let mut buffer = Buffer::new();
+    let text = text_in(lend_held(held, &bytes), &mut buffer);
+    let mut out = Vec::new(run.alloc);
+    let number = run
+        .matchers
+        .replace(count, expression, replacement, text, &mut out)?;
+    put_text(target, number, &out, world, run)
+}
