@@ -5,7 +5,7 @@ use clap::error::ErrorKind;
 use pawk_code::program::Code;
 use pawk_one::{Ending as OneEnding, Place as OnePlace};
 use pawk_par::{Ending, Place, Route, StreamRefusal};
-use pawk_token::refusal::SyntaxRefusal;
+use pawk_syntax::SyntaxRefusal;
 use std::alloc::{AllocError, AllocFailed, Global};
 use std::io;
 use std::io::Write;

@@ -4,14 +4,11 @@ use crate::command_line::Request;
 use crate::files::{read_files, read_stream};
 use crate::reports::{End, Stop};
 use pawk_code::program::Code;
-use pawk_one::{Job, Outcome, run_one};
+use pawk_one::{Job, run_one};
 use pawk_par::Input;
-use pawk_resolve_program::resolve;
-use pawk_settings::refusal::SettingsRefusal;
-use pawk_settings::settings::Settings;
-use pawk_syntax::parse;
-use pawk_syntax::program::Program;
-use pawk_token::refusal::SyntaxRefusal;
+use pawk_resolve_program::program::resolve;
+use pawk_settings::{Settings, SettingsRefusal};
+use pawk_syntax::{Program, SyntaxRefusal, parse};
 use std::alloc::{AllocError, Global};
 use std::io::{Read, Write};
 use std::rt::Files;
@@ -58,7 +55,7 @@ fn read_settings(
     match Settings::new(alloc, program.tree(), pairs.as_slice(), request.steps) {
         Ok(settings) => Ok(settings),
         Err(SettingsRefusal::Memory) => Err(Stop::Memory),
-        Err(refusal) => Err(Stop::Settings(refusal as u8)),
+        Err(refusal) => Err(Stop::Settings(refusal.number())),
     }
 }
 

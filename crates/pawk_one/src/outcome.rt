@@ -1,7 +1,6 @@
 //! Runs of one thread.
 
 ghost use Rattle.std.specs.Prelude.{◌≡◌, [], length, IfOk};
-ghost use Rattle.pawk_builtins.specs.ExpressionViews.{texts_of};
 ghost use Rattle.pawk_code.specs.ProgramViews.{code_view};
 ghost use Rattle.pawk_input.specs.Input.{files_of};
 ghost use Rattle.pawk_store.specs.Globals.{calls};
@@ -31,7 +30,7 @@ pub struct Outcome {
 /// What a run begins with: no output, no record.
 fn opening_run<'a>(alloc: Global, job: Job<'_>) -> Result<Run<'a>, AllocError>
     ensures { IfOk result (λ run. (run.output.items ≡ [])
-        × (state_of run.state ≡ opening (length job.entry.code.now.rules.items))) }
+        × (state_of run.state ≡ opening (length (code_view job.entry.code.now).rules))) }
 {
     Ok(Run {
         alloc,
@@ -40,7 +39,7 @@ fn opening_run<'a>(alloc: Global, job: Job<'_>) -> Result<Run<'a>, AllocError>
         arrays: Vec::new(alloc),
         output: Vec::new(alloc),
         left: job.budget,
-        matchers: Matchers::new(alloc, job.eres.len())?,
+        matchers: Matchers::new(alloc, job.code.expressions.len())?,
     })
 }
 
@@ -53,11 +52,11 @@ pub fn run_one(
     assignments: &[Assignment],
     input: &mut Input,
 ) -> Result<Outcome, AllocError>
-    ensures { IfOk result (Answers (spec.run calls (texts_of job.entry.eres.now)
+    ensures { IfOk result (Answers (spec.run calls (code_view job.entry.code.now).expressions
         (code_view job.entry.code.now) job.entry.budget (files_of input.old)
-        (opened (texts_of job.entry.code.now.scalars.items)
-        (length job.entry.code.now.arrays.items) (pairs_of assignments.now))
-        (opening (length job.entry.code.now.rules.items)))) }
+        (opened (code_view job.entry.code.now).scalars
+        (length (code_view job.entry.code.now).arrays) (pairs_of assignments.now))
+        (opening (length (code_view job.entry.code.now).rules)))) }
 {
     let names = job.code.scalars.as_slice();
     let arrays = job.code.arrays.len();

@@ -1,7 +1,6 @@
 //! Whole runs.
 
 ghost use Rattle.std.specs.Prelude.{◌≡◌, [], IfOk, None};
-ghost use Rattle.pawk_builtins.specs.ExpressionViews.{texts_of};
 ghost use Rattle.pawk_code.specs.ProgramViews.{code_view};
 ghost use Rattle.pawk_input.specs.Input.{files_of, item_of};
 ghost use Rattle.pawk_input.specs.Walk.{items_left};
@@ -34,20 +33,18 @@ const RS: usize = 3;
 #[derive(Clone, Copy)]
 pub struct Job<'p> {
     pub code: &'p Code,
-    /// What stands between the slashes of the program, by numbers.
-    pub eres: &'p [Vec<u8>],
     pub budget: u64,
 }
 
 impl<'p> Job<'p> {
     /// What its parts look at.
     fn context(self) -> Context<'p>
-        ensures eres { eres_of result ≡ texts_of self.entry.eres.now }
+        ensures eres { eres_of result ≡ (code_view self.entry.code.now).expressions }
         ensures functions { functions_of result ≡ (code_view self.entry.code.now).functions }
     {
         Context {
             functions: self.code.functions.as_slice(),
-            eres: self.eres,
+            eres: self.code.expressions.as_slice(),
         }
     }
 
@@ -65,7 +62,7 @@ fn run_end<W: World>(
     world: &mut W,
     run: &mut Run<'_>,
 ) -> Result<Ending, AllocError>
-    ensures { IfOk result (λ ending. ends_from W.calls (texts_of job.entry.eres.now)
+    ensures { IfOk result (λ ending. ends_from W.calls (code_view job.entry.code.now).expressions
         (code_view job.entry.code.now) job.entry.budget
         (end_view (W.state world.old) run.old Through)
         ≡ finish_view (W.state world.new) run.new ending) }
@@ -123,7 +120,7 @@ fn run_records<'a, W: World>(
     world: &mut W,
     run: &mut Run<'a>,
 ) -> Result<Left, AllocError>
-    ensures { IfOk result (λ left. records_from W.calls (texts_of job.entry.eres.now)
+    ensures { IfOk result (λ left. records_from W.calls (code_view job.entry.code.now).expressions
         (code_view job.entry.code.now) job.entry.budget None
         (end_view (W.state world.old) run.old Through) (items_left records.entry)
         ≡ end_view (W.state world.new) run.new left) }
@@ -151,7 +148,7 @@ fn run_behind_records<W: World>(
     world: &mut W,
     run: &mut Run<'_>,
 ) -> Result<Ending, AllocError>
-    ensures { IfOk result (λ ending. behind_records W.calls (texts_of job.entry.eres.now)
+    ensures { IfOk result (λ ending. behind_records W.calls (code_view job.entry.code.now).expressions
         (code_view job.entry.code.now) job.entry.budget (left_view left)
         (end_view (W.state world.old) run.old left)
         ≡ finish_view (W.state world.new) run.new ending) }
@@ -172,7 +169,7 @@ fn run_input<'a, W: World>(
     world: &mut W,
     run: &mut Run<'a>,
 ) -> Result<Ending, AllocError>
-    ensures { IfOk result (λ ending. records_by_rs W.calls (texts_of job.entry.eres.now)
+    ensures { IfOk result (λ ending. records_by_rs W.calls (code_view job.entry.code.now).expressions
         (code_view job.entry.code.now) job.entry.budget
         (text_of (W.calls.look rs_slot (W.state world.old))) (files_of input.old)
         (end_view (W.state world.old) run.old Through)
@@ -200,7 +197,7 @@ pub fn run_program<'a, W: World>(
     run: &mut Run<'a>,
 ) -> Result<Ending, AllocError>
     requires { run.old.output.items ≡ [] }
-    ensures { IfOk result (λ ending. spec.run W.calls (texts_of job.entry.eres.now)
+    ensures { IfOk result (λ ending. spec.run W.calls (code_view job.entry.code.now).expressions
         (code_view job.entry.code.now) job.entry.budget (files_of input.old)
         (W.state world.old) (state_of run.old.state)
         ≡ finish_view (W.state world.new) run.new ending) }

@@ -1,5 +1,4 @@
 use Rattle.std.proofs.Common.{◌≡◌, ◌∙◌, ap, sym, rules, ◌∷◌, None}
-use Rattle.pawk_builtins.specs.ExpressionViews.{texts_of}
 use Rattle.pawk_code.specs.ProgramViews.{code_view}
 use Rattle.pawk_input.specs.Input.{item_of}
 use Rattle.pawk_input.specs.Walk.{items_left}
@@ -14,7 +13,7 @@ use Rattle.pawk_one.proofs.whole.run_records.Goals as goal
 pub returns-then-ends_records : goal.returns-then-ends_records
 returns-then-ends_records g c =
     let calls = g.W.World.calls in
-    let eres = texts_of c.args.job.eres.now in
+    let eres = (code_view c.args.job.code.now).expressions in
     let code = code_view c.args.job.code.now in
     let budget = c.args.job.budget in
     let before = end_view (g.W.World.state c.loop-item.world) c.loop-item.run c.loop-item.left in
@@ -27,7 +26,7 @@ returns-then-ends_records g c =
 pub loop-item-preserved : goal.loop-item-preserved
 loop-item-preserved g c =
     let calls = g.W.World.calls in
-    let eres = texts_of c.args.job.eres.now in
+    let eres = (code_view c.args.job.code.now).expressions in
     let code = code_view c.args.job.code.now in
     let budget = c.args.job.budget in
     let before = end_view (g.W.World.state c.loop-item.world) c.loop-item.run c.loop-item.left in

@@ -1,5 +1,4 @@
 use Rattle.std.proofs.Common.{◌≡◌, None}
-use Rattle.pawk_builtins.specs.ExpressionViews.{texts_of}
 use Rattle.pawk_code.specs.ProgramViews.{code_view}
 use Rattle.pawk_input.specs.Walk.{items_left}
 use Rattle.pawk_meaning.specs.Runs.{records_from}
@@ -12,6 +11,6 @@ abbrev pub invariant-loop-item : goal.invariant-loop-item
 invariant-loop-item g l = record {
   can_next : (goal.iterator-loop-item g).can_next l.item-iterator;
   finite : (goal.iterator-loop-item g).is_finite l.item-iterator;
-  same : records_from g.W.World.calls (texts_of l.job.eres.now) (code_view l.job.code.now) l.job.budget l.skip (end_view (g.W.World.state l.world) l.run l.left) (items_left l.item-iterator)
-      ≡ records_from g.W.World.calls (texts_of l.job.eres.now) (code_view l.job.code.now) l.job.budget None (end_view (g.W.World.state l.fn.world) l.fn.run Through) (items_left l.fn.records);
+  same : records_from g.W.World.calls (code_view l.job.code.now).expressions (code_view l.job.code.now) l.job.budget l.skip (end_view (g.W.World.state l.world) l.run l.left) (items_left l.item-iterator)
+      ≡ records_from g.W.World.calls (code_view l.job.code.now).expressions (code_view l.job.code.now) l.job.budget None (end_view (g.W.World.state l.fn.world) l.fn.run Through) (items_left l.fn.records);
 }
