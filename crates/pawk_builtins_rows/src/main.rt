@@ -110,8 +110,8 @@ fn values_of(alloc: Global, cell: &[u8]) -> Result<Values, AllocError> {
 fn tell_format(alloc: Global, cell: &[u8], text: &[u8], out: &mut Vec<u8>) -> Result<(), Stop> {
     let values = values_of(alloc, cell)?;
     let format = format_of(alloc, cell, text)?;
-    let told = format_values(alloc, &format, text, &values)?;
-    tell_bytes(told.as_slice(), out)?;
+    let line = format_values(alloc, &format, text, &values)?;
+    tell_bytes(line.as_slice(), out)?;
     Ok(())
 }
 
@@ -296,12 +296,12 @@ fn answer(alloc: Global, row: &[u8]) -> Result<Vec<u8>, AllocError> {
 }
 
 fn main(rt: HostRuntime) -> io::Result<()> {
-    for line in rt.lines(rt.alloc()) {
-        let row = line?;
-        let told = answer(rt.alloc(), row.as_str().as_bytes())?;
+    for row in rt.lines(rt.alloc()) {
+        let row = row?;
+        let line = answer(rt.alloc(), row.as_str().as_bytes())?;
         println!(rt;
             "{}",
-            str::from_utf8(told.as_slice()).unwrap_or("not a text")
+            str::from_utf8(line.as_slice()).unwrap_or("not a text")
         )?;
     }
     Ok(())
