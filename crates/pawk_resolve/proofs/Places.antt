@@ -1,5 +1,5 @@
 -- The places of texts among texts with one more at the end.
-use Rattle.std.proofs.Common.{◌≡◌, ℕ, Bool, true, false, cond, List, [], ◌∷◌, ◌++◌, length, map, Option, Some, None, Bor, refl, inl, inr, ◌∙◌, sym}
+use Rattle.std.proofs.Common.{◌≡◌, ℕ, Bool, true, false, cond, List, [], ◌∷◌, ◌++◌, length, Option, Some, None, Bor, refl, inl, inr, ◌∙◌, sym}
 use Rattle.std.specs.Prelude.{if◌then◌else◌, is_some, suc}
 use Rattle.std.specs.Option.{option_map}
 use Rattle.std.specs.Str.{bytes_eq}
@@ -39,10 +39,10 @@ again (y ∷ ys) z x h = rw (again ys z x h) refl
 differs : (z y x : Text) → bytes_eq z x ≡ true → bytes_eq z y ≡ false → bytes_eq y x ≡ false
 differs z y x f e = elim (cases_Bool (bytes_eq y x)) [
   | inl g ↦
-    let here : z ≡ x = (bytes_eq-Decides z x).0 f in
-    let there : y ≡ x = (bytes_eq-Decides y x).0 g in
-    let same : bytes_eq z y ≡ true = (bytes_eq-Decides z y).1 (here ∙ sym there) in
-    let no : true ≡ false = sym same ∙ e in cc
+      let here : z ≡ x = (bytes_eq-Decides z x).0 f in
+      let there : y ≡ x = (bytes_eq-Decides y x).0 g in
+      let same : bytes_eq z y ≡ true = (bytes_eq-Decides z y).1 (here ∙ sym there) in
+      let no : true ≡ false = sym same ∙ e in cc
   | inr g ↦ g
 ]
 
@@ -62,10 +62,10 @@ place-new [] y x h = at_end (bytes_eq y x) 0
 place-new (z ∷ ys) y x h = elim (cases_Bool (bytes_eq z y)) [
   | inl e ↦ let no : true ≡ false = rw e at h in cc
   | inr e ↦
-    let absent : is_some (option_map suc (place ys y)) ≡ false = rw e at h in
-    let inner : is_some (place ys y) ≡ false = unmapped (place ys y) absent in
-    rw (place-new ys y x inner, further (bytes_eq y x) (length ys) (place ys x))
-    (settled (bytes_eq z x) (bytes_eq y x) (suc (length ys)) (option_map suc (place ys x)) (λ f. differs z y x f e))
+      let absent : is_some (option_map suc (place ys y)) ≡ false = rw e at h in
+      let inner : is_some (place ys y) ≡ false = unmapped (place ys y) absent in
+      rw (place-new ys y x inner, further (bytes_eq y x) (length ys) (place ys x))
+      (settled (bytes_eq z x) (bytes_eq y x) (suc (length ys)) (option_map suc (place ys x)) (λ f. differs z y x f e))
 ]
 
 -- one that is there changes nothing
@@ -74,8 +74,8 @@ place-old [] y x h = let no : false ≡ true = h in cc
 place-old (z ∷ ys) y x h = elim (cases_Bool (bytes_eq z y)) [
   | inl e ↦ absorbed (bytes_eq z x) _ _ (λ f. rw (again ys y x (rw ((bytes_eq-Decides z y).0 e) at f)) refl)
   | inr e ↦
-    let there : is_some (option_map suc (place ys y)) ≡ true = rw e at h in
-    rw (place-old ys y x (mapped (place ys y) there)) refl
+      let there : is_some (option_map suc (place ys y)) ≡ true = rw e at h in
+      rw (place-old ys y x (mapped (place ys y) there)) refl
 ]
 
 length-texts : (ys : List (Bor Text)) → length (texts ys) ≡ length ys

@@ -5,6 +5,7 @@ ghost use Rattle.std.specs.List.{flat_map};
 ghost use Rattle.pawk_syntax_program.specs.Item.{part};
 ghost use Rattle.pawk_syntax_kinds.specs.Demands.{KindsFit, AreKindsOf};
 ghost use Rattle.pawk_syntax_kinds.specs.KindViews.{kinds_in};
+ghost use Rattle.pawk_code.specs.FirstSlots.{first_scalars};
 ghost use Rattle.pawk_resolve.specs.Slots.{with_texts, distinct};
 ghost use Rattle.pawk_resolve.specs.Tables.{texts as seen_texts};
 ghost use Rattle.pawk_resolve.specs.ScopeViews.{table_names, globals_view};
@@ -20,8 +21,8 @@ use pawk_token::vocabulary::is_run_variable;
 use std::alloc::{AllocError, Global};
 
 /// The scalars of the language that a program may assign.
-fn first_scalars<'t>(alloc: Global) -> Result<Table<'t>, AllocError>
-    ensures { IfOk result (λ t. table_names t ≡ spec.first_scalars) }
+fn fixed_scalars<'t>(alloc: Global) -> Result<Table<'t>, AllocError>
+    ensures { IfOk result (λ t. table_names t ≡ first_scalars) }
 {
     let mut table = Table::new(alloc);
     table.push(b"FS")?;
@@ -40,10 +41,10 @@ fn scalars<'t>(
     kinds: &Kinds<'t>,
     names: &[&'t [u8]],
 ) -> Result<Table<'t>, AllocError>
-    ensures { IfOk result (λ t. table_names t ≡ with_texts spec.first_scalars
+    ensures { IfOk result (λ t. table_names t ≡ with_texts first_scalars
         (filter (spec.is_global_scalar (kinds_in kinds.now)) (seen_texts names.now))) }
 {
-    let mut table = first_scalars(alloc)?;
+    let mut table = fixed_scalars(alloc)?;
     for name in names {
         if !kinds.is_array(0, name) && !is_run_variable(name) {
             table.add(name)?;

@@ -4,6 +4,7 @@
 pub mod actions;
 pub mod globals;
 pub mod items;
+pub mod laws;
 pub mod names;
 pub mod program;
 pub mod texts;

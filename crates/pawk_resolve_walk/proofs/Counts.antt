@@ -1,5 +1,5 @@
 -- Built-in functions of so many arguments.
-use Rattle.std.proofs.Common.{◌≡◌, ℕ, List, [], ◌∷◌, length, get_or, refl, arith}
+use Rattle.std.proofs.Common.{◌≡◌, List, [], ◌∷◌, length, get_or, refl, arith}
 use Rattle.pawk_token.specs.declared.token.Builtin.{Builtin}
 use Rattle.pawk_syntax_tree.specs.declared.tree.Expr.{Expr as CodeTree}
 use Rattle.pawk_syntax_tree.specs.Tree.{trees, views as tree_views}

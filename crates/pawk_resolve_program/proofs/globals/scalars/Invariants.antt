@@ -4,7 +4,8 @@ use Rattle.pawk_syntax_kinds.specs.KindViews.{kinds_in}
 use Rattle.pawk_resolve.specs.Slots.{with_texts}
 use Rattle.pawk_resolve.specs.Tables.{texts}
 use Rattle.pawk_resolve.specs.ScopeViews.{table_names}
-use Rattle.pawk_resolve.specs.ResolvedPrograms.{first_scalars, is_global_scalar}
+use Rattle.pawk_code.specs.FirstSlots.{first_scalars}
+use Rattle.pawk_resolve.specs.ResolvedPrograms.{is_global_scalar}
 use Rattle.pawk_resolve_program.proofs.globals.scalars.Given as goal
 
 abbrev pub invariant-loop-name : goal.invariant-loop-name

@@ -1,4 +1,4 @@
-use Rattle.std.proofs.Common.{◌≡◌, ◌∙◌, sym, rules, map}
+use Rattle.std.proofs.Common.{◌≡◌, ◌∙◌, rules, map}
 use Rattle.pawk_syntax_program.specs.Item.{texts, seen as tree_seen}
 use Rattle.pawk_code.specs.StatementViews.{seen}
 use Rattle.pawk_resolve.specs.ScopeViews.{globals_view}

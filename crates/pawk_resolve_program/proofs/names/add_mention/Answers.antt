@@ -1,6 +1,5 @@
 use Rattle.std.proofs.Common.{◌≡◌, ◌∷◌, [], ◌++◌, true, false, rules}
-use Rattle.std.specs.Prelude.{is_some, filter, not}
-use Rattle.pawk_token.specs.Vocabulary.{is_among}
+use Rattle.std.specs.Prelude.{is_some}
 use Rattle.pawk_syntax_uses.specs.Views.{mention_view}
 use Rattle.pawk_resolve.specs.Slots.{place}
 use Rattle.pawk_resolve.specs.Tables.{texts}

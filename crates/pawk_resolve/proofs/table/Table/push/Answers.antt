@@ -1,4 +1,4 @@
-use Rattle.std.proofs.Common.{◌≡◌, ◌++◌, ◌∷◌, [], ℕ, cond, Some, length, true, false, rules, is_ok}
+use Rattle.std.proofs.Common.{◌≡◌, ◌++◌, ◌∷◌, [], cond, Some, length, true, false, rules, is_ok}
 use Rattle.std.specs.Prelude.{is_some}
 use Rattle.std.specs.Str.{bytes_eq}
 use Rattle.std.proofs.lemmas.Map.Text.{btree_map_updates_str}
@@ -21,5 +21,5 @@ invariant_of-self-2 c =
     let more : c.push-2.new.self.items ≡ ys ++ c.args.name ∷ [] = search rules in
     let count : c.len-number.result ≡ length ys = search rules in
     let updated : (x : Text) → found c.insert.new.self x ≡ cond (bytes_eq c.args.name.now x) (Some (length ys)) (found m x) =
-        λ x. rw (← count) (btree_map_updates_str c.args.name.now m c.insert.new.self _ c.in_ok-insert.ensures.updates x) in
+    λ x. rw (← count) (btree_map_updates_str c.args.name.now m c.insert.new.self _ c.in_ok-insert.ensures.updates x) in
     record { numbered = more_numbered ys _ c.args.name m c.insert.new.self c.args.self.now.numbered absent more updated }
