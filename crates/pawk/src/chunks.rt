@@ -24,11 +24,7 @@ pub(crate) enum Shape {
 
 impl Shape {
     /// How the program of this text is run: over chunks where it has the shape for it and nothing is assigned before.
-    pub(crate) fn of(
-        alloc: Global,
-        request: &Request<'_>,
-        text: &[u8],
-    ) -> Result<Shape, Stop> {
+    pub(crate) fn of(alloc: Global, request: &Request<'_>, text: &[u8]) -> Result<Shape, Stop> {
         if !request.assignments.is_empty() || request.separator.is_some() {
             return Ok(Shape::Other);
         }

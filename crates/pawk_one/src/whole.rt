@@ -57,17 +57,19 @@ impl<'p> Job<'p> {
 }
 
 /// Runs the actions of END.
-fn run_end<W: World>(
-    job: Job<'_>,
-    world: &mut W,
-    run: &mut Run<'_>,
-) -> Result<Ending, AllocError>
+fn run_end<W: World>(job: Job<'_>, world: &mut W, run: &mut Run<'_>) -> Result<Ending, AllocError>
     ensures { IfOk result (λ ending. ends_from W.calls (code_view job.entry.code.now).expressions
         (code_view job.entry.code.now) job.entry.budget
         (end_view (W.state world.old) run.old Through)
         ≡ finish_view (W.state world.new) run.new ending) }
 {
-    let left = actions(job.context(), job.code.ends.as_slice(), job.budget, world, run)?;
+    let left = actions(
+        job.context(),
+        job.code.ends.as_slice(),
+        job.budget,
+        world,
+        run,
+    )?;
     match left {
         Left::Through => Ok(Ending::Status(run.state.status)),
         Left::NextFile => Ok(Ending::Status(run.state.status)),
@@ -202,7 +204,13 @@ pub fn run_program<'a, W: World>(
         (W.state world.old) (state_of run.old.state)
         ≡ finish_view (W.state world.new) run.new ending) }
 {
-    match actions(job.context(), job.code.begins.as_slice(), job.budget, world, run)? {
+    match actions(
+        job.context(),
+        job.code.begins.as_slice(),
+        job.budget,
+        world,
+        run,
+    )? {
         Left::Through => {
             if job.reads_records() {
                 run_input(job, input, world, run)

@@ -5,8 +5,7 @@ ghost use Rattle.pawk_par.specs.Cutting.{IsSized};
 ghost use Rattle.pawk_par.specs.Task.{IsCrew};
 
 use pawk_par::{
-    Cutting, Ending, Gate, Input, Job, Outcome, Program, Refusal, Route, Settings, parse,
-    run,
+    Cutting, Ending, Gate, Input, Job, Outcome, Program, Refusal, Route, Settings, parse, run,
 };
 use std::alloc::Global;
 use std::sync::Wait;
