@@ -1,11 +1,20 @@
 //! Expressions and statements of a program, run over any world.
 #![tactic(auto)]
 
+mod conditions;
 mod context;
-mod evaluate;
+mod expressions;
 mod flow;
+mod functions;
+mod loops;
+mod numbers;
+mod operands;
 mod operations;
+mod places;
+mod statements;
+mod strings;
 
 pub use context::Context;
-pub use evaluate::{execute, truth};
+pub use expressions::truth;
 pub use flow::Flow;
+pub use statements::execute;

@@ -22,152 +22,152 @@ use Rattle.pawk_eval.proofs.Rows.{expr_in_row, argument_in_row, statement_in_bod
 use Rattle.pawk_eval.proofs.Shapes.{call_shape, element_shape, member_shape, join_shape, format_shape, if_shape, choose_shape, do_shape}
 use Rattle.pawk_eval.proofs.Turns.{turn_is, turn_no_step}
 use Rattle.pawk_eval.proofs.Weights.{rank, rank_falls, weight, row_weight, place_weight, test_weight, textual_weight, format_weight, argument_weight, arguments_weight, statement_weight, body_weight, body_in_list}
-use Rattle.pawk_eval.proofs.evaluate.+evaluate.Goals as goal
+use Rattle.pawk_eval.proofs.+evaluate.Goals as goal
 
 -- ---- nodes with rows
 
-pub eval-pass-requires : goal.eval-pass-requires
-eval-pass-requires g t c =
+pub expressions::eval-pass-requires : goal.expressions::eval-pass-requires
+expressions::eval-pass-requires g t c =
     let is = call_shape c.args.e.now c.in-Call.f c.in-Call.arguments c.deref-in-Call.result.now c.in-Call.is c.deref-in-Call.ensures.value in
     let falls : arguments_weight (arguments (argument_views c.deref-in-Call.result.now)) < weight (view c.args.e.now) = rw is (omega arith) in
     search rules
 
-pub eval-returns-in_err-values-in-Call-clause-outcome : goal.eval-returns-in_err-values-in-Call-clause-outcome
-eval-returns-in_err-values-in-Call-clause-outcome g t c =
+pub expressions::eval-returns-in_err-values-in-Call-clause-outcome : goal.expressions::eval-returns-in_err-values-in-Call-clause-outcome
+expressions::eval-returns-in_err-values-in-Call-clause-outcome g t c =
     let is = call_shape c.args.e.now c.in-Call.f c.in-Call.arguments c.deref-in-Call.result.now c.in-Call.is c.deref-in-Call.ensures.value in
     rw is (grind (arith, common_steps))
 
-pub eval-returns-in_ok-values-in-Call-clause-outcome : goal.eval-returns-in_ok-values-in-Call-clause-outcome
-eval-returns-in_ok-values-in-Call-clause-outcome g t c =
+pub expressions::eval-returns-in_ok-values-in-Call-clause-outcome : goal.expressions::eval-returns-in_ok-values-in-Call-clause-outcome
+expressions::eval-returns-in_ok-values-in-Call-clause-outcome g t c =
     let is = call_shape c.args.e.now c.in-Call.f c.in-Call.arguments c.deref-in-Call.result.now c.in-Call.is c.deref-in-Call.ensures.value in
     rw (is, c.in_ok-values-in-Call.ensures.outcome) c.call.ensures.outcome
 
-pub place-key-requires : goal.place-key-requires
-place-key-requires g t c =
+pub places::place-key-requires : goal.places::place-key-requires
+places::place-key-requires g t c =
     let is = element_shape c.args.p.now c.in-Element.array c.in-Element.keys c.deref.result.now c.in-Element.is c.deref.ensures.value in
     let falls : row_weight (exprs (views c.deref.result.now)) + 1 < place_weight (place_view c.args.p.now) = rw is (omega arith) in
     search rules
 
-pub place-returns-in_err-key-in-Element-clause-outcome : goal.place-returns-in_err-key-in-Element-clause-outcome
-place-returns-in_err-key-in-Element-clause-outcome g t c =
+pub places::place-returns-in_err-key-in-Element-clause-outcome : goal.places::place-returns-in_err-key-in-Element-clause-outcome
+places::place-returns-in_err-key-in-Element-clause-outcome g t c =
     let is = element_shape c.args.p.now c.in-Element.array c.in-Element.keys c.deref.result.now c.in-Element.is c.deref.ensures.value in
     rw is (grind (arith, common_steps))
 
-pub place-returns-in_ok-key-in-Element-clause-outcome : goal.place-returns-in_ok-key-in-Element-clause-outcome
-place-returns-in_ok-key-in-Element-clause-outcome g t c =
+pub places::place-returns-in_ok-key-in-Element-clause-outcome : goal.places::place-returns-in_ok-key-in-Element-clause-outcome
+places::place-returns-in_ok-key-in-Element-clause-outcome g t c =
     let is = element_shape c.args.p.now c.in-Element.array c.in-Element.keys c.deref.result.now c.in-Element.is c.deref.ensures.value in
     rw (is, c.in_ok-key-in-Element.ensures.outcome) (grind (arith, common_steps))
 
-pub test-key-requires : goal.test-key-requires
-test-key-requires g t c =
+pub conditions::test-key-requires : goal.conditions::test-key-requires
+conditions::test-key-requires g t c =
     let is = member_shape c.args.t.now c.in-In.array c.in-In.keys c.deref-in-In.result.now c.in-In.is c.deref-in-In.ensures.value in
     let falls : row_weight (exprs (views c.deref-in-In.result.now)) + 1 < test_weight (test_view c.args.t.now) = rw is (omega arith) in
     search rules
 
-pub test-returns-in_err-key-in-In-clause-outcome : goal.test-returns-in_err-key-in-In-clause-outcome
-test-returns-in_err-key-in-In-clause-outcome g t c =
+pub conditions::test-returns-in_err-key-in-In-clause-outcome : goal.conditions::test-returns-in_err-key-in-In-clause-outcome
+conditions::test-returns-in_err-key-in-In-clause-outcome g t c =
     let is = member_shape c.args.t.now c.in-In.array c.in-In.keys c.deref-in-In.result.now c.in-In.is c.deref-in-In.ensures.value in
     rw is (grind (arith, common_steps))
 
-pub test-returns-in_ok-key-in-In-clause-outcome : goal.test-returns-in_ok-key-in-In-clause-outcome
-test-returns-in_ok-key-in-In-clause-outcome g t c =
+pub conditions::test-returns-in_ok-key-in-In-clause-outcome : goal.conditions::test-returns-in_ok-key-in-In-clause-outcome
+conditions::test-returns-in_ok-key-in-In-clause-outcome g t c =
     let is = member_shape c.args.t.now c.in-In.array c.in-In.keys c.deref-in-In.result.now c.in-In.is c.deref-in-In.ensures.value in
     rw (is, c.in_ok-key-in-In.ensures.outcome) (grind (arith, common_steps))
 
-pub textual-join-requires : goal.textual-join-requires
-textual-join-requires g t c =
+pub strings::textual-join-requires : goal.strings::textual-join-requires
+strings::textual-join-requires g t c =
     let is = join_shape c.args.t.now c.in-Join.es c.deref.result.now c.in-Join.is c.deref.ensures.value in
     let falls : row_weight (exprs (views c.deref.result.now)) < textual_weight (textual_view c.args.t.now) = rw is (omega arith) in
     search rules
 
-pub textual-returns-in-Join-clause-outcome : goal.textual-returns-in-Join-clause-outcome
-textual-returns-in-Join-clause-outcome g t c =
+pub strings::textual-returns-in-Join-clause-outcome : goal.strings::textual-returns-in-Join-clause-outcome
+strings::textual-returns-in-Join-clause-outcome g t c =
     let is = join_shape c.args.t.now c.in-Join.es c.deref.result.now c.in-Join.is c.deref.ensures.value in
     rw is c.join.ensures.outcome
 
-pub textual-formatted-requires : goal.textual-formatted-requires
-textual-formatted-requires g t c =
+pub strings::textual-formatted-requires : goal.strings::textual-formatted-requires
+strings::textual-formatted-requires g t c =
     let is = format_shape c.args.t.now c.in-Format.format c.in-Format.format c.in-Format.es c.deref-in-Format.result.now c.in-Format.is refl c.deref-in-Format.ensures.value in
     let falls : format_weight (format_view c.in-Format.format) + row_weight (exprs (views c.deref-in-Format.result.now)) + 1 < textual_weight (textual_view c.args.t.now) = rw is (omega arith) in
     search rules
 
-pub textual-returns-in_err-text-in-Format-clause-outcome : goal.textual-returns-in_err-text-in-Format-clause-outcome
-textual-returns-in_err-text-in-Format-clause-outcome g t c =
+pub strings::textual-returns-in_err-text-in-Format-clause-outcome : goal.strings::textual-returns-in_err-text-in-Format-clause-outcome
+strings::textual-returns-in_err-text-in-Format-clause-outcome g t c =
     let is = format_shape c.args.t.now c.in-Format.format c.in-Format.format c.in-Format.es c.deref-in-Format.result.now c.in-Format.is refl c.deref-in-Format.ensures.value in
     rw is (grind (arith, common_steps))
 
-pub textual-returns-in_ok-extend_from_slice-in-Format-clause-outcome : goal.textual-returns-in_ok-extend_from_slice-in-Format-clause-outcome
-textual-returns-in_ok-extend_from_slice-in-Format-clause-outcome g t c =
+pub strings::textual-returns-in_ok-extend_from_slice-in-Format-clause-outcome : goal.strings::textual-returns-in_ok-extend_from_slice-in-Format-clause-outcome
+strings::textual-returns-in_ok-extend_from_slice-in-Format-clause-outcome g t c =
     let is = format_shape c.args.t.now c.in-Format.format c.in-Format.format c.in-Format.es c.deref-in-Format.result.now c.in-Format.is refl c.deref-in-Format.ensures.value in
     rw (is, c.in_ok-text-in-Format.ensures.outcome) (grind (arith, common_steps))
 
-pub statement-returns-in-If-clause-outcome : goal.statement-returns-in-If-clause-outcome
-statement-returns-in-If-clause-outcome g t c =
+pub statements::statement-returns-in-If-clause-outcome : goal.statements::statement-returns-in-If-clause-outcome
+statements::statement-returns-in-If-clause-outcome g t c =
     let is = if_shape c.args.s.now c.in-If.test c.in-If.body c.deref.result.now c.in-If.is c.deref.ensures.value in
     rw is c.guard.ensures.outcome
 
-pub statement-returns-in-Choose-clause-outcome : goal.statement-returns-in-Choose-clause-outcome
-statement-returns-in-Choose-clause-outcome g t c =
+pub statements::statement-returns-in-Choose-clause-outcome : goal.statements::statement-returns-in-Choose-clause-outcome
+statements::statement-returns-in-Choose-clause-outcome g t c =
     let is = choose_shape c.args.s.now c.in-Choose.test c.in-Choose.a c.in-Choose.b c.deref-in-Choose.result.now c.deref-in-Choose-2.result.now c.in-Choose.is c.deref-in-Choose.ensures.value c.deref-in-Choose-2.ensures.value in
     rw is c.choose.ensures.outcome
 
-pub statement-returns-in-Do-clause-outcome : goal.statement-returns-in-Do-clause-outcome
-statement-returns-in-Do-clause-outcome g t c =
+pub statements::statement-returns-in-Do-clause-outcome : goal.statements::statement-returns-in-Do-clause-outcome
+statements::statement-returns-in-Do-clause-outcome g t c =
     let is = do_shape c.args.s.now c.in-Do.body c.in-Do.test c.deref-in-Do.result.now c.in-Do.is c.deref-in-Do.ensures.value in
     rw is c.turns_after.ensures.outcome
 
 -- ---- elements of rows
 
-pub pass-parameter-requires : goal.pass-parameter-requires
-pass-parameter-requires g t c =
+pub functions::pass-parameter-requires : goal.functions::pass-parameter-requires
+functions::pass-parameter-requires g t c =
     let w = argument_in_row c.args.arguments.now c.loop-argument.argument-index c.argument-item.result c.loop-argument-test.true in let d = ap (λ a. argument_weight (argument_view a)) c.argument-item.is in search rules
 
-pub texts-text_into-requires : goal.texts-text_into-requires
-texts-text_into-requires g t c =
+pub operands::texts-text_into-requires : goal.operands::texts-text_into-requires
+operands::texts-text_into-requires g t c =
     let w = expr_in_row c.args.es.now c.loop-e.e-index c.e-item.result c.loop-e-test.true in let d = ap (λ e. weight (view e)) c.e-item.is in search rules
 
-pub values-eval-requires : goal.values-eval-requires
-values-eval-requires g t c =
+pub operands::values-eval-requires : goal.operands::values-eval-requires
+operands::values-eval-requires g t c =
     let w = expr_in_row c.args.es.now c.loop-e.e-index c.e-item.result c.loop-e-test.true in let d = ap (λ e. weight (view e)) c.e-item.is in search rules
 
-pub suffixes-text_into-requires : goal.suffixes-text_into-requires
-suffixes-text_into-requires g t c =
+pub strings::suffixes-text_into-requires : goal.strings::suffixes-text_into-requires
+strings::suffixes-text_into-requires g t c =
     let w = expr_in_row c.args.es.now c.loop-e.e-index c.e-item.result c.loop-e-test.true in let d = ap (λ e. weight (view e)) c.e-item.is in search rules
 
-pub execute-statement-requires : goal.execute-statement-requires
-execute-statement-requires g t c =
+pub statements::execute-statement-requires : goal.statements::execute-statement-requires
+statements::execute-statement-requires g t c =
     let w = statement_in_body c.args.body.now c.loop-s.s-index c.s-item.result c.loop-s-test.true in let d = ap (λ s. statement_weight (stmt_view s)) c.s-item.is in search rules
 
-pub pass-returns-in_err-value-clause-outcome : goal.pass-returns-in_err-value-clause-outcome
-pass-returns-in_err-value-clause-outcome g t c =
+pub functions::pass-returns-in_err-value-clause-outcome : goal.functions::pass-returns-in_err-value-clause-outcome
+functions::pass-returns-in_err-value-clause-outcome g t c =
     let eres = eres_of c.args.context in
     let enter = enter_of g.W.World.calls c.args.context c.args.depth in
     let stops : (h : Halt) → halt_of c.in_err-value.field-0.0 ≡ Some h → arguments_of g.W.World.calls eres enter (arguments (argument_views c.args.arguments.now)) [] (moment (g.W.World.state c.args.world.now) c.args.run.now) ≡ halts h (g.W.World.state c.parameter.new.world) (state_of c.parameter.new.run.state) c.parameter.new.run.output.items = λ h is. sym c.loop-argument.invariant.0 ∙ argument_in_row_halts g.W.World.calls eres enter c.args.arguments.now c.loop-argument.argument-index c.argument-item.result (holds_of c.loop-argument.values.items) (moment (g.W.World.state c.loop-argument.world) c.loop-argument.run) h _ _ _ c.loop-argument-test.true c.argument-item.is (c.in_err-value.ensures.outcome h is) in
     search rules
 
-pub texts-returns-in_err-text_into-clause-outcome : goal.texts-returns-in_err-text_into-clause-outcome
-texts-returns-in_err-text_into-clause-outcome g t c =
+pub operands::texts-returns-in_err-text_into-clause-outcome : goal.operands::texts-returns-in_err-text_into-clause-outcome
+operands::texts-returns-in_err-text_into-clause-outcome g t c =
     let eres = eres_of c.args.context in
     let enter = enter_of g.W.World.calls c.args.context c.args.depth in
     let stops : (h : Halt) → halt_of c.in_err-text_into.field-0.0 ≡ Some h → texts_of g.W.World.calls eres enter (exprs (views c.args.es.now)) c.args.parts.now (moment (g.W.World.state c.args.world.now) c.args.run.now) ≡ halts h (g.W.World.state c.text_into.new.world) (state_of c.text_into.new.run.state) c.text_into.new.run.output.items = λ h is. sym c.loop-e.invariant.0 ∙ text_in_row_halts g.W.World.calls eres enter c.args.es.now c.loop-e.e-index c.e-item.result c.loop-e.parts c.clear.new.self.items (moment (g.W.World.state c.loop-e.world) c.loop-e.run) h _ _ _ c.loop-e-test.true c.e-item.is (c.in_err-text_into.ensures.outcome h is) in
     search rules
 
-pub values-returns-in_err-held-clause-outcome : goal.values-returns-in_err-held-clause-outcome
-values-returns-in_err-held-clause-outcome g t c =
+pub operands::values-returns-in_err-held-clause-outcome : goal.operands::values-returns-in_err-held-clause-outcome
+operands::values-returns-in_err-held-clause-outcome g t c =
     let eres = eres_of c.args.context in
     let enter = enter_of g.W.World.calls c.args.context c.args.depth in
     let stops : (h : Halt) → halt_of c.in_err-held.field-0.0 ≡ Some h → values_of g.W.World.calls eres enter (exprs (views c.args.es.now)) c.args.parts.now (moment (g.W.World.state c.args.world.now) c.args.run.now) ≡ halts h (g.W.World.state c.eval.new.world) (state_of c.eval.new.run.state) c.eval.new.run.output.items = λ h is. sym c.loop-e.invariant.0 ∙ value_in_row_halts g.W.World.calls eres enter c.args.es.now c.loop-e.e-index c.e-item.result c.loop-e.parts (moment (g.W.World.state c.loop-e.world) c.loop-e.run) h _ _ _ c.loop-e-test.true c.e-item.is (c.in_err-held.ensures.outcome h is) in
     search rules
 
-pub suffixes-returns-in_err-text_into-clause-outcome : goal.suffixes-returns-in_err-text_into-clause-outcome
-suffixes-returns-in_err-text_into-clause-outcome g t c =
+pub strings::suffixes-returns-in_err-text_into-clause-outcome : goal.strings::suffixes-returns-in_err-text_into-clause-outcome
+strings::suffixes-returns-in_err-text_into-clause-outcome g t c =
     let eres = eres_of c.args.context in
     let enter = enter_of g.W.World.calls c.args.context c.args.depth in
     let stops : (h : Halt) → halt_of c.in_err-text_into.field-0.0 ≡ Some h → suffixed g.W.World.calls eres enter (exprs (views c.args.es.now)) (drop c.args.start c.args.out.now.items) (moment (g.W.World.state c.args.world.now) c.args.run.now) ≡ halts h (g.W.World.state c.text_into.new.world) (state_of c.text_into.new.run.state) c.text_into.new.run.output.items = λ h is. sym c.loop-e.invariant.0 ∙ operand_halts g.W.World.calls eres enter c.args.es.now c.loop-e.e-index c.e-item.result c.args.start c.loop-e.out.items (moment (g.W.World.state c.loop-e.world) c.loop-e.run) h _ _ _ c.loop-e-test.true c.e-item.is (c.in_err-text_into.ensures.outcome h is) in
     search rules
 
-pub suffixes-returns-in_err-within_limit-clause-outcome : goal.suffixes-returns-in_err-within_limit-clause-outcome
-suffixes-returns-in_err-within_limit-clause-outcome g t c =
+pub strings::suffixes-returns-in_err-within_limit-clause-outcome : goal.strings::suffixes-returns-in_err-within_limit-clause-outcome
+strings::suffixes-returns-in_err-within_limit-clause-outcome g t c =
     let eres = eres_of c.args.context in
     let enter = enter_of g.W.World.calls c.args.context c.args.depth in
     let next = operand_next g.W.World.calls eres enter c.args.es.now c.loop-e.e-index c.e-item.result c.args.start c.loop-e.out.items c.text_into.new.out.items (moment (g.W.World.state c.loop-e.world) c.loop-e.run) _ c.loop-e-test.true c.e-item.is c.loop-e.invariant.3 c.in_ok-text_into.ensures.outcome in
@@ -175,8 +175,8 @@ suffixes-returns-in_err-within_limit-clause-outcome g t c =
     let stops : suffixed g.W.World.calls eres enter (exprs (views c.args.es.now)) (drop c.args.start c.args.out.now.items) (moment (g.W.World.state c.args.world.now) c.args.run.now) ≡ halts (fault c.in_err-within_limit.field-0.0) (g.W.World.state c.text_into.new.world) (state_of c.text_into.new.run.state) c.text_into.new.run.output.items = sym c.loop-e.invariant.0 ∙ next ∙ rw long refl in
     search rules
 
-pub suffixes-loop-e-preserved : goal.suffixes-loop-e-preserved
-suffixes-loop-e-preserved g t c =
+pub strings::suffixes-loop-e-preserved : goal.strings::suffixes-loop-e-preserved
+strings::suffixes-loop-e-preserved g t c =
     let eres = eres_of c.args.context in
     let enter = enter_of g.W.World.calls c.args.context c.args.depth in
     let next = operand_next g.W.World.calls eres enter c.args.es.now c.loop-e.e-index c.e-item.result c.args.start c.loop-e.out.items c.text_into.new.out.items (moment (g.W.World.state c.loop-e.world) c.loop-e.run) _ c.loop-e-test.true c.e-item.is c.loop-e.invariant.3 c.in_ok-text_into.ensures.outcome in
@@ -187,31 +187,31 @@ suffixes-loop-e-preserved g t c =
 
 -- ---- calls
 
-pub call-returns-in_err-tick-clause-outcome : goal.call-returns-in_err-tick-clause-outcome
-call-returns-in_err-tick-clause-outcome g t c =
+pub functions::call-returns-in_err-tick-clause-outcome : goal.functions::call-returns-in_err-tick-clause-outcome
+functions::call-returns-in_err-tick-clause-outcome g t c =
     let stops = λ (h : Halt) (is : halt_of c.in_err-tick.field-0.0 ≡ Some h). call_no_step g.W.World.calls (eres_of c.args.context) (functions_of c.args.context) c.args.depth c.args.f (holds_of c.args.arguments.items) (moment (g.W.World.state c.args.world.now) c.args.run.now) h _ _ _ (c.in_err-tick.ensures.outcome h is) in
     search rules
 
-pub call-returns-then-depth-eq0-clause-outcome : goal.call-returns-then-depth-eq0-clause-outcome
-call-returns-then-depth-eq0-clause-outcome g t c =
+pub functions::call-returns-then-depth-eq0-clause-outcome : goal.functions::call-returns-then-depth-eq0-clause-outcome
+functions::call-returns-then-depth-eq0-clause-outcome g t c =
     let stops = call_too_deep g.W.World.calls (eres_of c.args.context) (functions_of c.args.context) c.args.depth c.args.f (holds_of c.args.arguments.items) (moment (g.W.World.state c.args.world.now) c.args.run.now) _ c.if-depth-eq0.true c.in_ok-tick.ensures.outcome in
     search rules
 
-pub call-returns-in-None-clause-outcome : goal.call-returns-in-None-clause-outcome
-call-returns-in-None-clause-outcome g t c =
+pub functions::call-returns-in-None-clause-outcome : goal.functions::call-returns-in-None-clause-outcome
+functions::call-returns-in-None-clause-outcome g t c =
     let pos : 0 < c.args.depth = omega (arith, c.if-depth-eq0.false) in
     call_nothing g.W.World.calls (eres_of c.args.context) (functions_of c.args.context) c.args.depth c.args.f (holds_of c.args.arguments.items) (moment (g.W.World.state c.args.world.now) c.args.run.now) _ pos c.in_ok-tick.ensures.outcome c.in-None.ensures
 
-pub call-execute-requires : goal.call-execute-requires
-call-execute-requires g t c =
+pub functions::call-execute-requires : goal.functions::call-execute-requires
+functions::call-execute-requires g t c =
     let w = body_in_list (functions_of c.args.context) c.args.f (function_view c.in-Some.function.now) c.in-Some.ensures in
     let pos : 0 < c.args.depth = omega (arith, c.if-depth-eq0.false) in
     let one : c.args.depth ≡ c.args.depth - 1 + 1 = omega (arith, pos) in
     let f : rank (functions_of c.args.context) (c.args.depth - 1) (body_weight (seen c.deref-in-Some.result.now)) < rank (functions_of c.args.context) c.args.depth 0 = rw c.deref-in-Some.ensures.value (rank_falls (functions_of c.args.context) c.args.depth (c.args.depth - 1) (body_weight (seen c.in-Some.function.now.body.items)) one w) in
     search rules
 
-pub call-returns-in_err-flow-in-Some-clause-outcome : goal.call-returns-in_err-flow-in-Some-clause-outcome
-call-returns-in_err-flow-in-Some-clause-outcome g t c =
+pub functions::call-returns-in_err-flow-in-Some-clause-outcome : goal.functions::call-returns-in_err-flow-in-Some-clause-outcome
+functions::call-returns-in_err-flow-in-Some-clause-outcome g t c =
     let pos : 0 < c.args.depth = omega (arith, c.if-depth-eq0.false) in
     let m1 = moment (g.W.World.state c.args.world.now) c.tick.new.run in
     let e : Entry = record { frame = holds_of c.replace-saved.new.dest.items; arrays = c.parameters.new.arrays.items } in
@@ -220,8 +220,8 @@ call-returns-in_err-flow-in-Some-clause-outcome g t c =
     let stops : (h : Halt) → halt_of c.in_err-flow-in-Some.field-0.0 ≡ Some h → enter_of g.W.World.calls c.args.context c.args.depth c.args.f (holds_of c.args.arguments.items) (moment (g.W.World.state c.args.world.now) c.args.run.now) ≡ halts h (g.W.World.state c.execute.new.world) (state_of c.execute.new.run.state) c.execute.new.run.output.items = λ h is. rw (runs, c.in_err-flow-in-Some.ensures.outcome h is) in
     search rules
 
-pub call-returns-in_ok-hold-in-Some-clause-outcome : goal.call-returns-in_ok-hold-in-Some-clause-outcome
-call-returns-in_ok-hold-in-Some-clause-outcome g t c =
+pub functions::call-returns-in_ok-hold-in-Some-clause-outcome : goal.functions::call-returns-in_ok-hold-in-Some-clause-outcome
+functions::call-returns-in_ok-hold-in-Some-clause-outcome g t c =
     let pos : 0 < c.args.depth = omega (arith, c.if-depth-eq0.false) in
     let m1 = moment (g.W.World.state c.args.world.now) c.tick.new.run in
     let e : Entry = record { frame = holds_of c.replace-saved.new.dest.items; arrays = c.parameters.new.arrays.items } in
@@ -231,22 +231,22 @@ call-returns-in_ok-hold-in-Some-clause-outcome g t c =
 
 -- ---- choices
 
-pub guard-returns-then-holds-clause-outcome : goal.guard-returns-then-holds-clause-outcome
-guard-returns-then-holds-clause-outcome g t c =
+pub statements::guard-returns-then-holds-clause-outcome : goal.statements::guard-returns-then-holds-clause-outcome
+statements::guard-returns-then-holds-clause-outcome g t c =
     rw (c.in_ok-truth.ensures.outcome, c.in_ok-holds.was, c.if-holds.true) c.execute.ensures.outcome
 
-pub choose-returns-then-holds-clause-outcome : goal.choose-returns-then-holds-clause-outcome
-choose-returns-then-holds-clause-outcome g t c =
+pub statements::choose-returns-then-holds-clause-outcome : goal.statements::choose-returns-then-holds-clause-outcome
+statements::choose-returns-then-holds-clause-outcome g t c =
     rw (c.in_ok-truth.ensures.outcome, c.in_ok-holds.was, c.if-holds.true) c.execute.ensures.outcome
 
-pub choose-returns-else-holds-clause-outcome : goal.choose-returns-else-holds-clause-outcome
-choose-returns-else-holds-clause-outcome g t c =
+pub statements::choose-returns-else-holds-clause-outcome : goal.statements::choose-returns-else-holds-clause-outcome
+statements::choose-returns-else-holds-clause-outcome g t c =
     rw (c.in_ok-truth.ensures.outcome, c.in_ok-holds.was, c.if-holds.false) c.execute-else-holds.ensures.outcome
 
 -- ---- turns of loops
 
-pub turns-returns-in_err-tick-clause-outcome : goal.turns-returns-in_err-tick-clause-outcome
-turns-returns-in_err-tick-clause-outcome g t c =
+pub loops::turns-returns-in_err-tick-clause-outcome : goal.loops::turns-returns-in_err-tick-clause-outcome
+loops::turns-returns-in_err-tick-clause-outcome g t c =
     let eres = eres_of c.args.context in
     let enter = enter_of g.W.World.calls c.args.context c.args.depth in
     let check = test_or_true g.W.World.calls eres enter (contexts.test_view c.args.test) in
@@ -255,8 +255,8 @@ turns-returns-in_err-tick-clause-outcome g t c =
     let stops : (h : Halt) → halt_of c.in_err-tick.field-0.0 ≡ Some h → while_loop check body last (moment (g.W.World.state c.args.world.now) c.args.run.now) ≡ halts h (g.W.World.state c.turns.world) (state_of c.tick.new.run.state) c.tick.new.run.output.items = λ h is. sym c.turns.invariant.0.2 ∙ turn_no_step c.turns.invariant.0.0 check body last (moment (g.W.World.state c.turns.world) c.turns.run) h _ _ _ c.turns.invariant.0.1 (c.in_err-tick.ensures.outcome h is) in
     search rules
 
-pub turns-returns-in_err-truth-clause-outcome : goal.turns-returns-in_err-truth-clause-outcome
-turns-returns-in_err-truth-clause-outcome g t c =
+pub loops::turns-returns-in_err-truth-clause-outcome : goal.loops::turns-returns-in_err-truth-clause-outcome
+loops::turns-returns-in_err-truth-clause-outcome g t c =
     let eres = eres_of c.args.context in
     let enter = enter_of g.W.World.calls c.args.context c.args.depth in
     let check = test_or_true g.W.World.calls eres enter (contexts.test_view c.args.test) in
@@ -267,8 +267,8 @@ turns-returns-in_err-truth-clause-outcome g t c =
     let stops : (h : Halt) → halt_of c.in_err-truth.field-0.0 ≡ Some h → while_loop check body last (moment (g.W.World.state c.args.world.now) c.args.run.now) ≡ halts h (g.W.World.state c.truth_or_true.new.world) (state_of c.truth_or_true.new.run.state) c.truth_or_true.new.run.output.items = λ h is. rw (whole, c.in_err-truth.ensures.outcome h is) in
     search rules
 
-pub turns-returns-in_err-holds-clause-outcome : goal.turns-returns-in_err-holds-clause-outcome
-turns-returns-in_err-holds-clause-outcome g t c =
+pub loops::turns-returns-in_err-holds-clause-outcome : goal.loops::turns-returns-in_err-holds-clause-outcome
+loops::turns-returns-in_err-holds-clause-outcome g t c =
     let eres = eres_of c.args.context in
     let enter = enter_of g.W.World.calls c.args.context c.args.depth in
     let check = test_or_true g.W.World.calls eres enter (contexts.test_view c.args.test) in
@@ -279,8 +279,8 @@ turns-returns-in_err-holds-clause-outcome g t c =
     let stops : while_loop check body last (moment (g.W.World.state c.args.world.now) c.args.run.now) ≡ halts (fault c.in_err-holds.field-0.0) (g.W.World.state c.truth_or_true.new.world) (state_of c.truth_or_true.new.run.state) c.truth_or_true.new.run.output.items = rw (whole, c.in_ok-truth.ensures.outcome, c.in_err-holds.was) in
     search rules
 
-pub turns-returns-then-not-holds-clause-outcome : goal.turns-returns-then-not-holds-clause-outcome
-turns-returns-then-not-holds-clause-outcome g t c =
+pub loops::turns-returns-then-not-holds-clause-outcome : goal.loops::turns-returns-then-not-holds-clause-outcome
+loops::turns-returns-then-not-holds-clause-outcome g t c =
     let eres = eres_of c.args.context in
     let enter = enter_of g.W.World.calls c.args.context c.args.depth in
     let check = test_or_true g.W.World.calls eres enter (contexts.test_view c.args.test) in
@@ -290,8 +290,8 @@ turns-returns-then-not-holds-clause-outcome g t c =
     let whole = sym c.turns.invariant.0.2 ∙ turn.2 in
     rw (whole, c.in_ok-truth.ensures.outcome, c.in_ok-holds.was, c.if-not-holds.true)
 
-pub turns-returns-in_err-flow-clause-outcome : goal.turns-returns-in_err-flow-clause-outcome
-turns-returns-in_err-flow-clause-outcome g t c =
+pub loops::turns-returns-in_err-flow-clause-outcome : goal.loops::turns-returns-in_err-flow-clause-outcome
+loops::turns-returns-in_err-flow-clause-outcome g t c =
     let eres = eres_of c.args.context in
     let enter = enter_of g.W.World.calls c.args.context c.args.depth in
     let check = test_or_true g.W.World.calls eres enter (contexts.test_view c.args.test) in
@@ -302,8 +302,8 @@ turns-returns-in_err-flow-clause-outcome g t c =
     let stops : (h : Halt) → halt_of c.in_err-flow.field-0.0 ≡ Some h → while_loop check body last (moment (g.W.World.state c.args.world.now) c.args.run.now) ≡ halts h (g.W.World.state c.execute.new.world) (state_of c.execute.new.run.state) c.execute.new.run.output.items = λ h is. rw (whole, c.in_ok-truth.ensures.outcome, c.in_ok-holds.was, c.if-not-holds.false, c.in_err-flow.ensures.outcome h is) in
     search rules
 
-pub turns-returns-in-Some-clause-outcome : goal.turns-returns-in-Some-clause-outcome
-turns-returns-in-Some-clause-outcome g t c =
+pub loops::turns-returns-in-Some-clause-outcome : goal.loops::turns-returns-in-Some-clause-outcome
+loops::turns-returns-in-Some-clause-outcome g t c =
     let eres = eres_of c.args.context in
     let enter = enter_of g.W.World.calls c.args.context c.args.depth in
     let check = test_or_true g.W.World.calls eres enter (contexts.test_view c.args.test) in
@@ -313,8 +313,8 @@ turns-returns-in-Some-clause-outcome g t c =
     let whole = sym c.turns.invariant.0.2 ∙ turn.2 in
     rw (whole, c.in_ok-truth.ensures.outcome, c.in_ok-holds.was, c.if-not-holds.false, c.in_ok-flow.ensures.outcome, c.in-Some.ensures)
 
-pub turns-returns-in_err-perform_or_none-clause-outcome : goal.turns-returns-in_err-perform_or_none-clause-outcome
-turns-returns-in_err-perform_or_none-clause-outcome g t c =
+pub loops::turns-returns-in_err-perform_or_none-clause-outcome : goal.loops::turns-returns-in_err-perform_or_none-clause-outcome
+loops::turns-returns-in_err-perform_or_none-clause-outcome g t c =
     let eres = eres_of c.args.context in
     let enter = enter_of g.W.World.calls c.args.context c.args.depth in
     let check = test_or_true g.W.World.calls eres enter (contexts.test_view c.args.test) in
@@ -325,8 +325,8 @@ turns-returns-in_err-perform_or_none-clause-outcome g t c =
     let stops : (h : Halt) → halt_of c.in_err-perform_or_none.field-0.0 ≡ Some h → while_loop check body last (moment (g.W.World.state c.args.world.now) c.args.run.now) ≡ halts h (g.W.World.state c.perform_or_none.new.world) (state_of c.perform_or_none.new.run.state) c.perform_or_none.new.run.output.items = λ h is. rw (whole, c.in_ok-truth.ensures.outcome, c.in_ok-holds.was, c.if-not-holds.false, c.in_ok-flow.ensures.outcome, c.in_default.ensures, c.in_err-perform_or_none.ensures.outcome h is) in
     search rules
 
-pub turns-turns-preserved : goal.turns-turns-preserved
-turns-turns-preserved g t c =
+pub loops::turns-turns-preserved : goal.loops::turns-turns-preserved
+loops::turns-turns-preserved g t c =
     let eres = eres_of c.args.context in
     let enter = enter_of g.W.World.calls c.args.context c.args.depth in
     let check = test_or_true g.W.World.calls eres enter (contexts.test_view c.args.test) in
@@ -337,8 +337,8 @@ turns-turns-preserved g t c =
     let few : c.perform_or_none.new.run.left ≤ turn.0 = omega (arith, c.in_ok-tick.ensures.less, turn.1, c.turns.invariant.0.1, c.in_ok-truth.ensures.left, c.in_ok-flow.ensures.left, c.in_ok-perform_or_none.ensures.left) in
     ((turn.0, few, sym (rw (whole, c.in_ok-truth.ensures.outcome, c.in_ok-holds.was, c.if-not-holds.false, c.in_ok-flow.ensures.outcome, c.in_default.ensures, c.in_ok-perform_or_none.ensures.outcome))), omega arith)
 
-pub visit-returns-in_err-tick-clause-outcome : goal.visit-returns-in_err-tick-clause-outcome
-visit-returns-in_err-tick-clause-outcome g t c =
+pub loops::visit-returns-in_err-tick-clause-outcome : goal.loops::visit-returns-in_err-tick-clause-outcome
+loops::visit-returns-in_err-tick-clause-outcome g t c =
     let eres = eres_of c.args.context in
     let enter = enter_of g.W.World.calls c.args.context c.args.depth in
     let body = execs g.W.World.calls eres enter (seen c.args.body.now) in
@@ -348,8 +348,8 @@ visit-returns-in_err-tick-clause-outcome g t c =
     let stops : (h : Halt) → halt_of c.in_err-tick.field-0.0 ≡ Some h → visit_keys g.W.World.calls c.args.keys.now (variable_aim c.args.variable) body (moment (g.W.World.state c.args.world.now) c.args.run.now) ≡ halts h (g.W.World.state c.loop-i.world) (state_of c.tick.new.run.state) c.tick.new.run.output.items = λ h is. rw (whole, c.in_err-tick.ensures.outcome h is) in
     search rules
 
-pub visit-returns-in_err-set_key-clause-outcome : goal.visit-returns-in_err-set_key-clause-outcome
-visit-returns-in_err-set_key-clause-outcome g t c =
+pub loops::visit-returns-in_err-set_key-clause-outcome : goal.loops::visit-returns-in_err-set_key-clause-outcome
+loops::visit-returns-in_err-set_key-clause-outcome g t c =
     let eres = eres_of c.args.context in
     let enter = enter_of g.W.World.calls c.args.context c.args.depth in
     let body = execs g.W.World.calls eres enter (seen c.args.body.now) in
@@ -358,8 +358,8 @@ visit-returns-in_err-set_key-clause-outcome g t c =
     let stops : (h : Halt) → halt_of c.in_err-set_key.field-0.0 ≡ Some h → visit_keys g.W.World.calls c.args.keys.now (variable_aim c.args.variable) body (moment (g.W.World.state c.args.world.now) c.args.run.now) ≡ halts h (g.W.World.state c.set_key.new.world) (state_of c.set_key.new.run.state) c.set_key.new.run.output.items = λ h is. rw (whole, c.in_ok-tick.ensures.outcome, c.in_err-set_key.ensures.outcome h is) in
     search rules
 
-pub visit-returns-in_err-flow-clause-outcome : goal.visit-returns-in_err-flow-clause-outcome
-visit-returns-in_err-flow-clause-outcome g t c =
+pub loops::visit-returns-in_err-flow-clause-outcome : goal.loops::visit-returns-in_err-flow-clause-outcome
+loops::visit-returns-in_err-flow-clause-outcome g t c =
     let eres = eres_of c.args.context in
     let enter = enter_of g.W.World.calls c.args.context c.args.depth in
     let body = execs g.W.World.calls eres enter (seen c.args.body.now) in
@@ -368,8 +368,8 @@ visit-returns-in_err-flow-clause-outcome g t c =
     let stops : (h : Halt) → halt_of c.in_err-flow.field-0.0 ≡ Some h → visit_keys g.W.World.calls c.args.keys.now (variable_aim c.args.variable) body (moment (g.W.World.state c.args.world.now) c.args.run.now) ≡ halts h (g.W.World.state c.execute.new.world) (state_of c.execute.new.run.state) c.execute.new.run.output.items = λ h is. rw (whole, c.in_ok-tick.ensures.outcome, c.in_ok-set_key.ensures.outcome, c.in_err-flow.ensures.outcome h is) in
     search rules
 
-pub visit-returns-in-Some-clause-outcome : goal.visit-returns-in-Some-clause-outcome
-visit-returns-in-Some-clause-outcome g t c =
+pub loops::visit-returns-in-Some-clause-outcome : goal.loops::visit-returns-in-Some-clause-outcome
+loops::visit-returns-in-Some-clause-outcome g t c =
     let eres = eres_of c.args.context in
     let enter = enter_of g.W.World.calls c.args.context c.args.depth in
     let body = execs g.W.World.calls eres enter (seen c.args.body.now) in
@@ -377,8 +377,8 @@ visit-returns-in-Some-clause-outcome g t c =
     let whole = sym c.loop-i.invariant.0 ∙ ap (λ ks. visit_keys g.W.World.calls ks (variable_aim c.args.variable) body (moment (g.W.World.state c.loop-i.world) c.loop-i.run)) cons in
     rw (whole, c.in_ok-tick.ensures.outcome, c.in_ok-set_key.ensures.outcome, c.in_ok-flow.ensures.outcome, c.in-Some.ensures)
 
-pub visit-loop-i-preserved : goal.visit-loop-i-preserved
-visit-loop-i-preserved g t c =
+pub loops::visit-loop-i-preserved : goal.loops::visit-loop-i-preserved
+loops::visit-loop-i-preserved g t c =
     let eres = eres_of c.args.context in
     let enter = enter_of g.W.World.calls c.args.context c.args.depth in
     let body = execs g.W.World.calls eres enter (seen c.args.body.now) in

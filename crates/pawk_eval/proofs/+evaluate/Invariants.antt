@@ -1,0 +1,202 @@
+use Rattle.std.proofs.Common.{◌≡◌, ◌≤◌, ℕ, ◌+◌, ◌++◌, [], ◌∷◌, drop, take, length, map, List}
+use Rattle.pawk_value.specs.Held.{added}
+use Rattle.pawk_code.specs.Expressions.{exprs, arguments}
+use Rattle.pawk_code.specs.ExpressionViews.{view, views, argument_view, argument_views, fields_view, format_view, function_view, numeric_view, pattern_view, place_view, test_view, textual_view}
+use Rattle.pawk_code.specs.StatementViews.{leave_view, head_view, seen, simple_view, stmt_view}
+use Rattle.pawk_meaning.specs.Meaning.{texts_of, values_of, arguments_of, suffixed, execs, turns, while_loop, visit_keys, for_keys, act_or_none, test_or_true}
+use Rattle.pawk_meaning.specs.Places.{variable_aim}
+use Rattle.pawk_places.specs.Moments.{holds_of, moment}
+use Rattle.pawk_eval.specs.Contexts.{functions_of, eres_of, enter_of, last_view}
+use Rattle.pawk_eval.specs.Contexts as contexts
+use Rattle.pawk_eval.proofs.Weights.{rank, weight, row_weight, place_weight, numeric_weight, function_weight, test_weight, textual_weight, pattern_weight, separator_weight, format_weight, argument_weight, arguments_weight, simple_weight, option_weight, option_simple_weight, head_weight, leave_weight, statement_weight, body_weight}
+use Rattle.pawk_eval.proofs.+evaluate.Given as goal
+
+abbrev pub decreases-expressions::eval : goal.decreases-expressions::eval
+decreases-expressions::eval g l = rank (functions_of l.context) l.depth (weight (view l.e.now))
+
+abbrev pub decreases-expressions::assign : goal.decreases-expressions::assign
+decreases-expressions::assign g l = rank (functions_of l.context) l.depth (place_weight (place_view l.to.now) + weight (view l.e.now) + 1)
+
+abbrev pub decreases-expressions::number : goal.decreases-expressions::number
+decreases-expressions::number g l = rank (functions_of l.context) l.depth (weight (view l.e.now) + 1)
+
+abbrev pub decreases-expressions::truth : goal.decreases-expressions::truth
+decreases-expressions::truth g l = rank (functions_of l.context) l.depth (weight (view l.e.now) + 1)
+
+abbrev pub decreases-expressions::text_into : goal.decreases-expressions::text_into
+decreases-expressions::text_into g l = rank (functions_of l.context) l.depth (weight (view l.e.now) + 1)
+
+abbrev pub decreases-expressions::text : goal.decreases-expressions::text
+decreases-expressions::text g l = rank (functions_of l.context) l.depth (weight (view l.e.now) + 2)
+
+abbrev pub decreases-expressions::value : goal.decreases-expressions::value
+decreases-expressions::value g l = rank (functions_of l.context) l.depth (weight (view l.e.now) + 1)
+
+abbrev pub decreases-numbers::numeric : goal.decreases-numbers::numeric
+decreases-numbers::numeric g l = rank (functions_of l.context) l.depth (numeric_weight (numeric_view l.n.now))
+
+abbrev pub decreases-conditions::test : goal.decreases-conditions::test
+decreases-conditions::test g l = rank (functions_of l.context) l.depth (test_weight (test_view l.t.now))
+
+abbrev pub decreases-conditions::compare : goal.decreases-conditions::compare
+decreases-conditions::compare g l = rank (functions_of l.context) l.depth (weight (view l.a.now) + weight (view l.b.now) + 1)
+
+abbrev pub decreases-strings::textual : goal.decreases-strings::textual
+decreases-strings::textual g l = rank (functions_of l.context) l.depth (textual_weight (textual_view l.t.now))
+
+abbrev pub decreases-strings::join : goal.decreases-strings::join
+decreases-strings::join g l = rank (functions_of l.context) l.depth (row_weight (exprs (views l.es.now)))
+
+abbrev pub decreases-strings::suffixes : goal.decreases-strings::suffixes
+decreases-strings::suffixes g l = rank (functions_of l.context) l.depth (row_weight (exprs (views l.es.now)))
+
+abbrev pub decreases-places::place : goal.decreases-places::place
+decreases-places::place g l = rank (functions_of l.context) l.depth (place_weight (place_view l.p.now))
+
+abbrev pub decreases-places::key : goal.decreases-places::key
+decreases-places::key g l = rank (functions_of l.context) l.depth (row_weight (exprs (views l.keys.now)) + 1)
+
+abbrev pub decreases-operands::texts : goal.decreases-operands::texts
+decreases-operands::texts g l = rank (functions_of l.context) l.depth (row_weight (exprs (views l.es.now)))
+
+abbrev pub decreases-functions::pass : goal.decreases-functions::pass
+decreases-functions::pass g l = rank (functions_of l.context) l.depth (arguments_weight (arguments (argument_views l.arguments.now)))
+
+abbrev pub decreases-functions::parameter : goal.decreases-functions::parameter
+decreases-functions::parameter g l = rank (functions_of l.context) l.depth (argument_weight (argument_view l.argument.now))
+
+abbrev pub decreases-numbers::function : goal.decreases-numbers::function
+decreases-numbers::function g l = rank (functions_of l.context) l.depth (function_weight (function_view l.f.now))
+
+abbrev pub decreases-numbers::split : goal.decreases-numbers::split
+decreases-numbers::split g l = rank (functions_of l.context) l.depth (weight (view l.e.now) + separator_weight (fields_view l.by.now) + 3)
+
+abbrev pub decreases-numbers::replace : goal.decreases-numbers::replace
+decreases-numbers::replace g l = rank (functions_of l.context) l.depth (pattern_weight (pattern_view l.parts.pattern.now) + weight (view l.parts.text.now) + place_weight (place_view l.parts.place.now) + 3)
+
+abbrev pub decreases-numbers::find : goal.decreases-numbers::find
+decreases-numbers::find g l = rank (functions_of l.context) l.depth (weight (view l.e.now) + pattern_weight (pattern_view l.pattern.now) + 3)
+
+abbrev pub decreases-conditions::matches : goal.decreases-conditions::matches
+decreases-conditions::matches g l = rank (functions_of l.context) l.depth (weight (view l.e.now) + pattern_weight (pattern_view l.pattern.now) + 3)
+
+abbrev pub decreases-strings::formatted : goal.decreases-strings::formatted
+decreases-strings::formatted g l = rank (functions_of l.context) l.depth (format_weight (format_view l.format.now) + row_weight (exprs (views l.es.now)) + 1)
+
+abbrev pub decreases-operands::values : goal.decreases-operands::values
+decreases-operands::values g l = rank (functions_of l.context) l.depth (row_weight (exprs (views l.es.now)))
+
+abbrev pub decreases-operands::operand : goal.decreases-operands::operand
+decreases-operands::operand g l = rank (functions_of l.context) l.depth (pattern_weight (pattern_view l.pattern.now))
+
+abbrev pub decreases-operands::separator : goal.decreases-operands::separator
+decreases-operands::separator g l = rank (functions_of l.context) l.depth (separator_weight (fields_view l.by.now))
+
+abbrev pub decreases-operands::format_operand : goal.decreases-operands::format_operand
+decreases-operands::format_operand g l = rank (functions_of l.context) l.depth (format_weight (format_view l.format.now))
+
+abbrev pub decreases-functions::call : goal.decreases-functions::call
+decreases-functions::call g l = rank (functions_of l.context) l.depth (0)
+
+abbrev pub decreases-statements::perform : goal.decreases-statements::perform
+decreases-statements::perform g l = rank (functions_of l.context) l.depth (simple_weight (simple_view l.s.now))
+
+abbrev pub decreases-statements::set : goal.decreases-statements::set
+decreases-statements::set g l = rank (functions_of l.context) l.depth (place_weight (place_view l.to.now) + weight (view l.e.now) + 1)
+
+abbrev pub decreases-statements::print : goal.decreases-statements::print
+decreases-statements::print g l = rank (functions_of l.context) l.depth (row_weight (exprs (views l.es.now)) + 1)
+
+abbrev pub decreases-statements::printf : goal.decreases-statements::printf
+decreases-statements::printf g l = rank (functions_of l.context) l.depth (format_weight (format_view l.format.now) + row_weight (exprs (views l.es.now)) + 2)
+
+abbrev pub decreases-statements::go_out : goal.decreases-statements::go_out
+decreases-statements::go_out g l = rank (functions_of l.context) l.depth (leave_weight (leave_view l.leave.now))
+
+abbrev pub decreases-statements::statement : goal.decreases-statements::statement
+decreases-statements::statement g l = rank (functions_of l.context) l.depth (statement_weight (stmt_view l.s.now))
+
+abbrev pub decreases-statements::execute : goal.decreases-statements::execute
+decreases-statements::execute g l = rank (functions_of l.context) l.depth (body_weight (seen l.body.now))
+
+abbrev pub decreases-statements::choose : goal.decreases-statements::choose
+decreases-statements::choose g l = rank (functions_of l.context) l.depth (weight (view l.test.now) + body_weight (seen l.a.now) + body_weight (seen l.b.now) + 2)
+
+abbrev pub decreases-loops::turns : goal.decreases-loops::turns
+decreases-loops::turns g l = rank (functions_of l.context) l.depth (option_weight (contexts.test_view l.test) + option_simple_weight (last_view l.last) + body_weight (seen l.body.now) + 1)
+
+abbrev pub decreases-loops::truth_or_true : goal.decreases-loops::truth_or_true
+decreases-loops::truth_or_true g l = rank (functions_of l.context) l.depth (option_weight (contexts.test_view l.test))
+
+abbrev pub decreases-loops::perform_or_none : goal.decreases-loops::perform_or_none
+decreases-loops::perform_or_none g l = rank (functions_of l.context) l.depth (option_simple_weight (last_view l.s))
+
+abbrev pub decreases-loops::turns_after : goal.decreases-loops::turns_after
+decreases-loops::turns_after g l = rank (functions_of l.context) l.depth (weight (view l.test.now) + body_weight (seen l.body.now) + 5)
+
+abbrev pub decreases-loops::count : goal.decreases-loops::count
+decreases-loops::count g l = rank (functions_of l.context) l.depth (head_weight (head_view l.head.now) + body_weight (seen l.body.now) + 2)
+
+abbrev pub decreases-loops::walk : goal.decreases-loops::walk
+decreases-loops::walk g l = rank (functions_of l.context) l.depth (body_weight (seen l.body.now) + 2)
+
+abbrev pub decreases-loops::visit : goal.decreases-loops::visit
+decreases-loops::visit g l = rank (functions_of l.context) l.depth (body_weight (seen l.body.now) + 1)
+
+abbrev pub decreases-statements::guard : goal.decreases-statements::guard
+decreases-statements::guard g l = rank (functions_of l.context) l.depth (weight (view l.test.now) + body_weight (seen l.body.now) + 2)
+
+-- the text so far and the operands that are left give the whole
+abbrev pub invariant-strings::suffixes-loop-e : goal.invariant-strings::suffixes-loop-e
+invariant-strings::suffixes-loop-e g l =
+    let eres = eres_of l.context in
+    let enter = enter_of g.W.World.calls l.context l.depth in
+    (suffixed g.W.World.calls eres enter (exprs (views (drop l.e-index l.es))) (drop l.start l.out.items) (moment (g.W.World.state l.world) l.run) ≡ suffixed g.W.World.calls eres enter (exprs (views l.es)) (drop l.start l.fn.out.items) (moment (g.W.World.state l.fn.world) l.fn.run)) × (l.run.left ≤ l.fn.run.left) × (take l.start l.out.items ≡ take l.start l.fn.out.items) × (l.start ≤ length l.out.items)
+
+-- the texts so far and the expressions that are left give the texts of all
+abbrev pub invariant-operands::texts-loop-e : goal.invariant-operands::texts-loop-e
+invariant-operands::texts-loop-e g l =
+    let eres = eres_of l.context in
+    let enter = enter_of g.W.World.calls l.context l.depth in
+    (texts_of g.W.World.calls eres enter (exprs (views (drop l.e-index l.es))) l.parts (moment (g.W.World.state l.world) l.run) ≡ texts_of g.W.World.calls eres enter (exprs (views l.es)) l.fn.parts (moment (g.W.World.state l.fn.world) l.fn.run)) × (l.run.left ≤ l.fn.run.left)
+
+abbrev pub invariant-functions::pass-loop-argument : goal.invariant-functions::pass-loop-argument
+invariant-functions::pass-loop-argument g l =
+    let eres = eres_of l.context in
+    let enter = enter_of g.W.World.calls l.context l.depth in
+    (arguments_of g.W.World.calls eres enter (arguments (argument_views (drop l.argument-index l.arguments))) (holds_of l.values.items) (moment (g.W.World.state l.world) l.run) ≡ arguments_of g.W.World.calls eres enter (arguments (argument_views l.arguments)) [] (moment (g.W.World.state l.fn.world) l.fn.run)) × (l.run.left ≤ l.fn.run.left)
+
+-- the values so far and the expressions that are left give the values of all
+abbrev pub invariant-operands::values-loop-e : goal.invariant-operands::values-loop-e
+invariant-operands::values-loop-e g l =
+    let eres = eres_of l.context in
+    let enter = enter_of g.W.World.calls l.context l.depth in
+    (values_of g.W.World.calls eres enter (exprs (views (drop l.e-index l.es))) l.parts (moment (g.W.World.state l.world) l.run) ≡ values_of g.W.World.calls eres enter (exprs (views l.es)) l.fn.parts (moment (g.W.World.state l.fn.world) l.fn.run)) × (l.run.left ≤ l.fn.run.left)
+
+-- the statements that are left do what all of them do
+abbrev pub invariant-statements::execute-loop-s : goal.invariant-statements::execute-loop-s
+invariant-statements::execute-loop-s g l =
+    let eres = eres_of l.context in
+    let enter = enter_of g.W.World.calls l.context l.depth in
+    (execs g.W.World.calls eres enter (seen (drop l.s-index l.body)) (moment (g.W.World.state l.world) l.run) ≡ execs g.W.World.calls eres enter (seen l.body) (moment (g.W.World.state l.fn.world) l.fn.run)) × (l.run.left ≤ l.fn.run.left)
+
+-- so many turns, which the steps that are left allow, do what the loop does
+abbrev pub invariant-loops::turns-turns : goal.invariant-loops::turns-turns
+invariant-loops::turns-turns g l =
+    let eres = eres_of l.context in
+    let enter = enter_of g.W.World.calls l.context l.depth in
+    let check = test_or_true g.W.World.calls eres enter (contexts.test_view l.test) in
+    let body = execs g.W.World.calls eres enter (seen l.body) in
+    let last = act_or_none g.W.World.calls eres enter (last_view l.last) in
+    ((k : ℕ) × (l.run.left ≤ k) × (turns k check body last (moment (g.W.World.state l.world) l.run) ≡ while_loop check body last (moment (g.W.World.state l.fn.world) l.fn.run))) × (l.run.left ≤ l.fn.run.left)
+
+abbrev pub decreases-loops::turns-turns : goal.decreases-loops::turns-turns
+decreases-loops::turns-turns g l = l.run.left
+
+-- the keys that are left do what all of them do
+abbrev pub invariant-loops::visit-loop-i : goal.invariant-loops::visit-loop-i
+invariant-loops::visit-loop-i g l =
+    let eres = eres_of l.context in
+    let enter = enter_of g.W.World.calls l.context l.depth in
+    let body = execs g.W.World.calls eres enter (seen l.body) in
+    (visit_keys g.W.World.calls (drop l.i l.keys) (variable_aim l.variable) body (moment (g.W.World.state l.world) l.run) ≡ visit_keys g.W.World.calls l.keys (variable_aim l.variable) body (moment (g.W.World.state l.fn.world) l.fn.run)) × (l.run.left ≤ l.fn.run.left)

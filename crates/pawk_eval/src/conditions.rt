@@ -1,0 +1,129 @@
+//! What gives 1 or 0.
+//!
+//! POSIX.1-2017, awk, "Expressions in awk".
+
+ghost use Rattle.std.specs.Prelude.{◌≤◌};
+ghost use Rattle.pawk_code.specs.Expressions as codes;
+ghost use Rattle.pawk_code.specs.ExpressionViews.{pattern_view, test_view, view};
+ghost use Rattle.pawk_meaning.specs.Meaning.{truth_of};
+ghost use Rattle.pawk_places.specs.Moments.{moment};
+ghost use Rattle.pawk_places.specs.Yields.{Yields};
+ghost use Rattle.pawk_eval.specs.Contexts.{enter_of, eres_of};
+
+use crate::context::Context;
+use crate::expressions::{eval, text, truth};
+use crate::operands::operand;
+use crate::operations::find_first;
+use crate::places::key;
+use pawk_builtins::{Expression, related, same_truth};
+use pawk_code::expression::{Expr, Pattern, Test};
+use pawk_code::word::Relation;
+use pawk_places::{Run, compare_leaves, element_exists, table_of};
+use pawk_value::lend_held;
+use pawk_world::{Halt, World};
+
+/// What gives 1 or 0.
+#[cycle(evaluate)]
+pub(crate) fn test<W: World>(
+    context: Context<'_>,
+    depth: u64,
+    t: &Test,
+    world: &mut W,
+    run: &mut Run<'_>,
+) -> Result<bool, Halt>
+    ensures left { run.new.left ≤ run.old.left }
+    ensures outcome { Yields (λ holds. holds)
+        (truth_of W.calls (eres_of context.entry) (enter_of W.calls context.entry depth)
+        (test_view t.now)
+        (moment (W.state world.old) run.old)) result (moment (W.state world.new) run.new) }
+{
+    match t {
+        Test::Compare(relation, a, b) => compare(context, depth, *relation, a, b, world, run),
+        Test::And(a, b) => {
+            let truth_a = truth(context, depth, a, world, run)?;
+            let holds = truth_a?;
+            if !holds {
+                return Ok(false);
+            }
+            let truth_b = truth(context, depth, b, world, run)?;
+            Ok(truth_b?)
+        }
+        Test::Or(a, b) => {
+            let truth_a = truth(context, depth, a, world, run)?;
+            let holds = truth_a?;
+            if holds {
+                return Ok(true);
+            }
+            let truth_b = truth(context, depth, b, world, run)?;
+            Ok(truth_b?)
+        }
+        Test::Not(a) => {
+            let truth_a = truth(context, depth, a, world, run)?;
+            Ok(!truth_a?)
+        }
+        Test::Match(wanted, a, pattern) => matches(context, depth, *wanted, a, pattern, world, run),
+        Test::In(array, keys) => {
+            let key = key(context, depth, keys, world, run)?;
+            element_exists(table_of(&run.frame, *array), &key, world, run)
+        }
+    }
+}
+
+/// How two expressions compare. Nothing of two leaves is copied.
+#[cycle(evaluate)]
+pub(crate) fn compare<W: World>(
+    context: Context<'_>,
+    depth: u64,
+    relation: Relation,
+    a: &Expr,
+    b: &Expr,
+    world: &mut W,
+    run: &mut Run<'_>,
+) -> Result<bool, Halt>
+    ensures left { run.new.left ≤ run.old.left }
+    ensures outcome { Yields (λ holds. holds)
+        (truth_of W.calls (eres_of context.entry) (enter_of W.calls context.entry depth)
+        (codes.compare relation (view a.now) (view b.now))
+        (moment (W.state world.old) run.old)) result (moment (W.state world.new) run.new) }
+{
+    if let Expr::Leaf(x) = a {
+        if let Expr::Leaf(y) = b {
+            return compare_leaves(relation, x, y, world, run);
+        }
+    }
+    let mut left = Vec::new(run.alloc);
+    let x = eval(context, depth, a, &mut left, world, run)?;
+    let mut right = Vec::new(run.alloc);
+    let y = eval(context, depth, b, &mut right, world, run)?;
+    Ok(related(relation, lend_held(x, &left), lend_held(y, &right))?)
+}
+
+/// Whether a text matches, or, where no match is wanted, does not match.
+///
+/// POSIX.1-2017, awk, "Regular Expressions".
+#[cycle(evaluate)]
+pub(crate) fn matches<W: World>(
+    context: Context<'_>,
+    depth: u64,
+    wanted: bool,
+    e: &Expr,
+    pattern: &Pattern,
+    world: &mut W,
+    run: &mut Run<'_>,
+) -> Result<bool, Halt>
+    ensures left { run.new.left ≤ run.old.left }
+    ensures outcome { Yields (λ holds. holds)
+        (truth_of W.calls (eres_of context.entry) (enter_of W.calls context.entry depth)
+        (codes.matches wanted (view e.now) (pattern_view pattern.now))
+        (moment (W.state world.old) run.old)) result (moment (W.state world.new) run.new) }
+{
+    let text = text(context, depth, e, world, run)?;
+    let ere = operand(context, depth, pattern, world, run)?;
+    let expression = Expression {
+        eres: context.eres,
+        pattern,
+        text: &ere,
+    };
+    let found = find_first(expression, &text, world, run)?;
+    Ok(same_truth(wanted, found.is_some()))
+}

@@ -1,0 +1,224 @@
+//! Expressions, by what is asked of them.
+//!
+//! POSIX.1-2017, awk, "Expressions in awk".
+
+ghost use Rattle.std.specs.Prelude.{◌≡◌, ◌≤◌, ◌++◌, [], OnOk};
+ghost use Rattle.pawk_value.specs.Value.{shown};
+ghost use Rattle.pawk_value.specs.Held.{added, held_value};
+ghost use Rattle.pawk_code.specs.Expressions as codes;
+ghost use Rattle.pawk_code.specs.ExpressionViews.{place_view, view};
+ghost use Rattle.pawk_meaning.specs.Parts.{as_number, as_text, as_truth};
+ghost use Rattle.pawk_meaning.specs.Meaning.{eval};
+ghost use Rattle.pawk_places.specs.Moments.{moment};
+ghost use Rattle.pawk_places.specs.Yields.{Yields};
+ghost use Rattle.pawk_eval.specs.Contexts.{enter_of, eres_of};
+
+use crate::conditions::test;
+use crate::context::Context;
+use crate::functions::{call, pass};
+use crate::numbers::numeric;
+use crate::operations::value_with;
+use crate::places::place;
+use crate::strings::textual;
+use pawk_code::expression::{Expr, Numeric, Place, Test, Textual};
+use pawk_places::{Run, leaf_number, leaf_text, leaf_truth, leaf_value, read_place, write_place};
+use pawk_value::{Fault, Held, Value, lend_held, push_text_lent, to_num_lent, truth_lent};
+use pawk_world::{Halt, World};
+
+/// Lays down the value of an expression: its bytes are appended to `out`.
+#[cycle(evaluate)]
+pub(crate) fn eval<W: World>(
+    context: Context<'_>,
+    depth: u64,
+    e: &Expr,
+    out: &mut Vec<u8>,
+    world: &mut W,
+    run: &mut Run<'_>,
+) -> Result<Held, Halt>
+    ensures left { run.new.left ≤ run.old.left }
+    ensures appended { OnOk result
+        (out.new.items ≡ out.old.items ++ added out.old.items out.new.items) }
+    ensures outcome { Yields (λ h. held_value h (added out.old.items out.new.items))
+        (eval W.calls (eres_of context.entry) (enter_of W.calls context.entry depth) (view e.now)
+        (moment (W.state world.old) run.old)) result (moment (W.state world.new) run.new) }
+{
+    match e {
+        Expr::Leaf(leaf) => leaf_value(leaf, out, world, run),
+        Expr::Numeric(n) => Ok(Held::Num(numeric(context, depth, n, world, run)?)),
+        Expr::Test(t) => Ok(Held::Num(if test(context, depth, t, world, run)? {
+            1
+        } else {
+            0
+        })),
+        Expr::Textual(t) => {
+            textual(context, depth, t, out, world, run)?;
+            Ok(Held::Text)
+        }
+        Expr::Read(from) => {
+            let target = place(context, depth, from, world, run)?;
+            read_place(&target, out, world, run)
+        }
+        Expr::Choice(c, a, b) => {
+            let truth = truth(context, depth, c, world, run)?;
+            let holds = truth?;
+            if holds {
+                eval(context, depth, a, out, world, run)
+            } else {
+                eval(context, depth, b, out, world, run)
+            }
+        }
+        Expr::Assign(to, a) => assign(context, depth, to, a, out, world, run),
+        Expr::Call(f, arguments) => {
+            let values = pass(context, depth, arguments, world, run)?;
+            call(context, depth, *f, values, out, world, run)
+        }
+    }
+}
+
+/// Assigns the value of an expression to a place, and lays it down.
+#[cycle(evaluate)]
+pub(crate) fn assign<W: World>(
+    context: Context<'_>,
+    depth: u64,
+    to: &Place,
+    e: &Expr,
+    out: &mut Vec<u8>,
+    world: &mut W,
+    run: &mut Run<'_>,
+) -> Result<Held, Halt>
+    ensures left { run.new.left ≤ run.old.left }
+    ensures appended { OnOk result
+        (out.new.items ≡ out.old.items ++ added out.old.items out.new.items) }
+    ensures outcome { Yields (λ h. held_value h (added out.old.items out.new.items))
+        (eval W.calls (eres_of context.entry) (enter_of W.calls context.entry depth)
+        (codes.assign (place_view to.now) (view e.now))
+        (moment (W.state world.old) run.old)) result (moment (W.state world.new) run.new) }
+{
+    let target = place(context, depth, to, world, run)?;
+    let start = out.len();
+    let held = eval(context, depth, e, out, world, run)?;
+    write_place(&target, lend_held(held, &out[start..]), world, run)?;
+    Ok(held)
+}
+
+/// The number of an expression, or the fault of its conversion.
+#[cycle(evaluate)]
+pub(crate) fn number<W: World>(
+    context: Context<'_>,
+    depth: u64,
+    e: &Expr,
+    world: &mut W,
+    run: &mut Run<'_>,
+) -> Result<Result<i64, Fault>, Halt>
+    ensures left { run.new.left ≤ run.old.left }
+    ensures outcome { Yields (λ number. number)
+        (as_number (eval W.calls (eres_of context.entry) (enter_of W.calls context.entry depth)
+        (view e.now))
+        (moment (W.state world.old) run.old)) result (moment (W.state world.new) run.new) }
+{
+    match e {
+        Expr::Leaf(leaf) => leaf_number(leaf, world, run),
+        Expr::Numeric(n) => Ok(Ok(numeric(context, depth, n, world, run)?)),
+        e => {
+            let mut bytes = Vec::new(run.alloc);
+            let held = eval(context, depth, e, &mut bytes, world, run)?;
+            Ok(to_num_lent(lend_held(held, &bytes)))
+        }
+    }
+}
+
+/// The truth of an expression, or the fault of its conversion.
+///
+/// POSIX.1-2017, awk, "Expressions in awk".
+#[cycle(evaluate)]
+pub fn truth<W: World>(
+    context: Context<'_>,
+    depth: u64,
+    e: &Expr,
+    world: &mut W,
+    run: &mut Run<'_>,
+) -> Result<Result<bool, Fault>, Halt>
+    ensures left { run.new.left ≤ run.old.left }
+    ensures outcome { Yields (λ truth. truth)
+        (as_truth (eval W.calls (eres_of context.entry) (enter_of W.calls context.entry depth)
+        (view e.now))
+        (moment (W.state world.old) run.old)) result (moment (W.state world.new) run.new) }
+{
+    match e {
+        Expr::Leaf(leaf) => leaf_truth(leaf, world, run),
+        Expr::Test(t) => Ok(Ok(test(context, depth, t, world, run)?)),
+        e => {
+            let mut bytes = Vec::new(run.alloc);
+            let held = eval(context, depth, e, &mut bytes, world, run)?;
+            Ok(truth_lent(lend_held(held, &bytes)))
+        }
+    }
+}
+
+/// Appends the text of an expression.
+#[cycle(evaluate)]
+pub(crate) fn text_into<W: World>(
+    context: Context<'_>,
+    depth: u64,
+    e: &Expr,
+    out: &mut Vec<u8>,
+    world: &mut W,
+    run: &mut Run<'_>,
+) -> Result<(), Halt>
+    ensures left { run.new.left ≤ run.old.left }
+    ensures outcome { Yields (λ _. out.new.items)
+        (as_text out.old.items
+        (eval W.calls (eres_of context.entry) (enter_of W.calls context.entry depth)
+        (view e.now))
+        (moment (W.state world.old) run.old)) result (moment (W.state world.new) run.new) }
+{
+    match e {
+        Expr::Leaf(leaf) => leaf_text(leaf, out, world, run),
+        Expr::Textual(t) => textual(context, depth, t, out, world, run),
+        e => {
+            let mut bytes = Vec::new(run.alloc);
+            let held = eval(context, depth, e, &mut bytes, world, run)?;
+            push_text_lent(lend_held(held, &bytes), out)?;
+            Ok(())
+        }
+    }
+}
+
+/// The text of an expression.
+#[cycle(evaluate)]
+pub(crate) fn text<W: World>(
+    context: Context<'_>,
+    depth: u64,
+    e: &Expr,
+    world: &mut W,
+    run: &mut Run<'_>,
+) -> Result<Vec<u8>, Halt>
+    ensures left { run.new.left ≤ run.old.left }
+    ensures outcome { Yields (λ text. text.items)
+        (as_text [] (eval W.calls (eres_of context.entry) (enter_of W.calls context.entry depth)
+        (view e.now))
+        (moment (W.state world.old) run.old)) result (moment (W.state world.new) run.new) }
+{
+    let mut text = Vec::new(run.alloc);
+    text_into(context, depth, e, &mut text, world, run)?;
+    Ok(text)
+}
+
+/// The value of an expression.
+#[cycle(evaluate)]
+pub(crate) fn value<W: World>(
+    context: Context<'_>,
+    depth: u64,
+    e: &Expr,
+    world: &mut W,
+    run: &mut Run<'_>,
+) -> Result<Value, Halt>
+    ensures left { run.new.left ≤ run.old.left }
+    ensures outcome { Yields (shown)
+        (eval W.calls (eres_of context.entry) (enter_of W.calls context.entry depth) (view e.now)
+        (moment (W.state world.old) run.old)) result (moment (W.state world.new) run.new) }
+{
+    let mut bytes = Vec::new(run.alloc);
+    let held = eval(context, depth, e, &mut bytes, world, run)?;
+    Ok(value_with(held, bytes))
+}

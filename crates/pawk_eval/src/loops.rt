@@ -1,0 +1,221 @@
+//! Loops.
+//!
+//! POSIX.1-2017, awk, "Actions".
+
+ghost use Rattle.std.specs.Prelude.{◌≤◌};
+ghost use Rattle.pawk_code.specs.ExpressionViews.{view};
+ghost use Rattle.pawk_code.specs.StatementViews.{head_view, seen};
+ghost use Rattle.pawk_code.specs.Statements as actions;
+ghost use Rattle.pawk_meaning.specs.Meaning.{
+  act_or_none,
+  exec,
+  execs,
+  for_keys,
+  test_or_true,
+  visit_keys,
+  while_loop,
+};
+ghost use Rattle.pawk_meaning.specs.Places.{variable_aim};
+ghost use Rattle.pawk_places.specs.Moments.{moment};
+ghost use Rattle.pawk_places.specs.Yields.{Yields};
+ghost use Rattle.pawk_eval.specs.Contexts.{enter_of, eres_of, last_view};
+ghost use Rattle.pawk_eval.specs.Contexts as contexts;
+ghost use Rattle.pawk_eval.specs.Flows.{way_of};
+
+use crate::context::Context;
+use crate::expressions::truth;
+use crate::flow::Flow;
+use crate::operations::set_key;
+use crate::statements::{execute, perform};
+use pawk_array::Texts;
+use pawk_code::expression::Expr;
+use pawk_code::name::{Array, Variable};
+use pawk_code::statement::{Head, Simple, Statement};
+use pawk_places::{Run, array_keys, table_of, tick};
+use pawk_value::Fault;
+use pawk_world::{Halt, World};
+
+/// Runs a body while a test holds, a step at each test, and `last` behind each turn. A test that is
+/// missing holds.
+///
+/// POSIX.1-2017, awk, "Actions" (`while`, `for`).
+#[cycle(evaluate)]
+pub(crate) fn turns<W: World>(
+    context: Context<'_>,
+    depth: u64,
+    test: Option<&Expr>,
+    last: Option<&Simple>,
+    body: &[Statement],
+    world: &mut W,
+    run: &mut Run<'_>,
+) -> Result<Flow, Halt>
+    ensures left { run.new.left ≤ run.old.left }
+    ensures outcome { Yields (way_of)
+        (while_loop
+        (test_or_true W.calls (eres_of context.entry) (enter_of W.calls context.entry depth)
+        (contexts.test_view test.entry))
+        (execs W.calls (eres_of context.entry) (enter_of W.calls context.entry depth)
+        (seen body.now))
+        (act_or_none W.calls (eres_of context.entry) (enter_of W.calls context.entry depth)
+        (last_view last.entry))
+        (moment (W.state world.old) run.old)) result (moment (W.state world.new) run.new) }
+{
+    'turns: loop {
+        tick(world, run)?;
+        let truth = truth_or_true(context, depth, test, world, run)?;
+        let holds = truth?;
+        if !holds {
+            return Ok(Flow::On);
+        }
+        let flow = execute(context, depth, body, world, run)?;
+        if let Some(end) = flow.loop_end() {
+            return Ok(end);
+        }
+        perform_or_none(context, depth, last, world, run)?;
+    }
+}
+
+/// The truth of a test that may be missing; then it holds.
+#[cycle(evaluate)]
+pub(crate) fn truth_or_true<W: World>(
+    context: Context<'_>,
+    depth: u64,
+    test: Option<&Expr>,
+    world: &mut W,
+    run: &mut Run<'_>,
+) -> Result<Result<bool, Fault>, Halt>
+    ensures left { run.new.left ≤ run.old.left }
+    ensures outcome { Yields (λ truth. truth)
+        (test_or_true W.calls (eres_of context.entry) (enter_of W.calls context.entry depth)
+        (contexts.test_view test.entry)
+        (moment (W.state world.old) run.old)) result (moment (W.state world.new) run.new) }
+{
+    match test {
+        None => Ok(Ok(true)),
+        Some(e) => truth(context, depth, e, world, run),
+    }
+}
+
+/// Runs a statement that may be missing.
+#[cycle(evaluate)]
+pub(crate) fn perform_or_none<W: World>(
+    context: Context<'_>,
+    depth: u64,
+    s: Option<&Simple>,
+    world: &mut W,
+    run: &mut Run<'_>,
+) -> Result<(), Halt>
+    ensures left { run.new.left ≤ run.old.left }
+    ensures outcome { Yields (λ _. tt)
+        (act_or_none W.calls (eres_of context.entry) (enter_of W.calls context.entry depth)
+        (last_view s.entry)
+        (moment (W.state world.old) run.old)) result (moment (W.state world.new) run.new) }
+{
+    match s {
+        None => Ok(()),
+        Some(s) => perform(context, depth, s, world, run),
+    }
+}
+
+/// Runs a body, and again while a test holds.
+///
+/// POSIX.1-2017, awk, "Actions" (`do`).
+#[cycle(evaluate)]
+pub(crate) fn turns_after<W: World>(
+    context: Context<'_>,
+    depth: u64,
+    body: &[Statement],
+    test: &Expr,
+    world: &mut W,
+    run: &mut Run<'_>,
+) -> Result<Flow, Halt>
+    ensures left { run.new.left ≤ run.old.left }
+    ensures outcome { Yields (way_of)
+        (exec W.calls (eres_of context.entry) (enter_of W.calls context.entry depth)
+        (actions.do_while (seen body.now) (view test.now))
+        (moment (W.state world.old) run.old)) result (moment (W.state world.new) run.new) }
+{
+    let flow = execute(context, depth, body, world, run)?;
+    match flow.loop_end() {
+        Some(end) => Ok(end),
+        None => turns(context, depth, Some(test), None, body, world, run),
+    }
+}
+
+/// Runs a loop with a head.
+///
+/// POSIX.1-2017, awk, "Actions" (`for`).
+#[cycle(evaluate)]
+pub(crate) fn count<W: World>(
+    context: Context<'_>,
+    depth: u64,
+    head: &Head,
+    body: &[Statement],
+    world: &mut W,
+    run: &mut Run<'_>,
+) -> Result<Flow, Halt>
+    ensures left { run.new.left ≤ run.old.left }
+    ensures outcome { Yields (way_of)
+        (exec W.calls (eres_of context.entry) (enter_of W.calls context.entry depth)
+        (actions.loop (head_view head.now) (seen body.now))
+        (moment (W.state world.old) run.old)) result (moment (W.state world.new) run.new) }
+{
+    perform_or_none(context, depth, head.first.as_ref(), world, run)?;
+    let test = head.test.as_ref();
+    let last = head.last.as_ref();
+    turns(context, depth, test, last, body, world, run)
+}
+
+/// Runs a body for each key that an array has when the loop begins.
+///
+/// POSIX.1-2017, awk, "Actions" (`for` with `in`).
+#[cycle(evaluate)]
+pub(crate) fn walk<W: World>(
+    context: Context<'_>,
+    depth: u64,
+    variable: Variable,
+    array: Array,
+    body: &[Statement],
+    world: &mut W,
+    run: &mut Run<'_>,
+) -> Result<Flow, Halt>
+    ensures left { run.new.left ≤ run.old.left }
+    ensures outcome { Yields (way_of)
+        (for_keys W.calls variable array
+        (execs W.calls (eres_of context.entry) (enter_of W.calls context.entry depth)
+        (seen body.now))
+        (moment (W.state world.old) run.old)) result (moment (W.state world.new) run.new) }
+{
+    let table = table_of(&run.frame, array);
+    let keys = array_keys(table, world, run)?;
+    visit(context, depth, variable, &keys, body, world, run)
+}
+
+/// Runs a body for each of these keys.
+#[cycle(evaluate)]
+pub(crate) fn visit<W: World>(
+    context: Context<'_>,
+    depth: u64,
+    variable: Variable,
+    keys: &Texts,
+    body: &[Statement],
+    world: &mut W,
+    run: &mut Run<'_>,
+) -> Result<Flow, Halt>
+    ensures left { run.new.left ≤ run.old.left }
+    ensures outcome { Yields (way_of)
+        (visit_keys W.calls keys.now (variable_aim variable)
+        (execs W.calls (eres_of context.entry) (enter_of W.calls context.entry depth)
+        (seen body.now))
+        (moment (W.state world.old) run.old)) result (moment (W.state world.new) run.new) }
+{
+    for i in 0..keys.len() {
+        tick(world, run)?;
+        set_key(variable, keys.text(i), world, run)?;
+        let flow = execute(context, depth, body, world, run)?;
+        if let Some(end) = flow.loop_end() {
+            return Ok(end);
+        }
+    }
+    Ok(Flow::On)
+}

@@ -1,0 +1,199 @@
+//! What gives numbers.
+//!
+//! POSIX.1-2017, awk, "Expressions in awk" and "Functions".
+
+ghost use Rattle.std.specs.Prelude.{◌≤◌};
+ghost use Rattle.pawk_code.specs.Expressions as codes;
+ghost use Rattle.pawk_code.specs.ExpressionViews.{
+  fields_view,
+  function_view,
+  numeric_view,
+  pattern_view,
+  view,
+};
+ghost use Rattle.pawk_meaning.specs.Meaning.{function_of, number_of};
+ghost use Rattle.pawk_places.specs.Moments.{moment};
+ghost use Rattle.pawk_places.specs.Yields.{Yields};
+ghost use Rattle.pawk_eval.specs.Contexts.{enter_of, eres_of, replacement_view};
+
+use crate::context::Context;
+use crate::expressions::{number, text};
+use crate::operands::{operand, separator};
+use crate::operations::{Replacement, combine, find_first, place_in, sign_op, substitute};
+use crate::places::place;
+use pawk_builtins::{Expression, step_side, step_sign};
+use pawk_code::expression::{Expr, FieldsBy, Numeric, NumericFunction, Pattern};
+use pawk_code::name::Array;
+use pawk_places::{Run, Separator, change_place, set_match_place, split_into, table_of};
+use pawk_world::{Halt, World, sum};
+
+/// What gives a number.
+#[cycle(evaluate)]
+pub(crate) fn numeric<W: World>(
+    context: Context<'_>,
+    depth: u64,
+    n: &Numeric,
+    world: &mut W,
+    run: &mut Run<'_>,
+) -> Result<i64, Halt>
+    ensures left { run.new.left ≤ run.old.left }
+    ensures outcome { Yields (λ number. number)
+        (number_of W.calls (eres_of context.entry) (enter_of W.calls context.entry depth)
+        (numeric_view n.now)
+        (moment (W.state world.old) run.old)) result (moment (W.state world.new) run.new) }
+{
+    match n {
+        Numeric::Arithmetic(op, a, b) => {
+            let x = number(context, depth, a, world, run)?;
+            let y = number(context, depth, b, world, run)?;
+            Ok(combine(*op, x, y)?)
+        }
+        Numeric::Sign(sign, a) => {
+            let x = number(context, depth, a, world, run)?;
+            Ok(sum(*sign, Ok(0), x)?)
+        }
+        Numeric::Change(op, to, a) => {
+            let target = place(context, depth, to, world, run)?;
+            let y = number(context, depth, a, world, run)?;
+            let numbers = change_place(*op, &target, y, world, run)?;
+            Ok(numbers.1)
+        }
+        Numeric::Step(step, to) => {
+            let target = place(context, depth, to, world, run)?;
+            let op = sign_op(step_sign(*step));
+            let numbers = change_place(op, &target, Ok(1), world, run)?;
+            Ok(step_side(*step, numbers.0, numbers.1))
+        }
+        Numeric::Function(f) => function(context, depth, f, world, run),
+        Numeric::Split(e, array, by) => split(context, depth, e, *array, by, world, run),
+        Numeric::Replace(count, pattern, e, to) => {
+            let parts = Replacement {
+                count: *count,
+                pattern,
+                text: e,
+                place: to,
+            };
+            replace(context, depth, parts, world, run)
+        }
+        Numeric::Find(e, pattern) => find(context, depth, e, pattern, world, run),
+    }
+}
+
+/// What a built-in function of values that gives a number gives.
+#[cycle(evaluate)]
+pub(crate) fn function<W: World>(
+    context: Context<'_>,
+    depth: u64,
+    f: &NumericFunction,
+    world: &mut W,
+    run: &mut Run<'_>,
+) -> Result<i64, Halt>
+    ensures left { run.new.left ≤ run.old.left }
+    ensures outcome { Yields (λ number. number)
+        (function_of W.calls (eres_of context.entry) (enter_of W.calls context.entry depth)
+        (function_view f.now)
+        (moment (W.state world.old) run.old)) result (moment (W.state world.new) run.new) }
+{
+    match f {
+        NumericFunction::Length(e) => {
+            let text = text(context, depth, e, world, run)?;
+            Ok(text.len() as i64)
+        }
+        NumericFunction::Index(e, sought) => {
+            let text_e = text(context, depth, e, world, run)?;
+            let text_sought = text(context, depth, sought, world, run)?;
+            Ok(place_in(&text_e, &text_sought))
+        }
+        NumericFunction::Whole(e) => {
+            let whole = number(context, depth, e, world, run)?;
+            Ok(whole?)
+        }
+    }
+}
+
+/// Splits a text into an array, and gives how many pieces there are.
+///
+/// POSIX.1-2017, awk, "String Functions" (`split`).
+#[cycle(evaluate)]
+pub(crate) fn split<W: World>(
+    context: Context<'_>,
+    depth: u64,
+    e: &Expr,
+    array: Array,
+    by: &FieldsBy,
+    world: &mut W,
+    run: &mut Run<'_>,
+) -> Result<i64, Halt>
+    ensures left { run.new.left ≤ run.old.left }
+    ensures outcome { Yields (λ count. count)
+        (number_of W.calls (eres_of context.entry) (enter_of W.calls context.entry depth)
+        (codes.split (view e.now) array (fields_view by.now))
+        (moment (W.state world.old) run.old)) result (moment (W.state world.new) run.new) }
+{
+    let text = text(context, depth, e, world, run)?;
+    let separator = separator(context, depth, by, world, run)?;
+    let table = table_of(&run.frame, array);
+    let by = Separator {
+        eres: context.eres,
+        by,
+        text: &separator,
+    };
+    split_into(table, by, &text, world, run)
+}
+
+/// Replaces matches in the text of a place, and gives how many.
+///
+/// POSIX.1-2017, awk, "String Functions" (`sub`, `gsub`).
+#[cycle(evaluate)]
+pub(crate) fn replace<W: World>(
+    context: Context<'_>,
+    depth: u64,
+    parts: Replacement<'_>,
+    world: &mut W,
+    run: &mut Run<'_>,
+) -> Result<i64, Halt>
+    ensures left { run.new.left ≤ run.old.left }
+    ensures outcome { Yields (λ count. count)
+        (number_of W.calls (eres_of context.entry) (enter_of W.calls context.entry depth)
+        (replacement_view parts.entry)
+        (moment (W.state world.old) run.old)) result (moment (W.state world.new) run.new) }
+{
+    let ere = operand(context, depth, parts.pattern, world, run)?;
+    let replacement = text(context, depth, parts.text, world, run)?;
+    let target = place(context, depth, parts.place, world, run)?;
+    let expression = Expression {
+        eres: context.eres,
+        pattern: parts.pattern,
+        text: &ere,
+    };
+    substitute(parts.count, expression, &replacement, &target, world, run)
+}
+
+/// Finds the first match in a text, sets RSTART and RLENGTH, and gives RSTART.
+///
+/// POSIX.1-2017, awk, "String Functions" (`match`).
+#[cycle(evaluate)]
+pub(crate) fn find<W: World>(
+    context: Context<'_>,
+    depth: u64,
+    e: &Expr,
+    pattern: &Pattern,
+    world: &mut W,
+    run: &mut Run<'_>,
+) -> Result<i64, Halt>
+    ensures left { run.new.left ≤ run.old.left }
+    ensures outcome { Yields (λ begin. begin)
+        (number_of W.calls (eres_of context.entry) (enter_of W.calls context.entry depth)
+        (codes.find (view e.now) (pattern_view pattern.now))
+        (moment (W.state world.old) run.old)) result (moment (W.state world.new) run.new) }
+{
+    let text = text(context, depth, e, world, run)?;
+    let ere = operand(context, depth, pattern, world, run)?;
+    let expression = Expression {
+        eres: context.eres,
+        pattern,
+        text: &ere,
+    };
+    let found = find_first(expression, &text, world, run)?;
+    set_match_place(found, world, run)
+}

@@ -1,0 +1,139 @@
+//! Operands in rows, and those that may be fixed.
+
+ghost use Rattle.std.specs.Prelude.{◌≤◌};
+ghost use Rattle.pawk_code.specs.Expressions.{exprs};
+ghost use Rattle.pawk_code.specs.ExpressionViews.{fields_view, format_view, pattern_view, views};
+ghost use Rattle.pawk_builtins.specs.FormatViews.{format_text};
+ghost use Rattle.pawk_meaning.specs.Meaning.{
+  format_of,
+  operand_of,
+  separator_of,
+  texts_of,
+  values_of,
+};
+ghost use Rattle.pawk_places.specs.Moments.{moment};
+ghost use Rattle.pawk_places.specs.Yields.{Yields};
+ghost use Rattle.pawk_eval.specs.Contexts.{enter_of, eres_of};
+
+use crate::context::Context;
+use crate::expressions::{eval, text, text_into};
+use pawk_array::Texts;
+use pawk_builtins::Values;
+use pawk_code::expression::{Expr, FieldsBy, Format, Pattern};
+use pawk_places::Run;
+use pawk_value::Value;
+use pawk_world::{Halt, World};
+
+/// Appends the text of each expression, which is made in `scratch`.
+#[cycle(evaluate)]
+pub(crate) fn texts<W: World>(
+    context: Context<'_>,
+    depth: u64,
+    es: &[Expr],
+    parts: &mut Texts,
+    scratch: &mut Vec<u8>,
+    world: &mut W,
+    run: &mut Run<'_>,
+) -> Result<(), Halt>
+    ensures left { run.new.left ≤ run.old.left }
+    ensures outcome { Yields (λ _. parts.new)
+        (texts_of W.calls (eres_of context.entry) (enter_of W.calls context.entry depth)
+        (exprs (views es.now)) parts.old
+        (moment (W.state world.old) run.old)) result (moment (W.state world.new) run.new) }
+{
+    for e in es {
+        scratch.clear();
+        text_into(context, depth, e, scratch, world, run)?;
+        parts.push(scratch.as_slice())?;
+    }
+    Ok(())
+}
+
+/// Appends the value of each expression, whose bytes are made in `scratch`.
+#[cycle(evaluate)]
+pub(crate) fn values<W: World>(
+    context: Context<'_>,
+    depth: u64,
+    es: &[Expr],
+    parts: &mut Values,
+    scratch: &mut Vec<u8>,
+    world: &mut W,
+    run: &mut Run<'_>,
+) -> Result<(), Halt>
+    ensures left { run.new.left ≤ run.old.left }
+    ensures outcome { Yields (λ _. parts.new)
+        (values_of W.calls (eres_of context.entry) (enter_of W.calls context.entry depth)
+        (exprs (views es.now)) parts.old
+        (moment (W.state world.old) run.old)) result (moment (W.state world.new) run.new) }
+{
+    for e in es {
+        scratch.clear();
+        let held = eval(context, depth, e, scratch, world, run)?;
+        parts.push(held, scratch.as_slice())?;
+    }
+    Ok(())
+}
+
+/// The text of a pattern, where it is a value.
+#[cycle(evaluate)]
+pub(crate) fn operand<W: World>(
+    context: Context<'_>,
+    depth: u64,
+    pattern: &Pattern,
+    world: &mut W,
+    run: &mut Run<'_>,
+) -> Result<Vec<u8>, Halt>
+    ensures left { run.new.left ≤ run.old.left }
+    ensures outcome { Yields (λ text. text.items)
+        (operand_of W.calls (eres_of context.entry) (enter_of W.calls context.entry depth)
+        (pattern_view pattern.now)
+        (moment (W.state world.old) run.old)) result (moment (W.state world.new) run.new) }
+{
+    match pattern {
+        Pattern::Fixed(_) => Ok(Vec::new(run.alloc)),
+        Pattern::Value(e) => text(context, depth, e, world, run),
+    }
+}
+
+/// The text of a separator, where it is a value.
+#[cycle(evaluate)]
+pub(crate) fn separator<W: World>(
+    context: Context<'_>,
+    depth: u64,
+    by: &FieldsBy,
+    world: &mut W,
+    run: &mut Run<'_>,
+) -> Result<Vec<u8>, Halt>
+    ensures left { run.new.left ≤ run.old.left }
+    ensures outcome { Yields (λ text. text.items)
+        (separator_of W.calls (eres_of context.entry) (enter_of W.calls context.entry depth)
+        (fields_view by.now)
+        (moment (W.state world.old) run.old)) result (moment (W.state world.new) run.new) }
+{
+    match by {
+        FieldsBy::Fs => Ok(Vec::new(run.alloc)),
+        FieldsBy::Fixed(_) => Ok(Vec::new(run.alloc)),
+        FieldsBy::Value(e) => text(context, depth, e, world, run),
+    }
+}
+
+/// The text of a format, where it is a value.
+#[cycle(evaluate)]
+pub(crate) fn format_operand<W: World>(
+    context: Context<'_>,
+    depth: u64,
+    format: &Format,
+    world: &mut W,
+    run: &mut Run<'_>,
+) -> Result<Vec<u8>, Halt>
+    ensures left { run.new.left ≤ run.old.left }
+    ensures outcome { Yields (λ text. format_text (format_view format.now) text.items)
+        (format_of W.calls (eres_of context.entry) (enter_of W.calls context.entry depth)
+        (format_view format.now)
+        (moment (W.state world.old) run.old)) result (moment (W.state world.new) run.new) }
+{
+    match format {
+        Format::Fixed(_) => Ok(Vec::new(run.alloc)),
+        Format::Value(e) => text(context, depth, e, world, run),
+    }
+}

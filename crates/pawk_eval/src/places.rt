@@ -1,0 +1,75 @@
+//! Where places are.
+//!
+//! POSIX.1-2017, awk, "Variables and Special Variables".
+
+ghost use Rattle.std.specs.Prelude.{◌≤◌};
+ghost use Rattle.pawk_code.specs.Expressions.{exprs};
+ghost use Rattle.pawk_code.specs.ExpressionViews.{place_view, views};
+ghost use Rattle.pawk_meaning.specs.Meaning.{aim_of, subscripts};
+ghost use Rattle.pawk_places.specs.Moments.{aim_view, moment};
+ghost use Rattle.pawk_places.specs.Yields.{Yields};
+ghost use Rattle.pawk_eval.specs.Contexts.{enter_of, eres_of};
+
+use crate::context::Context;
+use crate::expressions::{number, text};
+use crate::operands::texts;
+use pawk_array::Texts;
+use pawk_builtins::field_index;
+use pawk_code::expression::{Expr, Place};
+use pawk_places::{Parameter, Run, Target, element_target, key_of_texts, table_of};
+use pawk_world::{Halt, World};
+
+/// Where a place is.
+#[cycle(evaluate)]
+pub(crate) fn place<W: World>(
+    context: Context<'_>,
+    depth: u64,
+    p: &Place,
+    world: &mut W,
+    run: &mut Run<'_>,
+) -> Result<Target, Halt>
+    ensures left { run.new.left ≤ run.old.left }
+    ensures outcome { Yields (aim_view)
+        (aim_of W.calls (eres_of context.entry) (enter_of W.calls context.entry depth)
+        (place_view p.now)
+        (moment (W.state world.old) run.old)) result (moment (W.state world.new) run.new) }
+{
+    match p {
+        Place::Global(slot) => Ok(Target::Scalar(*slot)),
+        Place::Local(number) => Ok(Target::Parameter(*number)),
+        Place::Element(array, keys) => {
+            let key = key(context, depth, keys, world, run)?;
+            Ok(element_target(table_of(&run.frame, *array), key))
+        }
+        Place::Field(e) => {
+            let index = number(context, depth, e, world, run)?;
+            Ok(Target::Field(field_index(index)?))
+        }
+    }
+}
+
+/// The key that subscripts spell.
+///
+/// POSIX.1-2017, awk, "Variables and Special Variables" (`SUBSEP`).
+#[cycle(evaluate)]
+pub(crate) fn key<W: World>(
+    context: Context<'_>,
+    depth: u64,
+    keys: &[Expr],
+    world: &mut W,
+    run: &mut Run<'_>,
+) -> Result<Vec<u8>, Halt>
+    ensures left { run.new.left ≤ run.old.left }
+    ensures outcome { Yields (λ key. key.items)
+        (subscripts W.calls (eres_of context.entry) (enter_of W.calls context.entry depth)
+        (exprs (views keys.now))
+        (moment (W.state world.old) run.old)) result (moment (W.state world.new) run.new) }
+{
+    if let [only] = keys {
+        return text(context, depth, only, world, run);
+    }
+    let mut parts = Texts::new(run.alloc);
+    let mut scratch = Vec::new(run.alloc);
+    texts(context, depth, keys, &mut parts, &mut scratch, world, run)?;
+    key_of_texts(&parts, world, run)
+}

@@ -1,0 +1,296 @@
+//! Statements.
+//!
+//! POSIX.1-2017, awk, "Actions".
+
+ghost use Rattle.std.specs.Prelude.{◌≤◌, []};
+ghost use Rattle.pawk_code.specs.Expressions.{exprs};
+ghost use Rattle.pawk_code.specs.Expressions as codes;
+ghost use Rattle.pawk_code.specs.ExpressionViews.{format_view, place_view, view, views};
+ghost use Rattle.pawk_code.specs.StatementViews.{leave_view, seen, simple_view, stmt_view};
+ghost use Rattle.pawk_code.specs.Statements as actions;
+ghost use Rattle.pawk_meaning.specs.Parts.{bind};
+ghost use Rattle.pawk_meaning.specs.Meaning.{
+  act,
+  exec,
+  execs,
+  leaves,
+  print_text,
+  text_of_textual,
+  texts_of,
+};
+ghost use Rattle.pawk_meaning.specs.Meaning as spec;
+ghost use Rattle.pawk_places.specs.Moments.{moment};
+ghost use Rattle.pawk_places.specs.Yields.{Yields};
+ghost use Rattle.pawk_eval.specs.Contexts.{enter_of, eres_of};
+ghost use Rattle.pawk_eval.specs.Flows.{way_of};
+
+use crate::context::Context;
+use crate::expressions::{eval, number, truth, value};
+use crate::flow::Flow;
+use crate::loops::{count, turns, turns_after, walk};
+use crate::operands::texts;
+use crate::places::{key, place};
+use crate::strings::formatted;
+use pawk_array::Texts;
+use pawk_builtins::{exit_status, step_sign};
+use pawk_code::expression::{Expr, Format, Place};
+use pawk_code::statement::{Leave, Simple, Statement};
+use pawk_places::{
+    Run, add_to_place, clear_array, print_bytes, print_line, remove_element, table_of, tick,
+    write_place,
+};
+use pawk_value::{Value, lend_held};
+use pawk_world::{Halt, World};
+
+/// Runs statements in turn, a step at the begin of each.
+///
+/// POSIX.1-2017, awk, "Actions".
+#[cycle(evaluate)]
+pub fn execute<W: World>(
+    context: Context<'_>,
+    depth: u64,
+    body: &[Statement],
+    world: &mut W,
+    run: &mut Run<'_>,
+) -> Result<Flow, Halt>
+    ensures left { run.new.left ≤ run.old.left }
+    ensures outcome { Yields (way_of)
+        (execs W.calls (eres_of context.entry) (enter_of W.calls context.entry depth)
+        (seen body.now)
+        (moment (W.state world.old) run.old)) result (moment (W.state world.new) run.new) }
+{
+    for s in body {
+        tick(world, run)?;
+        match statement(context, depth, s, world, run)? {
+            Flow::On => {}
+            flow => return Ok(flow),
+        }
+    }
+    Ok(Flow::On)
+}
+
+/// Runs a statement, after its step.
+#[cycle(evaluate)]
+pub(crate) fn statement<W: World>(
+    context: Context<'_>,
+    depth: u64,
+    s: &Statement,
+    world: &mut W,
+    run: &mut Run<'_>,
+) -> Result<Flow, Halt>
+    ensures left { run.new.left ≤ run.old.left }
+    ensures outcome { Yields (way_of)
+        (exec W.calls (eres_of context.entry) (enter_of W.calls context.entry depth)
+        (stmt_view s.now)
+        (moment (W.state world.old) run.old)) result (moment (W.state world.new) run.new) }
+{
+    match s {
+        Statement::Simple(simple) => {
+            perform(context, depth, simple, world, run)?;
+            Ok(Flow::On)
+        }
+        Statement::Leave(leave) => go_out(context, depth, leave, world, run),
+        Statement::If(test, body) => guard(context, depth, test, body, world, run),
+        Statement::Choose(test, a, b) => choose(context, depth, test, a, b, world, run),
+        Statement::While(test, body) => turns(context, depth, Some(test), None, body, world, run),
+        Statement::Do(body, test) => turns_after(context, depth, body, test, world, run),
+        Statement::For(head, body) => count(context, depth, head, body, world, run),
+        Statement::ForIn(variable, array, body) => {
+            walk(context, depth, *variable, *array, body, world, run)
+        }
+    }
+}
+
+/// Runs a statement that leaves nothing and has no body.
+#[cycle(evaluate)]
+pub(crate) fn perform<W: World>(
+    context: Context<'_>,
+    depth: u64,
+    s: &Simple,
+    world: &mut W,
+    run: &mut Run<'_>,
+) -> Result<(), Halt>
+    ensures left { run.new.left ≤ run.old.left }
+    ensures outcome { Yields (λ _. tt)
+        (act W.calls (eres_of context.entry) (enter_of W.calls context.entry depth)
+        (simple_view s.now)
+        (moment (W.state world.old) run.old)) result (moment (W.state world.new) run.new) }
+{
+    match s {
+        Simple::Drop(e) => {
+            let mut bytes = Vec::new(run.alloc);
+            let _ = eval(context, depth, e, &mut bytes, world, run)?;
+            Ok(())
+        }
+        Simple::Set(to, e) => set(context, depth, to, e, world, run),
+        Simple::Add(sign, to, e) => {
+            let target = place(context, depth, to, world, run)?;
+            let amount = number(context, depth, e, world, run)?;
+            add_to_place(*sign, &target, amount, world, run)
+        }
+        Simple::Count(step, to) => {
+            let target = place(context, depth, to, world, run)?;
+            add_to_place(step_sign(*step), &target, Ok(1), world, run)
+        }
+        Simple::Print(operands) => print(context, depth, &operands.values, world, run),
+        Simple::Printf(format, operands) => {
+            printf(context, depth, format, &operands.values, world, run)
+        }
+        Simple::Delete(array, keys) => {
+            let key = key(context, depth, keys, world, run)?;
+            remove_element(table_of(&run.frame, *array), &key, world, run)
+        }
+        Simple::Clear(array) => clear_array(table_of(&run.frame, *array), world, run),
+    }
+}
+
+/// Assigns the value of an expression to a place.
+#[cycle(evaluate)]
+pub(crate) fn set<W: World>(
+    context: Context<'_>,
+    depth: u64,
+    to: &Place,
+    e: &Expr,
+    world: &mut W,
+    run: &mut Run<'_>,
+) -> Result<(), Halt>
+    ensures left { run.new.left ≤ run.old.left }
+    ensures outcome { Yields (λ _. tt)
+        (act W.calls (eres_of context.entry) (enter_of W.calls context.entry depth)
+        (actions.set (place_view to.now) (view e.now))
+        (moment (W.state world.old) run.old)) result (moment (W.state world.new) run.new) }
+{
+    let target = place(context, depth, to, world, run)?;
+    let mut bytes = Vec::new(run.alloc);
+    let held = eval(context, depth, e, &mut bytes, world, run)?;
+    write_place(&target, lend_held(held, &bytes), world, run)
+}
+
+/// Prints the values of expressions.
+///
+/// POSIX.1-2017, awk, "Output Statements" (`print`).
+#[cycle(evaluate)]
+pub(crate) fn print<W: World>(
+    context: Context<'_>,
+    depth: u64,
+    es: &[Expr],
+    world: &mut W,
+    run: &mut Run<'_>,
+) -> Result<(), Halt>
+    ensures left { run.new.left ≤ run.old.left }
+    ensures outcome { Yields (λ _. tt)
+        (bind (texts_of W.calls (eres_of context.entry) (enter_of W.calls context.entry depth)
+        (exprs (views es.now)) []) (spec.print_line W.calls)
+        (moment (W.state world.old) run.old)) result (moment (W.state world.new) run.new) }
+{
+    let mut parts = Texts::new(run.alloc);
+    let mut scratch = Vec::new(run.alloc);
+    texts(context, depth, es, &mut parts, &mut scratch, world, run)?;
+    print_line(&parts, world, run)
+}
+
+/// Prints the values of expressions by a format.
+///
+/// POSIX.1-2017, awk, "Output Statements" (`printf`).
+#[cycle(evaluate)]
+pub(crate) fn printf<W: World>(
+    context: Context<'_>,
+    depth: u64,
+    format: &Format,
+    es: &[Expr],
+    world: &mut W,
+    run: &mut Run<'_>,
+) -> Result<(), Halt>
+    ensures left { run.new.left ≤ run.old.left }
+    ensures outcome { Yields (λ _. tt)
+        (bind (text_of_textual W.calls
+        (eres_of context.entry) (enter_of W.calls context.entry depth)
+        (codes.formatted (format_view format.now) (exprs (views es.now)))) print_text
+        (moment (W.state world.old) run.old)) result (moment (W.state world.new) run.new) }
+{
+    let text = formatted(context, depth, format, es, world, run)?;
+    print_bytes(&text, world, run)
+}
+
+/// Runs a statement that leaves what it stands in.
+///
+/// POSIX.1-2017, awk, "Actions" and "User-Defined Functions".
+#[cycle(evaluate)]
+pub(crate) fn go_out<W: World>(
+    context: Context<'_>,
+    depth: u64,
+    leave: &Leave,
+    world: &mut W,
+    run: &mut Run<'_>,
+) -> Result<Flow, Halt>
+    ensures left { run.new.left ≤ run.old.left }
+    ensures outcome { Yields (way_of)
+        (leaves W.calls (eres_of context.entry) (enter_of W.calls context.entry depth)
+        (leave_view leave.now)
+        (moment (W.state world.old) run.old)) result (moment (W.state world.new) run.new) }
+{
+    match leave {
+        Leave::Break => Ok(Flow::Break),
+        Leave::Continue => Ok(Flow::Continue),
+        Leave::Next => Err(Halt::Next),
+        Leave::NextFile => Err(Halt::NextFile),
+        Leave::Exit(None) => Err(Halt::Exit(run.state.status)),
+        Leave::Exit(Some(e)) => {
+            let status = number(context, depth, e, world, run)?;
+            Err(Halt::Exit(exit_status(status)?))
+        }
+        Leave::Return(None) => Ok(Flow::Return(Value::Uninit)),
+        Leave::Return(Some(e)) => Ok(Flow::Return(value(context, depth, e, world, run)?)),
+    }
+}
+
+/// Runs statements where a test holds.
+#[cycle(evaluate)]
+pub(crate) fn guard<W: World>(
+    context: Context<'_>,
+    depth: u64,
+    test: &Expr,
+    body: &[Statement],
+    world: &mut W,
+    run: &mut Run<'_>,
+) -> Result<Flow, Halt>
+    ensures left { run.new.left ≤ run.old.left }
+    ensures outcome { Yields (way_of)
+        (exec W.calls (eres_of context.entry) (enter_of W.calls context.entry depth)
+        (actions.when (view test.now) (seen body.now))
+        (moment (W.state world.old) run.old)) result (moment (W.state world.new) run.new) }
+{
+    let truth = truth(context, depth, test, world, run)?;
+    let holds = truth?;
+    if holds {
+        execute(context, depth, body, world, run)
+    } else {
+        Ok(Flow::On)
+    }
+}
+
+/// Runs the statements that a test chooses.
+#[cycle(evaluate)]
+pub(crate) fn choose<W: World>(
+    context: Context<'_>,
+    depth: u64,
+    test: &Expr,
+    a: &[Statement],
+    b: &[Statement],
+    world: &mut W,
+    run: &mut Run<'_>,
+) -> Result<Flow, Halt>
+    ensures left { run.new.left ≤ run.old.left }
+    ensures outcome { Yields (way_of)
+        (exec W.calls (eres_of context.entry) (enter_of W.calls context.entry depth)
+        (actions.choose (view test.now) (seen a.now) (seen b.now))
+        (moment (W.state world.old) run.old)) result (moment (W.state world.new) run.new) }
+{
+    let truth = truth(context, depth, test, world, run)?;
+    let holds = truth?;
+    if holds {
+        execute(context, depth, a, world, run)
+    } else {
+        execute(context, depth, b, world, run)
+    }
+}

@@ -1,0 +1,152 @@
+//! What gives texts.
+//!
+//! POSIX.1-2017, awk, "Expressions in awk" and "String Functions".
+
+ghost use Rattle.std.specs.Prelude.{◌≡◌, ◌≤◌, ◌++◌, length, take, drop, OnOk};
+ghost use Rattle.pawk_value.specs.Held.{added};
+ghost use Rattle.pawk_code.specs.Expressions.{exprs};
+ghost use Rattle.pawk_code.specs.Expressions as codes;
+ghost use Rattle.pawk_code.specs.ExpressionViews.{format_view, textual_view, views};
+ghost use Rattle.pawk_meaning.specs.Meaning.{joined_texts, suffixed, text_of_textual};
+ghost use Rattle.pawk_places.specs.Moments.{moment};
+ghost use Rattle.pawk_places.specs.Yields.{Yields};
+ghost use Rattle.pawk_eval.specs.Contexts.{enter_of, eres_of};
+
+use crate::context::Context;
+use crate::expressions::{number, text, text_into};
+use crate::operands::{format_operand, values};
+use crate::operations::fill_format;
+use pawk_builtins::{Values, both, push_letters, substring, suffix, within_limit};
+use pawk_code::expression::{Expr, Format, Textual};
+use pawk_places::Run;
+use pawk_world::{Halt, World};
+
+/// Appends what gives a text.
+#[cycle(evaluate)]
+pub(crate) fn textual<W: World>(
+    context: Context<'_>,
+    depth: u64,
+    t: &Textual,
+    out: &mut Vec<u8>,
+    world: &mut W,
+    run: &mut Run<'_>,
+) -> Result<(), Halt>
+    ensures left { run.new.left ≤ run.old.left }
+    ensures appended { OnOk result
+        (out.new.items ≡ out.old.items ++ added out.old.items out.new.items) }
+    ensures outcome { Yields (λ _. added out.old.items out.new.items)
+        (text_of_textual W.calls (eres_of context.entry) (enter_of W.calls context.entry depth)
+        (textual_view t.now)
+        (moment (W.state world.old) run.old)) result (moment (W.state world.new) run.new) }
+{
+    match t {
+        Textual::Join(es) => join(context, depth, es, out, world, run),
+        Textual::Suffix(e, a) => {
+            let text = text(context, depth, e, world, run)?;
+            let from = number(context, depth, a, world, run)?;
+            out.extend_from_slice(suffix(&text, from?))?;
+            Ok(())
+        }
+        Textual::Substring(e, a, b) => {
+            let text = text(context, depth, e, world, run)?;
+            let from = number(context, depth, a, world, run)?;
+            let count = number(context, depth, b, world, run)?;
+            let places = both(from, count)?;
+            out.extend_from_slice(substring(&text, places.0, places.1))?;
+            Ok(())
+        }
+        Textual::Case(case, e) => {
+            let text = text(context, depth, e, world, run)?;
+            push_letters(*case, &text, out)?;
+            Ok(())
+        }
+        Textual::Format(format, es) => {
+            let text = formatted(context, depth, format, es, world, run)?;
+            out.extend_from_slice(&text)?;
+            Ok(())
+        }
+    }
+}
+
+/// The text that a format makes of the values of expressions.
+///
+/// POSIX.1-2017, awk, "Output Statements" and "String Functions" (`sprintf`).
+#[cycle(evaluate)]
+pub(crate) fn formatted<W: World>(
+    context: Context<'_>,
+    depth: u64,
+    format: &Format,
+    es: &[Expr],
+    world: &mut W,
+    run: &mut Run<'_>,
+) -> Result<Vec<u8>, Halt>
+    ensures left { run.new.left ≤ run.old.left }
+    ensures outcome { Yields (λ text. text.items)
+        (text_of_textual W.calls (eres_of context.entry) (enter_of W.calls context.entry depth)
+        (codes.formatted (format_view format.now) (exprs (views es.now)))
+        (moment (W.state world.old) run.old)) result (moment (W.state world.new) run.new) }
+{
+    let text = format_operand(context, depth, format, world, run)?;
+    let mut parts = Values::new(run.alloc);
+    let mut scratch = Vec::new(run.alloc);
+    values(context, depth, es, &mut parts, &mut scratch, world, run)?;
+    fill_format(format, &text, &parts, world, run)
+}
+
+/// Appends the texts of expressions one after the other.
+///
+/// Fault `length` where they are longer together than a text may be.
+///
+/// POSIX.1-2017, awk, "Expressions in awk" (concatenation).
+#[cycle(evaluate)]
+pub(crate) fn join<W: World>(
+    context: Context<'_>,
+    depth: u64,
+    es: &[Expr],
+    out: &mut Vec<u8>,
+    world: &mut W,
+    run: &mut Run<'_>,
+) -> Result<(), Halt>
+    ensures left { run.new.left ≤ run.old.left }
+    ensures appended { OnOk result
+        (out.new.items ≡ out.old.items ++ added out.old.items out.new.items) }
+    ensures outcome { Yields (λ _. added out.old.items out.new.items)
+        (joined_texts W.calls (eres_of context.entry) (enter_of W.calls context.entry depth)
+        (exprs (views es.now))
+        (moment (W.state world.old) run.old)) result (moment (W.state world.new) run.new) }
+{
+    match es.split_first() {
+        None => Ok(()),
+        Some((first, rest)) => {
+            let start = out.len();
+            text_into(context, depth, first, out, world, run)?;
+            suffixes(context, depth, start, rest, out, world, run)
+        }
+    }
+}
+
+/// Appends the texts of expressions, each of which is behind what stands in `out` from `start` on.
+#[cycle(evaluate)]
+pub(crate) fn suffixes<W: World>(
+    context: Context<'_>,
+    depth: u64,
+    start: usize,
+    es: &[Expr],
+    out: &mut Vec<u8>,
+    world: &mut W,
+    run: &mut Run<'_>,
+) -> Result<(), Halt>
+    requires { start ≤ length out.old.items }
+    ensures left { run.new.left ≤ run.old.left }
+    ensures front { OnOk result (take start out.new.items ≡ take start out.old.items) }
+    ensures outcome { Yields (λ _. drop start out.new.items)
+        (suffixed W.calls (eres_of context.entry) (enter_of W.calls context.entry depth)
+        (exprs (views es.now)) (drop start out.old.items)
+        (moment (W.state world.old) run.old)) result (moment (W.state world.new) run.new) }
+{
+    for e in es {
+        text_into(context, depth, e, out, world, run)?;
+        within_limit(&out[start..])?;
+    }
+    Ok(())
+}
