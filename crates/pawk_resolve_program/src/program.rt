@@ -42,11 +42,7 @@ fn names(alloc: Global, globals: &Globals<'_>) -> Result<(Vec<Vec<u8>>, Vec<Vec<
 }
 
 /// The code of items whose names are given.
-fn code<'t>(
-    alloc: Global,
-    globals: &Globals<'t>,
-    items: &'t [Item],
-) -> Result<Code, AllocError>
+fn code<'t>(alloc: Global, globals: &Globals<'t>, items: &'t [Item]) -> Result<Code, AllocError>
     ensures { IfOk result (λ c. code_view c ≡
         spec.resolved_items (globals_view globals.now) (map part items.now)) }
 {
