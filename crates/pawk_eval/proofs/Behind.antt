@@ -1,5 +1,5 @@
 -- A text behind what stands before it.
-use Rattle.std.proofs.Common.{◌≡◌, ℕ, suc, ◌+◌, ◌<◌, ◌≤◌, List, [], ◌∷◌, ◌++◌, drop, take, drop-cons, get_or, length, arith, ap, sym, ◌∙◌, length-append}
+use Rattle.std.proofs.Common.{◌≡◌, ℕ, suc, ◌<◌, ◌≤◌, List, ◌∷◌, ◌++◌, drop, take, drop-cons, get_or, length, arith, ap, sym, ◌∙◌, length-append}
 use Rattle.std.proofs.lemmas.List.{take-append-le, drop-append-le}
 use Rattle.pawk_value.specs.Value.{Val}
 use Rattle.pawk_value.specs.Conversion.{text_of}

@@ -1,7 +1,6 @@
 -- Code in rows: what an element weighs, and where one halts.
-use Rattle.std.proofs.Common.{◌≡◌, ℕ, zero, suc, ◌+◌, ◌<◌, List, [], ◌∷◌, ◌++◌, arith, get_or, length, map, drop, drop-cons, ap, sym, ◌∙◌, slice_get, Some, refl, add-one}
+use Rattle.std.proofs.Common.{◌≡◌, ℕ, zero, suc, ◌+◌, ◌<◌, List, [], ◌∷◌, ◌++◌, arith, get_or, length, drop, drop-cons, ap, sym, ◌∙◌, slice_get, Some}
 use Rattle.pawk_value.specs.Value.{Val}
-use Rattle.pawk_value.specs.Conversion.{text_of}
 use Rattle.pawk_world.specs.Halts.{Halt}
 use Rattle.pawk_world.specs.Worlds.{Calls}
 use Rattle.pawk_store.specs.RecordStates.{RecordState}

@@ -1,12 +1,10 @@
 -- Turns of loops, one step at a time.
-use Rattle.std.proofs.Common.{◌≡◌, ℕ, zero, suc, ◌≤◌, ◌<◌, List, ◌∷◌, refl, ap, sym, ◌∙◌, arith, if◌then◌else◌, Bool, Result, drop, drop-cons, get_or, length, Option, Some, None}
+use Rattle.std.proofs.Common.{◌≡◌, ℕ, zero, suc, ◌≤◌, List, refl, ap, sym, ◌∙◌, arith, if◌then◌else◌, Bool, Result}
 use Rattle.pawk_value.specs.Fault.{Fault}
 use Rattle.pawk_world.specs.Halts.{Halt}
-use Rattle.pawk_world.specs.Worlds.{Calls}
 use Rattle.pawk_store.specs.RecordStates.{RecordState}
-use Rattle.pawk_meaning.specs.Parts.{Moment, Outcome, gives, halts, Part, give, then_do, bind, tick, tick_at}
-use Rattle.pawk_meaning.specs.Meaning.{Way, on, decide, after_turn, turns, visit_keys}
-use Rattle.pawk_meaning.specs.Places.{Aim}
+use Rattle.pawk_meaning.specs.Parts.{Moment, gives, halts, Part, give, then_do, bind, tick, tick_at}
+use Rattle.pawk_meaning.specs.Meaning.{Way, on, decide, after_turn, turns}
 
 module _ {S : Type 0} where
   -- what a turn is once it has its step

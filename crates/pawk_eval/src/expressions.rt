@@ -20,7 +20,7 @@ use crate::numbers::numeric;
 use crate::operations::value_with;
 use crate::places::place;
 use crate::strings::textual;
-use pawk_code::expression::{Expr, Numeric, Place, Test, Textual};
+use pawk_code::expression::{Expr, Place};
 use pawk_places::{Run, leaf_number, leaf_text, leaf_truth, leaf_value, read_place, write_place};
 use pawk_value::{Fault, Held, Value, lend_held, push_text_lent, to_num_lent, truth_lent};
 use pawk_world::{Halt, World};
@@ -127,7 +127,9 @@ pub(crate) fn number<W: World>(
     }
 }
 
-/// The truth of an expression, or the fault of its conversion.
+/// The truth of an expression, or the fault of its conversion, where `depth` calls may be nested.
+///
+/// It halts as [`execute`](crate::execute) does.
 ///
 /// POSIX.1-2017, awk, "Expressions in awk".
 #[cycle(evaluate)]
@@ -214,7 +216,7 @@ pub(crate) fn value<W: World>(
     run: &mut Run<'_>,
 ) -> Result<Value, Halt>
     ensures left { run.new.left ≤ run.old.left }
-    ensures outcome { Yields (shown)
+    ensures outcome { Yields shown
         (eval W.calls (eres_of context.entry) (enter_of W.calls context.entry depth) (view e.now)
         (moment (W.state world.old) run.old)) result (moment (W.state world.new) run.new) }
 {

@@ -16,9 +16,8 @@ use crate::expressions::value;
 use crate::operations::array_parameter;
 use crate::statements::execute;
 use pawk_code::expression::Argument;
-use pawk_code::name::Array;
 use pawk_places::{Parameter, Run, parameters, table_of, tick};
-use pawk_value::{Fault, Held, Value, hold, lend};
+use pawk_value::{Fault, Held, hold, lend};
 use pawk_world::{Halt, World};
 use std::mem;
 
@@ -55,7 +54,7 @@ pub(crate) fn parameter<W: World>(
     run: &mut Run<'_>,
 ) -> Result<Parameter, Halt>
     ensures left { run.new.left ≤ run.old.left }
-    ensures outcome { Yields (hold_of)
+    ensures outcome { Yields hold_of
         (argument_of W.calls (eres_of context.entry) (enter_of W.calls context.entry depth)
         (argument_view argument.now)
         (moment (W.state world.old) run.old)) result (moment (W.state world.new) run.new) }

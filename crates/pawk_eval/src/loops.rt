@@ -50,7 +50,7 @@ pub(crate) fn turns<W: World>(
     run: &mut Run<'_>,
 ) -> Result<Flow, Halt>
     ensures left { run.new.left ≤ run.old.left }
-    ensures outcome { Yields (way_of)
+    ensures outcome { Yields way_of
         (while_loop
         (test_or_true W.calls (eres_of context.entry) (enter_of W.calls context.entry depth)
         (contexts.test_view test.entry))
@@ -130,7 +130,7 @@ pub(crate) fn turns_after<W: World>(
     run: &mut Run<'_>,
 ) -> Result<Flow, Halt>
     ensures left { run.new.left ≤ run.old.left }
-    ensures outcome { Yields (way_of)
+    ensures outcome { Yields way_of
         (exec W.calls (eres_of context.entry) (enter_of W.calls context.entry depth)
         (actions.do_while (seen body.now) (view test.now))
         (moment (W.state world.old) run.old)) result (moment (W.state world.new) run.new) }
@@ -155,7 +155,7 @@ pub(crate) fn count<W: World>(
     run: &mut Run<'_>,
 ) -> Result<Flow, Halt>
     ensures left { run.new.left ≤ run.old.left }
-    ensures outcome { Yields (way_of)
+    ensures outcome { Yields way_of
         (exec W.calls (eres_of context.entry) (enter_of W.calls context.entry depth)
         (actions.loop (head_view head.now) (seen body.now))
         (moment (W.state world.old) run.old)) result (moment (W.state world.new) run.new) }
@@ -180,7 +180,7 @@ pub(crate) fn walk<W: World>(
     run: &mut Run<'_>,
 ) -> Result<Flow, Halt>
     ensures left { run.new.left ≤ run.old.left }
-    ensures outcome { Yields (way_of)
+    ensures outcome { Yields way_of
         (for_keys W.calls variable array
         (execs W.calls (eres_of context.entry) (enter_of W.calls context.entry depth)
         (seen body.now))
@@ -203,7 +203,7 @@ pub(crate) fn visit<W: World>(
     run: &mut Run<'_>,
 ) -> Result<Flow, Halt>
     ensures left { run.new.left ≤ run.old.left }
-    ensures outcome { Yields (way_of)
+    ensures outcome { Yields way_of
         (visit_keys W.calls keys.now (variable_aim variable)
         (execs W.calls (eres_of context.entry) (enter_of W.calls context.entry depth)
         (seen body.now))

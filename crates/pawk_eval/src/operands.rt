@@ -21,7 +21,6 @@ use pawk_array::Texts;
 use pawk_builtins::Values;
 use pawk_code::expression::{Expr, FieldsBy, Format, Pattern};
 use pawk_places::Run;
-use pawk_value::Value;
 use pawk_world::{Halt, World};
 
 /// Appends the text of each expression, which is made in `scratch`.

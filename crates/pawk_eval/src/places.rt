@@ -16,7 +16,7 @@ use crate::operands::texts;
 use pawk_array::Texts;
 use pawk_builtins::field_index;
 use pawk_code::expression::{Expr, Place};
-use pawk_places::{Parameter, Run, Target, element_target, key_of_texts, table_of};
+use pawk_places::{Run, Target, element_target, key_of_texts, table_of};
 use pawk_world::{Halt, World};
 
 /// Where a place is.
@@ -29,7 +29,7 @@ pub(crate) fn place<W: World>(
     run: &mut Run<'_>,
 ) -> Result<Target, Halt>
     ensures left { run.new.left ≤ run.old.left }
-    ensures outcome { Yields (aim_view)
+    ensures outcome { Yields aim_view
         (aim_of W.calls (eres_of context.entry) (enter_of W.calls context.entry depth)
         (place_view p.now)
         (moment (W.state world.old) run.old)) result (moment (W.state world.new) run.new) }

@@ -42,7 +42,11 @@ use pawk_places::{
 use pawk_value::{Value, lend_held};
 use pawk_world::{Halt, World};
 
-/// Runs statements in turn, a step at the begin of each.
+/// Runs statements in turn, a step of the budget at the begin of each, where `depth` calls may be
+/// nested, and says how they leave.
+///
+/// It halts with a fault of what is evaluated, with `depth` or `steps` where no call or no step is
+/// left, with `next`, `nextfile` and `exit`, where the world refuses, and for want of memory.
 ///
 /// POSIX.1-2017, awk, "Actions".
 #[cycle(evaluate)]
@@ -54,7 +58,7 @@ pub fn execute<W: World>(
     run: &mut Run<'_>,
 ) -> Result<Flow, Halt>
     ensures left { run.new.left ≤ run.old.left }
-    ensures outcome { Yields (way_of)
+    ensures outcome { Yields way_of
         (execs W.calls (eres_of context.entry) (enter_of W.calls context.entry depth)
         (seen body.now)
         (moment (W.state world.old) run.old)) result (moment (W.state world.new) run.new) }
@@ -79,7 +83,7 @@ pub(crate) fn statement<W: World>(
     run: &mut Run<'_>,
 ) -> Result<Flow, Halt>
     ensures left { run.new.left ≤ run.old.left }
-    ensures outcome { Yields (way_of)
+    ensures outcome { Yields way_of
         (exec W.calls (eres_of context.entry) (enter_of W.calls context.entry depth)
         (stmt_view s.now)
         (moment (W.state world.old) run.old)) result (moment (W.state world.new) run.new) }
@@ -224,7 +228,7 @@ pub(crate) fn go_out<W: World>(
     run: &mut Run<'_>,
 ) -> Result<Flow, Halt>
     ensures left { run.new.left ≤ run.old.left }
-    ensures outcome { Yields (way_of)
+    ensures outcome { Yields way_of
         (leaves W.calls (eres_of context.entry) (enter_of W.calls context.entry depth)
         (leave_view leave.now)
         (moment (W.state world.old) run.old)) result (moment (W.state world.new) run.new) }
@@ -255,7 +259,7 @@ pub(crate) fn guard<W: World>(
     run: &mut Run<'_>,
 ) -> Result<Flow, Halt>
     ensures left { run.new.left ≤ run.old.left }
-    ensures outcome { Yields (way_of)
+    ensures outcome { Yields way_of
         (exec W.calls (eres_of context.entry) (enter_of W.calls context.entry depth)
         (actions.when (view test.now) (seen body.now))
         (moment (W.state world.old) run.old)) result (moment (W.state world.new) run.new) }
@@ -281,7 +285,7 @@ pub(crate) fn choose<W: World>(
     run: &mut Run<'_>,
 ) -> Result<Flow, Halt>
     ensures left { run.new.left ≤ run.old.left }
-    ensures outcome { Yields (way_of)
+    ensures outcome { Yields way_of
         (exec W.calls (eres_of context.entry) (enter_of W.calls context.entry depth)
         (actions.choose (view test.now) (seen a.now) (seen b.now))
         (moment (W.state world.old) run.old)) result (moment (W.state world.new) run.new) }

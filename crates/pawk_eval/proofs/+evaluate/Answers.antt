@@ -1,6 +1,5 @@
-use Rattle.std.proofs.Common.{◌≡◌, ◌+◌, ◌-◌, ◌<◌, ◌≤◌, ◌∙◌, ◌∷◌, ◌++◌, List, ℕ, suc, [], drop, drop-cons, take, length, Result, Ok, Err, Option, Some, Bool, rules, arith, ap, sym, refl, Vec, Global, add-one}
+use Rattle.std.proofs.Common.{◌≡◌, ◌+◌, ◌-◌, ◌<◌, ◌≤◌, ◌∙◌, List, ℕ, suc, [], drop, drop-cons, length, Result, Ok, Err, Some, rules, arith, ap, sym, refl, Vec, Global, add-one}
 use Rattle.std.proofs.lemmas.Grind.{common_steps}
-use Rattle.pawk_value.specs.Value.{shown}
 use Rattle.pawk_value.specs.Fault.{Fault}
 use Rattle.pawk_world.specs.Halts.{Halt, halt_of, fault}
 use Rattle.pawk_store.specs.StateViews.{state_of}
@@ -9,15 +8,15 @@ use Rattle.pawk_code.specs.ExpressionViews.{view, views, argument_view, argument
 use Rattle.pawk_code.specs.StatementViews.{seen, stmt_view}
 use Rattle.pawk_code.specs.ProgramViews.{function_view}
 use Rattle.pawk_meaning.specs.Builtins.{within_limit}
-use Rattle.pawk_meaning.specs.Parts.{Hold, Moment, gives, halts, then_do, Entry, entry_of, settle}
-use Rattle.pawk_meaning.specs.Meaning.{eval, execs, texts_of, values_of, arguments_of, suffixed, call_at, while_loop, visit_keys, test_or_true, act_or_none}
+use Rattle.pawk_meaning.specs.Parts.{halts, then_do, Entry, entry_of, settle}
+use Rattle.pawk_meaning.specs.Meaning.{eval, execs, texts_of, values_of, arguments_of, suffixed, while_loop, visit_keys, test_or_true, act_or_none}
 use Rattle.pawk_meaning.specs.Places.{variable_aim}
 use Rattle.pawk_places.specs.declared.run.Parameter.{Parameter}
 use Rattle.pawk_places.specs.Moments.{holds_of, moment}
 use Rattle.pawk_eval.specs.Contexts.{functions_of, eres_of, enter_of, last_view}
 use Rattle.pawk_eval.specs.Contexts as contexts
 use Rattle.pawk_eval.proofs.Behind.{operand_next, operand_halts, text_behind}
-use Rattle.pawk_eval.proofs.Calls.{call_no_step, call_too_deep, call_nothing, call_runs, after_call}
+use Rattle.pawk_eval.proofs.Calls.{call_no_step, call_too_deep, call_nothing, call_runs}
 use Rattle.pawk_eval.proofs.Rows.{expr_in_row, argument_in_row, statement_in_body, keys_left, text_in_row_halts, value_in_row_halts, argument_in_row_halts}
 use Rattle.pawk_eval.proofs.Shapes.{call_shape, element_shape, member_shape, join_shape, format_shape, if_shape, choose_shape, do_shape}
 use Rattle.pawk_eval.proofs.Turns.{turn_is, turn_no_step}

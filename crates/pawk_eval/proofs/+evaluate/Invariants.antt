@@ -1,9 +1,8 @@
-use Rattle.std.proofs.Common.{◌≡◌, ◌≤◌, ℕ, ◌+◌, ◌++◌, [], ◌∷◌, drop, take, length, map, List}
-use Rattle.pawk_value.specs.Held.{added}
+use Rattle.std.proofs.Common.{◌≡◌, ◌≤◌, ℕ, ◌+◌, [], drop, take, length}
 use Rattle.pawk_code.specs.Expressions.{exprs, arguments}
 use Rattle.pawk_code.specs.ExpressionViews.{view, views, argument_view, argument_views, fields_view, format_view, function_view, numeric_view, pattern_view, place_view, test_view, textual_view}
 use Rattle.pawk_code.specs.StatementViews.{leave_view, head_view, seen, simple_view, stmt_view}
-use Rattle.pawk_meaning.specs.Meaning.{texts_of, values_of, arguments_of, suffixed, execs, turns, while_loop, visit_keys, for_keys, act_or_none, test_or_true}
+use Rattle.pawk_meaning.specs.Meaning.{texts_of, values_of, arguments_of, suffixed, execs, turns, while_loop, visit_keys, act_or_none, test_or_true}
 use Rattle.pawk_meaning.specs.Places.{variable_aim}
 use Rattle.pawk_places.specs.Moments.{holds_of, moment}
 use Rattle.pawk_eval.specs.Contexts.{functions_of, eres_of, enter_of, last_view}

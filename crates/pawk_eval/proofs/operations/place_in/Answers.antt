@@ -1,4 +1,4 @@
-use Rattle.std.proofs.Common.{◌≡◌, ℕ, suc, ◌+◌, ◌<◌, ◌≤◌, List, [], ◌∷◌, length, arith, rules, if◌then◌else◌, Bool, true, false}
+use Rattle.std.proofs.Common.{ℕ, suc, ◌+◌, ◌<◌, List, [], ◌∷◌, length, arith, rules, if◌then◌else◌, Bool, true, false}
 use Rattle.pawk_meaning.specs.Builtins.{index, index_from, begins_with}
 use Rattle.pawk_eval.proofs.operations.place_in.Goals as goal
 
