@@ -123,7 +123,8 @@ def row(rand):
     text = lambda: ''.join(rand.choice('\n\n\n:a b') for _ in range(rand.randint(0, 12)))
     files = [(rand.choice(['f', 'g']), text()) for _ in range(rand.randint(1, 3))]
     rs = rand.choice(['', '', '\n', ':'])
-    names = [word for name, data in files for word in (name, in_blocks(rand, data))]
+    part = rand.choice([in_blocks, lambda rand, data: data])
+    names = [word for name, data in files for word in (name, part(rand, data))]
     kind = rand.choice(['records', 'chunked', 'size', 'cuts', 'counts', 'counted', 'begins', 'split', 'pieces'])
     size = rand.randint(1, 13)
     block = rand.randint(1, 6)

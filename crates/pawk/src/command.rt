@@ -1,80 +1,24 @@
 //! What the command does.
 
-use crate::command_line::{Request, read_words};
-use crate::files::read_files;
+use crate::chunks::{Shape, run_chunks};
+use crate::command_line::{Request, Source, read_words};
+use crate::files::read_file;
 use crate::reports::{Stop, tell_ending, tell_stop};
-use pawk_par::{
-    Cutting, Ending, Job, Open, Reader, Refusal, Report, Request as StreamRequest, Settings,
-    SettingsRefusal, Writer, parse, run, run_streams,
-};
+use crate::whole::run_whole;
 use std::io;
 use std::io::{Read, Write};
 use std::rt::Files;
 use std::sync::Wait;
 use std::thread::Threads;
 
-/// How many steps each record may take where nothing else is asked for.
-const STEPS: u64 = 10_000_000;
-
-/// Runs the program over standard input.
-fn run_input<R: AllocGlobal + Threads + Wait, I: Read, O: Write>(
-    rt: &R,
-    request: &Request<'_>,
-    input: I,
-    output: &mut O,
-) -> Result<(Ending, Report), Stop>
-where
-    I: Drop,
-{
-    let alloc = rt.alloc();
-    let cutting = Cutting::Size(request.chunk);
-    let streams = StreamRequest {
-        text: request.program.as_bytes(),
-        assigns: &[],
-        budget: STEPS,
-        cutting: &cutting,
-        workers: usize::from(request.workers),
-    };
-    let mut source = Reader::new(input);
-    let mut sink = Writer::new(output);
-    match run_streams(rt, alloc, &streams, &mut source, &mut sink, &Open) {
-        Ok(answer) => Ok(answer),
-        Err(refusal) => Err(Stop::of_streams(alloc, refusal)),
-    }
-}
-
-/// Runs the program over the files that were named.
-fn run_files<R: Files + AllocGlobal + Threads + Wait, O: Write>(
-    rt: &R,
-    request: &Request<'_>,
-    output: &mut O,
-) -> Result<(Ending, Report), Stop> {
-    let alloc = rt.alloc();
-    let program = match parse(alloc, request.program.as_bytes()) {
-        Ok(program) => program,
-        Err(refusal) => return Err(Stop::Program(refusal)),
-    };
-    let settings = match Settings::new(alloc, &program, &[], STEPS) {
-        Ok(settings) => settings,
-        Err(SettingsRefusal::Memory) => return Err(Stop::Memory),
-        Err(refusal) => return Err(Stop::Settings(refusal as u8)),
-    };
-    let mut input = read_files(rt, &request.files)?;
-    let cutting = Cutting::Size(request.chunk);
-    let workers = usize::from(request.workers);
-    let job = Job {
-        program: &program,
-        settings: &settings,
-    };
-    let (outcome, report) = match run(rt, alloc, job, &mut input, &cutting, workers, &Open) {
-        Ok(answer) => answer,
-        Err(Refusal::Memory) => return Err(Stop::Memory),
-        Err(Refusal::Thread) => return Err(Stop::Thread),
-        Err(Refusal::Cutting) => return Err(Stop::Cutting),
-    };
-    match output.write_all(&outcome.output) {
-        Ok(()) => Ok((outcome.ending, report)),
-        Err(_) => Err(Stop::Write),
+/// The program's text.
+fn program_text<R: Files + AllocGlobal>(rt: &R, source: Source<'_>) -> Result<Vec<u8>, Stop> {
+    match source {
+        Source::Words(text) => Ok(Vec::from_slice(rt.alloc(), text.as_bytes())?),
+        Source::File(name) => match read_file(rt, name) {
+            Ok(text) => Ok(text),
+            Err(error) => Err(Stop::read(rt.alloc(), name, &error)),
+        },
     }
 }
 
@@ -92,15 +36,15 @@ where
     O: Write,
     E: Write,
 {
-    let (ending, report) = if request.files.is_empty() {
-        run_input(rt, request, input, output)?
-    } else {
-        run_files(rt, request, output)?
+    let text = program_text(rt, request.program)?;
+    let end = match Shape::of(rt.alloc(), request, text.as_slice())? {
+        Shape::Chunks => run_chunks(rt, request, text.as_slice(), input, output)?,
+        Shape::Other => run_whole(rt, request, text.as_slice(), input, output)?,
     };
     if output.flush().is_err() {
         return Err(Stop::Write);
     }
-    Ok(tell_ending(ending, report, request.why, errors))
+    Ok(tell_ending(end, request.why, errors))
 }
 
 fn do_words<R, I, O, E>(

@@ -19,11 +19,28 @@ const WORKERS: u8 = 4;
 /// The size of a chunk in bytes where `-c` does not tell.
 const CHUNK: u64 = 1_048_576;
 
+/// How many steps BEGIN, each record and END may take where `-s` does not tell.
+const STEPS: u64 = 10_000_000;
+
+/// Where the program's text stands.
+#[derive(Clone, Copy)]
+pub(crate) enum Source<'a> {
+    /// In the words.
+    Words(&'a str),
+    /// In the file of this name.
+    File(&'a str),
+}
+
 /// What the words ask for.
 #[derive(Drop)]
 pub(crate) struct Request<'a> {
-    /// The program's text.
-    pub(crate) program: &'a str,
+    pub(crate) program: Source<'a>,
+    /// The values of `-v`, each a name and a value with `=` between.
+    pub(crate) assignments: Vec<&'a str>,
+    /// The value of `-F`.
+    pub(crate) separator: Option<&'a str>,
+    /// How many steps BEGIN, each record and END may take.
+    pub(crate) steps: u64,
     /// The names of the files; with none standard input is read.
     pub(crate) files: Vec<&'a str>,
     /// How many workers there are.
@@ -62,10 +79,39 @@ fn why<'a>(alloc: Global) -> Arg<'a> {
         .action(ArgAction::SetTrue)
 }
 
+fn steps<'a>(alloc: Global) -> Arg<'a> {
+    Arg::new(alloc, "steps")
+        .short('s')
+        .value_name("steps")
+        .help("The number of steps that BEGIN, each record and END may take, 1 to 1000000000000")
+        .value_parser(value_parser!(u64).range(1..=1_000_000_000_000))
+        .default_value("10000000")
+}
+
+fn separator<'a>(alloc: Global) -> Arg<'a> {
+    Arg::new(alloc, "separator")
+        .short('F')
+        .value_name("text")
+        .help("The field separator, as -v FS=text after all others")
+}
+
+fn assignments<'a>(alloc: Global) -> Arg<'a> {
+    Arg::new(alloc, "assignment")
+        .short('v')
+        .value_name("name=value")
+        .help("A variable that is assigned before the program runs")
+        .action(ArgAction::Append)
+}
+
+fn program_file<'a>(alloc: Global) -> Arg<'a> {
+    Arg::new(alloc, "program-file")
+        .short('f')
+        .value_name("file")
+        .help("The file that has the program's text; all operands are files then")
+}
+
 fn program<'a>(alloc: Global) -> Arg<'a> {
-    Arg::new(alloc, "program")
-        .help("The program's text")
-        .required(true)
+    Arg::new(alloc, "program").help("The program's text")
 }
 
 fn files<'a>(alloc: Global) -> Arg<'a> {
@@ -79,8 +125,12 @@ fn definition<'a>(alloc: Global) -> Result<Command<'a>, AllocError> {
     Command::new(alloc, "pawk")
         .version(VERSION)
         .about(ABOUT)
+        .arg(separator(alloc))?
+        .arg(assignments(alloc))?
+        .arg(program_file(alloc))?
         .arg(workers(alloc))?
         .arg(chunk(alloc))?
+        .arg(steps(alloc))?
         .arg(why(alloc))?
         .arg(program(alloc))?
         .arg(files(alloc))
@@ -94,18 +144,42 @@ fn is_plain(matches: &ArgMatches<'_>, id: &str) -> bool {
     }
 }
 
+/// Where the program's text stands, if the words tell, and the files.
+fn operands<'a>(
+    alloc: Global,
+    matches: &ArgMatches<'a>,
+) -> Result<Option<(Source<'a>, Vec<&'a str>)>, AllocError> {
+    let mut files = Vec::new(alloc);
+    let source = match (matches.get_str("program-file"), matches.get_str("program")) {
+        (Some(name), first) => {
+            if let Some(first) = first {
+                files.push(first)?;
+            }
+            Source::File(name)
+        }
+        (None, Some(text)) => Source::Words(text),
+        (None, None) => return Ok(None),
+    };
+    files.extend_from_slice(matches.get_strs("file").unwrap_or(&[]))?;
+    Ok(Some((source, files)))
+}
+
+/// Whether the values of all options that are numbers are written in digits alone.
+fn are_plain(matches: &ArgMatches<'_>) -> bool {
+    is_plain(matches, "workers") && is_plain(matches, "chunk") && is_plain(matches, "steps")
+}
+
 /// Reads the words, of which the first is the program's name.
 ///
 /// `Line` comes where the words are at fault or ask for help, `Memory` where memory was refused.
 pub(crate) fn read_words<'a>(alloc: Global, words: &'a [String]) -> Result<Request<'a>, Stop> {
     let mut command = definition(alloc)?;
     let matches = command.try_get_matches_from_mut(words)?;
-    let Some(program) = matches.get_str("program") else {
+    let Some((program, files)) = operands(alloc, &matches)? else {
         let error = command.error(ErrorKind::MissingRequiredArgument, "no program")?;
         return Err(Stop::Line(error));
     };
-    let files = matches.get_strs("file").unwrap_or(&[]);
-    if !is_plain(&matches, "workers") || !is_plain(&matches, "chunk") {
+    if !are_plain(&matches) {
         let error = command.error(
             ErrorKind::ValueValidation,
             "a number is written in digits alone",
@@ -114,7 +188,10 @@ pub(crate) fn read_words<'a>(alloc: Global, words: &'a [String]) -> Result<Reque
     }
     Ok(Request {
         program,
-        files: Vec::from_slice(alloc, files)?,
+        assignments: Vec::from_slice(alloc, matches.get_strs("assignment").unwrap_or(&[]))?,
+        separator: matches.get_str("separator"),
+        steps: matches.get_one::<u64>("steps").unwrap_or(STEPS),
+        files,
         workers: matches
             .get_one::<u8>("workers")
             .unwrap_or(WORKERS)

@@ -1,7 +1,8 @@
 //! The files that are the input.
 
 use crate::reports::Stop;
-use pawk_par::{Blocks, Input, TooLarge};
+use pawk_par::{Input, TooLarge};
+use std::alloc::Global;
 use std::fs::File;
 use std::io::Read;
 use std::rt::Files;
@@ -16,11 +17,19 @@ fn known_size<R: Files>(rt: &R, name: &str) -> usize {
 }
 
 /// Reads a file to its end, into room for the size that is known of it.
-fn read_file<R: Files + AllocGlobal>(rt: &R, name: &str) -> io::Result<Vec<u8>> {
+pub(crate) fn read_file<R: Files + AllocGlobal>(rt: &R, name: &str) -> io::Result<Vec<u8>> {
     let mut file = File::open(rt, name)?;
     let mut bytes = Vec::with_capacity(rt.alloc(), known_size(rt, name))?;
     file.read_to_end(&mut bytes)?;
     Ok(bytes)
+}
+
+/// The input of these files, names with bytes.
+fn input_of(files: Vec<(Vec<u8>, Vec<u8>)>) -> Result<Input, Stop> {
+    match Input::new(files) {
+        Ok(input) => Ok(input),
+        Err(TooLarge) => Err(Stop::Input),
+    }
 }
 
 /// Reads the files of these names in order; the first that cannot be read is told.
@@ -32,11 +41,18 @@ pub(crate) fn read_files<R: Files + AllocGlobal>(rt: &R, names: &[&str]) -> Resu
             Ok(bytes) => bytes,
             Err(error) => return Err(Stop::read(alloc, *name, &error)),
         };
-        let blocks = Blocks::whole(alloc, bytes)?;
-        files.push((Vec::from_slice(alloc, name.as_bytes())?, blocks))?;
+        files.push((Vec::from_slice(alloc, name.as_bytes())?, bytes))?;
     }
-    match Input::new(files) {
-        Ok(input) => Ok(input),
-        Err(TooLarge) => Err(Stop::Input),
+    input_of(files)
+}
+
+/// Reads a stream to its end, as one file without a name.
+pub(crate) fn read_stream<I: Read + Drop>(alloc: Global, mut input: I) -> Result<Input, Stop> {
+    let mut bytes = Vec::new(alloc);
+    if let Err(error) = input.read_to_end(&mut bytes) {
+        return Err(Stop::read(alloc, "", &error));
     }
+    let mut files = Vec::new(alloc);
+    files.push((Vec::new(alloc), bytes))?;
+    input_of(files)
 }

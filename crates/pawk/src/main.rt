@@ -1,10 +1,12 @@
 //! `pawk`: awk in whole numbers, whose main rules run over chunks of the input.
 #![tactic(auto)]
 
+mod chunks;
 mod command;
 mod command_line;
 mod files;
 mod reports;
+mod whole;
 
 use std::io;
 use std::process::ExitCode;

@@ -2,7 +2,10 @@
 
 use clap::Error;
 use clap::error::ErrorKind;
-use pawk_par::{Ending, Place, Report, Route, StreamRefusal, SyntaxRefusal};
+use pawk_code::program::Code;
+use pawk_one::{Ending as OneEnding, Place as OnePlace};
+use pawk_par::{Ending, Place, Route, StreamRefusal};
+use pawk_syntax::SyntaxRefusal;
 use std::alloc::{AllocError, AllocFailed, Global};
 use std::io;
 use std::io::Write;
@@ -83,7 +86,7 @@ impl Stop {
             StreamRefusal::Memory => Stop::Memory,
             StreamRefusal::Thread => Stop::Thread,
             StreamRefusal::Cutting => Stop::Cutting,
-            StreamRefusal::Program(refusal) => Stop::Program(refusal),
+            StreamRefusal::Program(_) => Stop::Memory,
             StreamRefusal::Settings(refusal) => Stop::Settings(refusal as u8),
             StreamRefusal::Read => Stop::Read(String::new(alloc)),
             StreamRefusal::Write(_) => Stop::Write,
@@ -104,7 +107,6 @@ pub(crate) fn tell_stop<O: Write, E: Write>(
         Stop::Thread => errors.write_all(b"pawk: refused: thread\n")?,
         Stop::Cutting => errors.write_all(b"pawk: refused: cutting\n")?,
         Stop::Input => errors.write_all(b"pawk: refused: input\n")?,
-        Stop::Program(SyntaxRefusal::Memory) => errors.write_all(b"pawk: refused: memory\n")?,
         Stop::Program(refusal) => tell_program(*refusal, errors)?,
         Stop::Settings(number) => writeln!(errors, "pawk: bad assignment: {number}")?,
         Stop::Read(name) => writeln!(errors, "pawk: cannot read {name}")?,
@@ -116,8 +118,10 @@ pub(crate) fn tell_stop<O: Write, E: Write>(
 
 fn tell_program<E: Write>(refusal: SyntaxRefusal, errors: &mut E) -> io::Result<()> {
     let number = refusal.number();
-    let place = refusal.place();
-    writeln!(errors, "pawk: program refused: {number} at byte {place}")
+    match refusal.place() {
+        Some(place) => writeln!(errors, "pawk: program refused: {number} at byte {place}"),
+        None => errors.write_all(b"pawk: refused: memory\n"),
+    }
 }
 
 /// The command line's own text: help that was asked for goes to the output. A fault begins as every message does.
@@ -143,20 +147,51 @@ fn tell_line<O: Write, E: Write>(
     Ok(0)
 }
 
-/// Tells the route where it is asked for, and a fault, and gives the exit status.
-pub(crate) fn tell_ending<E: Write>(
+/// How a run ended, and the way it went, as far as it is told.
+#[derive(Clone, Copy)]
+pub(crate) struct End {
     ending: Ending,
-    report: Report,
-    why: bool,
-    errors: &mut E,
-) -> io::Result<u8> {
-    if why {
-        match report.route {
-            Route::Redo => errors.write_all(b"pawk: route redo\n")?,
-            Route::Parallel => errors.write_all(b"pawk: route parallel\n")?,
+    route: Option<&'static str>,
+}
+
+impl End {
+    /// The end of a run over chunks.
+    pub(crate) fn of_chunks(ending: Ending, route: Route) -> End {
+        let route = match route {
+            Route::Redo => "redo",
+            Route::Parallel => "parallel",
+        };
+        End {
+            ending,
+            route: Some(route),
         }
     }
-    match ending {
+
+    /// The end of a run of one thread. The globals of one thread allow all that is asked of them, so it is never disallowed.
+    pub(crate) fn of_one(ending: OneEnding, code: &Code) -> Result<End, Stop> {
+        let has_records = !code.rules.is_empty() || !code.ends.is_empty();
+        let ending = match ending {
+            OneEnding::Status(status) => Ending::Status(status),
+            OneEnding::Fault(fault, OnePlace::Begin) => Ending::Fault(fault, Place::Begin),
+            OneEnding::Fault(fault, OnePlace::Record(n)) => Ending::Fault(fault, Place::Record(n)),
+            OneEnding::Fault(fault, OnePlace::End) => Ending::Fault(fault, Place::End),
+            OneEnding::Disallowed => return Err(Stop::Memory),
+        };
+        Ok(End {
+            ending,
+            route: if has_records { None } else { Some("no main") },
+        })
+    }
+}
+
+/// Tells the route where it is asked for, and a fault, and gives the exit status.
+pub(crate) fn tell_ending<E: Write>(end: End, why: bool, errors: &mut E) -> io::Result<u8> {
+    if let Some(route) = end.route {
+        if why {
+            writeln!(errors, "pawk: route {route}")?;
+        }
+    }
+    match end.ending {
         Ending::Status(status) => Ok(status),
         Ending::Fault(fault, place) => {
             let name = fault.name();

@@ -1,3 +1,4 @@
 pub mod Blocks
 pub mod Law
+pub mod Lent
 pub mod Mending

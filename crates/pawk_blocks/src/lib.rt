@@ -4,9 +4,11 @@
 mod block;
 mod blocks;
 mod laws;
+mod lent;
 mod mending;
 mod pieces;
 
 pub use blocks::Blocks;
 pub use laws::blocks_law;
+pub use lent::LentBlocks;
 pub use pieces::Pieces;

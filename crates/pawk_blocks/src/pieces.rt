@@ -3,13 +3,13 @@
 ghost use Rattle.std.specs.Prelude.{◌≡◌, ℕ, List, [], ◌∷◌, take, drop, MatchOption};
 ghost use Rattle.pawk_blocks.specs.Blocks.{AreMended, joined, parts};
 
-use crate::block::Block;
+use crate::lent::LentBlocks;
 use std::marker::Model;
 
 /// What lies in each block of a range of a file, in order, as far as it was not yet handed out.
 #[derive(Drop)]
 pub struct Pieces<'a> {
-    blocks: &'a [Block],
+    rest: LentBlocks<'a>,
     start: usize,
     size: usize,
 }
@@ -20,18 +20,18 @@ impl<'a> Model for Pieces<'a> {
 
     ghost Value = { List (List ℕ) };
 
-    ghost view = { λ p. parts p.start p.size p.blocks.now };
+    ghost view = { λ p. parts p.start p.size p.rest };
 }
 
 impl<'a> Pieces<'a> {
     /// The pieces of the `size` bytes from place `start` on of what the blocks hold.
-    pub(crate) fn of(blocks: &'a [Block], start: usize, size: usize) -> Self
-        ensures value { result ≡ parts start size blocks.now }
-        ensures bytes { joined result ≡ take size (drop start (joined blocks.now)) }
-        ensures mended { (rs : List ℕ) → AreMended rs blocks.now → AreMended rs result }
+    pub(crate) fn of(blocks: LentBlocks<'a>, start: usize, size: usize) -> Self
+        ensures value { result ≡ parts start size blocks.entry }
+        ensures bytes { joined result ≡ take size (drop start (joined blocks.entry)) }
+        ensures mended { (rs : List ℕ) → AreMended rs blocks.entry → AreMended rs result }
     {
         Pieces {
-            blocks,
+            rest: blocks,
             start,
             size,
         }
@@ -42,7 +42,7 @@ impl<'a> Pieces<'a> {
         ensures { result ≡ [] }
     {
         Pieces {
-            blocks: &[],
+            rest: LentBlocks::none(),
             start: 0,
             size: 0,
         }
@@ -53,12 +53,10 @@ impl<'a> Pieces<'a> {
         ensures { MatchOption result ((self.old ≡ []) × (self.new ≡ []))
             (λ piece. self.old ≡ piece.now ∷ self.new) }
     {
-        let (block, later) = self.blocks.split_first()?;
-        let bytes = block.bytes();
+        let bytes = self.rest.next_block()?;
         let from = self.start.min(bytes.len());
         let (_, after) = bytes.split_at(from);
         let (piece, _) = after.split_at(self.size.min(after.len()));
-        self.blocks = later;
         self.start -= from;
         self.size -= piece.len();
         Some(piece)

@@ -1,7 +1,10 @@
+pub mod Limits
 pub mod Settles
 pub mod ExpressionViews
 pub mod Replaces
 pub mod Pieces
+pub mod PlaceViews
+pub mod MatcherViews
+pub mod ReplaceWalks
 pub mod ValueViews
 pub mod FormatViews
-pub mod PlaceViews

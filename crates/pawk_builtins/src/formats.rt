@@ -43,8 +43,8 @@ pub fn format_values(
     ensures { Settles (λ text. text.items)
         (formatted_text (format_text (format_view format.now) text.now) values.now) result }
 {
-    let lent = values.lend(alloc)?;
+    let list = values.lend(alloc)?;
     let mut out = Vec::new(alloc);
-    write_format(&mut out, format, text, &lent)?;
+    write_format(&mut out, format, text, &list)?;
     Ok(out)
 }

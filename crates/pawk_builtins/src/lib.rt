@@ -1,6 +1,7 @@
 //! The built-in functions of awk, on what their operands were converted to.
 #![tactic(auto)]
 
+mod between;
 mod conversions;
 mod expression;
 mod formats;
@@ -8,6 +9,9 @@ mod letters;
 mod matchers;
 mod occurrence;
 mod operators;
+mod replace;
+mod replacement;
+mod slot;
 mod substrings;
 mod values;
 

@@ -54,12 +54,12 @@ impl Values {
 
     /// The values, with their bytes lent.
     pub(crate) fn lend(&self, alloc: Global) -> Result<Vec<ValueRef<'_>>, AllocError>
-        ensures { IfOk result (λ lent. map lent_value lent.items ≡ self.now) }
+        ensures { IfOk result (λ list. map lent_value list.items ≡ self.now) }
     {
-        let mut lent = Vec::with_capacity(alloc, self.values.len())?;
+        let mut list = Vec::with_capacity(alloc, self.values.len())?;
         for (held, range) in &self.values {
-            lent.push(lend_held(*held, &self.bytes[range.start..range.end]))?;
+            list.push(lend_held(*held, &self.bytes[range.start..range.end]))?;
         }
-        Ok(lent)
+        Ok(list)
     }
 }

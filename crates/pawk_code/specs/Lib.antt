@@ -5,3 +5,4 @@ pub mod Statements
 pub mod StatementViews
 pub mod Programs
 pub mod ProgramViews
+pub mod FirstSlots

@@ -35,5 +35,5 @@ code_view c = record {
   functions = map function_view c.functions.items;
   scalars = map (λ x. x.items) c.scalars.items;
   arrays = map (λ x. x.items) c.arrays.items;
-  expressions = c.expressions.items;
+  expressions = map (λ x. x.items) c.expressions.items;
 }

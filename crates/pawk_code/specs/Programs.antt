@@ -24,4 +24,4 @@ pub record Code : Type 0 where
   pub functions : List Function
   pub scalars : List Text
   pub arrays : List Text
-  pub expressions : List ℕ
+  pub expressions : List Text

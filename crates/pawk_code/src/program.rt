@@ -46,7 +46,7 @@ pub struct Code {
     pub scalars: Vec<Vec<u8>>,
     /// The names of global arrays, by their slots.
     pub arrays: Vec<Vec<u8>>,
-    /// For each number of an expression between slashes the place, counted from 0, where it first
-    /// stands among those of the program.
-    pub expressions: Vec<usize>,
+    /// What stands between the slashes of the program, each text once, by the numbers that the code
+    /// has for it.
+    pub expressions: Vec<Vec<u8>>,
 }

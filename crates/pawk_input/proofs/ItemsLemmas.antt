@@ -1,11 +1,12 @@
 -- Numbered records.
-use Rattle.std.proofs.Common.{◌≡◌, ℕ, ◌+◌, ◌≤◌, List, [], ◌∷◌, ◌++◌, length, get_or, set, Vec, Global, refl, ap, arith, sym, ◌<◌, ◌∙◌, length-append, zero, suc, take, drop, length-drop, length-take}
+use Rattle.std.proofs.Common.{All, Some, option_map, slice_get, subst, ◌≡◌, ℕ, ◌+◌, ◌≤◌, List, [], ◌∷◌, ◌++◌, length, get_or, set, Vec, Global, refl, ap, arith, sym, ◌<◌, ◌∙◌, length-append, zero, suc, take, drop, length-drop, length-take}
 use Rattle.pawk_records.specs.Records.{records_by}
-use Rattle.std.proofs.lemmas.List.Elements.{All-head, All-tail}
+use Rattle.std.proofs.lemmas.List.Elements.{All-head, All-map, All-tail}
 use Rattle.pawk_blocks.specs.Blocks.{AreMended, joined, parts}
 use Rattle.pawk_blocks.proofs.BlocksLemmas.{no_records, parts_all, records_of_blocks}
-use Rattle.pawk_input.specs.Input.{File, FileInBlocks, IsReady, file_at, file_of, files_of, in_blocks, named_blocks, total_size, file_items, items_from}
-use Rattle.std.proofs.lemmas.List.{append-nil}
+use Rattle.pawk_input.specs.Input.{File, FileInBlocks, IsReady, empty_file, file_at, file_of, files_of, in_blocks, in_vector, in_vectors, named_blocks, whole_file, whole_files, total_size, file_items, items_from}
+use Rattle.std.proofs.lemmas.List.{append-nil, length-map}
+use Rattle.std.proofs.lemmas.Option.{get_or_from_slice_get, slice_get-map, slice_get_within}
 use Rattle.pawk_input.specs.Walk.{block_records, items_ahead, items_in_blocks}
 use Rattle.pawk_records.proofs.BeginsLemmas.{length-records_by}
 
@@ -83,24 +84,39 @@ abbrev pub turns : List FileInBlocks → ℕ
 turns [] = 0
 turns (f ∷ fs) = 1 + length f.blocks + turns fs
 
--- ---- files as pairs of a name and blocks
+-- ---- files as pairs of a name and bytes, or blocks
 
 abbrev pub Pair : Type 0
 Pair = Vec ℕ Global × List (List ℕ)
 
-pub length_held : (pairs : List Pair) → length (files_of (in_blocks pairs)) ≡ length pairs
-length_held [] = refl
-length_held (x ∷ xs) = let more = length_held xs in omega arith
+abbrev pub WholePair : Type 0
+WholePair = Vec ℕ Global × Vec ℕ Global
 
-pub held_at : (pairs : List Pair) (k : ℕ) (d : Pair) → k < length pairs → file_at (files_of (in_blocks pairs)) k ≡ file_of (named_blocks (get_or pairs k d))
-held_at [] k d lt = absurd (omega arith)
-held_at (x ∷ xs) zero d lt = refl
-held_at (x ∷ xs) (suc k) d lt = held_at xs k d (omega arith)
+-- the same files, each in one block
+pub files_of_vectors : (pairs : List WholePair) → files_of (in_vectors pairs) ≡ whole_files pairs
+files_of_vectors [] = refl
+files_of_vectors (x ∷ xs) =
+    ap (λ l. record { name = x.0.items; bytes = l } ∷ files_of (in_vectors xs)) (append-nil x.1.items)
+    ∙ ap (λ l. whole_file x ∷ l) (files_of_vectors xs)
 
-pub ready_at : (rs : List ℕ) (pairs : List Pair) (k : ℕ) (d : Pair) → k < length pairs → IsReady rs (in_blocks pairs) → AreMended rs (get_or pairs k d).1
-ready_at rs [] k d lt h = absurd (omega arith)
-ready_at rs (x ∷ xs) zero d lt h = All-head (λ (g : FileInBlocks). AreMended rs g.blocks) (named_blocks x) (in_blocks xs) h
-ready_at rs (x ∷ xs) (suc k) d lt h = ready_at rs xs k d (omega arith) (All-tail (λ (g : FileInBlocks). AreMended rs g.blocks) (named_blocks x) (in_blocks xs) h)
+-- which no record leaves
+pub vectors_ready : (rs : List ℕ) (pairs : List WholePair) → IsReady rs (in_vectors pairs)
+vectors_ready rs pairs = All-map (λ (f : FileInBlocks). AreMended rs f.blocks) in_vector pairs (all pairs)
+  where
+    all : (l : List WholePair) → All (λ (y : WholePair). AreMended rs (in_vector y).blocks) l
+    all l = λ k d lt. (λ some more. absurd (omega arith), tt)
+
+pub length_files : (fs : List FileInBlocks) → length (files_of fs) ≡ length fs
+length_files fs = length-map fs file_of
+
+-- the file at a place that was read
+pub file_read : (fs : List FileInBlocks) (k : ℕ) (f : FileInBlocks) → slice_get fs k ≡ Some f → file_at (files_of fs) k ≡ file_of f
+file_read fs k f at =
+    get_or_from_slice_get (files_of fs) k (file_of f) empty_file (slice_get-map file_of fs k ∙ ap (option_map file_of) at)
+
+pub ready_read : (rs : List ℕ) (fs : List FileInBlocks) (k : ℕ) (f : FileInBlocks) → slice_get fs k ≡ Some f → IsReady rs fs → AreMended rs f.blocks
+ready_read rs fs k f at h =
+    subst (λ (g : FileInBlocks). AreMended rs g.blocks) (get_or_from_slice_get fs k f f at) (h k f (slice_get_within fs k f at))
 
 -- other blocks of the same bytes
 pub same_files : (pairs : List Pair) (i : ℕ) (d : Pair) (bs : List (List ℕ)) → joined bs ≡ joined (get_or pairs i d).1

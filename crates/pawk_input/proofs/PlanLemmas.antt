@@ -2,7 +2,7 @@
 use Rattle.std.proofs.Common.{◌≡◌, ◌⊎◌, inl, inr, ℕ, zero, suc, ◌+◌, ◌-◌, ◌<◌, ◌≤◌, Bool, true, false, cond, leb, List, [], ◌∷◌, ◌++◌, length, take, drop, get_or, refl, ap, arith, sym, ◌∙◌, subst, All, append_assoc, length-append}
 use Rattle.std.proofs.lemmas.Bool.{false≢true}
 use Rattle.std.proofs.lemmas.Bool.Decides.{leb_tells}
-use Rattle.std.proofs.lemmas.List.{append-nil, take_rest, drop-drop, get_or-drop, length-drop, drop_more, nil_from_length}
+use Rattle.std.proofs.lemmas.List.{append-nil, drop_all, take_rest, drop-drop, get_or-drop, length-drop, drop_more, nil_from_length}
 use Rattle.std.proofs.lemmas.List.Elements.{All-nil, All-cons, All-head, All-tail, All-append}
 use Rattle.std.proofs.lemmas.List.Concat.{flat_map-append}
 use Rattle.std.specs.List.{flat_map, slice_range, Contains}
@@ -146,6 +146,14 @@ module _ (rs : List ℕ) (files : List File) (chosen : ℕ → List ℕ → List
 
   pub is_plan : IsPlanOf rs files (chunks_of rs chosen 0 0 files)
   is_plan = record { whole = items_of_plan 0 0 files refl; each = each_of_plan 0 0 files refl }
+
+  -- once the chunks of all files are there
+  pub plan_at_end : (file nr : ℕ) (chunks : List Chunk) → length files ≤ file → chunks ++ chunks_of rs chosen file nr (drop file files) ≡ chunks_of rs chosen 0 0 files
+      → IsPlanOf rs files chunks
+  plan_at_end file nr chunks past is =
+      let none : drop file files ≡ [] = drop_all file files past in
+      let whole : chunks ≡ chunks_of rs chosen 0 0 files = sym (append-nil chunks) ∙ ap (λ l. chunks ++ chunks_of rs chosen file nr l) (sym none) ∙ is in
+      subst (IsPlanOf rs files) (sym whole) is_plan
 
 -- ---- by size
 

@@ -6,7 +6,9 @@ use Rattle.pawk_records.specs.Records.{records_by}
 use Rattle.pawk_records.specs.Begins.{BeginsAt, begins_at, begins_by, begins_within, places_where}
 use Rattle.pawk_records.proofs.BeginsLemmas.{begins_before, none_before, length-records_by, length-records_part}
 use Rattle.pawk_records.proofs.PlaceLemmas.{places_where-append, places_where-none}
+use Rattle.pawk_input.specs.declared.cutting.Chunk.{Chunk}
 use Rattle.pawk_input.specs.Plan.{IsBeginOrEnd, chunks_at, places_by_size, places_by_size_from}
+use Rattle.pawk_input.proofs.DraftLemmas.{moved, one_more_fits}
 
 within : (a b : ℕ) → a ≤ b → leb a b ≡ true
 within a b h = elim (leb_tells a b) [ inl y ↦ y.0 | inr n ↦ absurd (omega (arith, n.1)) ]
@@ -17,6 +19,13 @@ beyond a b h = elim (leb_tells a b) [ inl y ↦ absurd (omega (arith, y.1)) | in
 not_true : (v : Bool) → (v ≡ true → ⊥) → v ≡ false
 not_true true h = absurd (h refl)
 not_true false h = refl
+
+-- the next place lies further on
+pub next_up : (rs s : List ℕ) (p size q : ℕ) → 0 < size → p < length s → IsBeginOrEnd rs s (p + size) q → p < q
+next_up rs s p size q some lt h = elim (leb_tells (length s) q) [
+  | inl end ↦ omega (arith, end.1)
+  | inr more ↦ omega (arith, (h.begins more.1).0)
+]
 
 module _ (rs s : List ℕ) where
   abbrev test : ℕ → Bool
@@ -122,6 +131,33 @@ from_greatest rs s from q few h = record {
   begins = λ lt. (let b = h.begins lt in (omega (arith, b.0), b.1));
 }
 
+-- a turn of a loop over the chunks: the next chunk, of those that are left, begins at p and ends at q
+module _ (rs s : List ℕ) (size k nr p q : ℕ) (old all : List Chunk) (some : 0 < size) (few : length s < 18446744073709551615) (lt : p < length s) (begins : BeginsAt rs s p)
+    (ends : IsBeginOrEnd rs s (min (p + size) 18446744073709551615) q) (is : old ++ chunks_at rs k s nr (places_left rs s size p) ≡ all) where
+  ends_far : IsBeginOrEnd rs s (p + size) q
+  ends_far = from_greatest rs s (p + size) q few ends
+
+  pub chunk_up : p < q
+  chunk_up = next_up rs s p size q some lt ends_far
+
+  next : chunks_at rs k s nr (places_left rs s size p) ≡ record {
+    file = k;
+    range = record { start = p; end = q };
+    nr = nr + length (records_by rs (take p s));
+    fnr = length (records_by rs (take p s));
+  } ∷ chunks_at rs k s nr (places_left rs s size q)
+  next = next_chunk rs s size k nr p q lt begins chunk_up ends_far
+
+  -- it moves from those to come to those that are there
+  pub chunk_moved : (new : List Chunk) (fnr : ℕ) → fnr ≡ length (records_by rs (take p s))
+      → new ≡ old ++ record { file = k; range = record { start = p; end = q }; nr = nr + fnr; fnr = fnr } ∷ []
+      → new ++ chunks_at rs k s nr (places_left rs s size q) ≡ all
+  chunk_moved new fnr count added = moved old new all _ _ _ is next (rw count at added)
+
+  -- so many are there at least
+  pub chunk_fits : length old + 1 ≤ length all
+  chunk_fits = one_more_fits old all _ _ _ is next
+
 module _ (rs s : List ℕ) (p q : ℕ) (up : p < q) (le : q ≤ length s) where
   pub part_end : p + length (take (q - p) (drop p s)) ≡ q
   part_end = omega (arith, length-take-le (q - p) (drop p s) (omega (arith, length-drop p s)))
@@ -153,10 +189,3 @@ few_before rs s q n le is = omega (arith, length-records_by rs (take q s), lengt
 
 pub all_before : (rs s : List ℕ) (q n : ℕ) → length s ≤ q → n ≡ length (records_by rs (take q s)) → n ≡ length (records_by rs s)
 all_before rs s q n le is = is ∙ ap (λ l. length (records_by rs l)) (take_all q s le)
-
--- the next place lies further on
-pub next_up : (rs s : List ℕ) (p size q : ℕ) → 0 < size → p < length s → IsBeginOrEnd rs s (p + size) q → p < q
-next_up rs s p size q some lt h = elim (leb_tells (length s) q) [
-  | inl end ↦ omega (arith, end.1)
-  | inr more ↦ omega (arith, (h.begins more.1).0)
-]

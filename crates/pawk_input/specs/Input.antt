@@ -33,6 +33,22 @@ named_blocks pair = record { name = pair.0.items; blocks = pair.1 }
 abbrev pub in_blocks : List (Vec ℕ Global × List (List ℕ)) → List FileInBlocks
 in_blocks pairs = map named_blocks pairs
 
+-- the file of a name and all its bytes
+abbrev pub whole_file : Vec ℕ Global × Vec ℕ Global → File
+whole_file pair = record { name = pair.0.items; bytes = pair.1.items }
+
+-- the files of pairs of a name and all its bytes
+abbrev pub whole_files : List (Vec ℕ Global × Vec ℕ Global) → List File
+whole_files pairs = map whole_file pairs
+
+-- the file of a name and all its bytes, as one block
+abbrev pub in_vector : Vec ℕ Global × Vec ℕ Global → FileInBlocks
+in_vector pair = record { name = pair.0.items; blocks = pair.1.items ∷ [] }
+
+-- the files of pairs of a name and all its bytes, each as one block
+abbrev pub in_vectors : List (Vec ℕ Global × Vec ℕ Global) → List FileInBlocks
+in_vectors pairs = map in_vector pairs
+
 -- no record of a file goes on in a later block, by the bytes of RS
 abbrev pub IsReady : List ℕ → List FileInBlocks → Type 0
 IsReady rs input = All (λ (f : FileInBlocks). AreMended rs f.blocks) input

@@ -4,6 +4,8 @@ pub use Rattle.pawk_records.specs.Begins
 pub use Rattle.pawk_records.specs.Separator
 pub use Rattle.pawk_blocks.specs.Blocks
 pub mod Input
+pub mod Lent
+pub mod Held
 pub mod Walk
 pub use Rattle.pawk_fields.specs.Fields
 pub use Rattle.pawk_fields.specs.Splits

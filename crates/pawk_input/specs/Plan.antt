@@ -74,6 +74,10 @@ abbrev pub places_by_size : ℕ → List ℕ → List ℕ
 places_by_size size [] = []
 places_by_size size (p ∷ ps) = p ∷ places_by_size_from size p ps
 
+-- the chunks by size of a file before which nr records came
+abbrev pub sized_chunks : List ℕ → ℕ → ℕ → List ℕ → ℕ → List Chunk
+sized_chunks rs size file bytes nr = chunks_at rs file bytes nr (places_by_size size (begins_by rs bytes))
+
 -- The plan by size: a chunk ends before the first record that begins at least `size` bytes past the
 -- chunk's begin, or at the end of the file; a file with records always begins a chunk.
 abbrev pub sized : List ℕ → List File → ℕ → List Chunk

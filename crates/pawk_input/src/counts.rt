@@ -2,19 +2,19 @@
 
 ghost use Rattle.std.specs.Prelude.{◌≡◌, ◌+◌, ◌^◌, ◌<◌, ◌≤◌, ◌++◌, length, take, vec_len, OnOk, IfErr, IfOk};
 ghost use Rattle.pawk_records.specs.Records.{records_by};
-ghost use Rattle.pawk_records.specs.Begins.{begins_by, begins_within};
+ghost use Rattle.pawk_records.specs.Begins.{begins_within};
 ghost use Rattle.pawk_records.specs.Separator.{rs_of};
 ghost use Rattle.pawk_input.specs.Limits.{most_bytes, most_chunks};
 ghost use Rattle.pawk_blocks.specs.Blocks.{AreMended, joined};
 ghost use Rattle.pawk_input.specs.Input.{IsReady, file_at, files_of};
 ghost use Rattle.pawk_input.specs.Counts.{block_counts, blocks_of, counts_left};
 ghost use Rattle.pawk_input.specs.Passed.{IsPassed};
-ghost use Rattle.pawk_input.specs.Plan.{RefusesMany, chunks_at, places_by_size};
+ghost use Rattle.pawk_input.specs.Plan.{RefusesMany, sized_chunks};
 
 use crate::cutting::{Chunk, CutRefusal};
 use crate::draft::{Draft, add_chunk, begin_or_end};
 use crate::files::Input;
-use pawk_blocks::Blocks;
+use pawk_blocks::LentBlocks;
 use pawk_records::Separator;
 use std::alloc::{AllocError, Global};
 use std::ops::Range;
@@ -97,7 +97,7 @@ pub(crate) struct Passed<'c> {
 /// How many records of a file begin before a place, and the blocks passed up to it.
 fn records_before<'c>(
     separator: Separator,
-    blocks: &Blocks,
+    blocks: &LentBlocks<'_>,
     block: usize,
     passed: Passed<'c>,
     place: usize,
@@ -145,7 +145,7 @@ impl Draft {
     pub(crate) fn add_by_counts(
         &mut self,
         file: usize,
-        blocks: &Blocks,
+        blocks: &LentBlocks<'_>,
         rs: &[u8],
         size: u64,
         block: usize,
@@ -158,18 +158,13 @@ impl Draft {
         requires counts { counts.now ≡ counts_left rs.now block (joined blocks.now) 0 }
         requires room { self.old.nr + length (joined blocks.now) ≤ most_bytes }
         requires few { vec_len self.old.chunks ≤ most_chunks }
-        ensures chunks { OnOk result (self.new.chunks.items
-            ≡ self.old.chunks.items
-            ++ chunks_at rs.now file (joined blocks.now) self.old.nr
-            (places_by_size size (begins_by rs.now (joined blocks.now)))) }
+        ensures chunks { OnOk result (self.new.chunks.items ≡ self.old.chunks.items
+            ++ sized_chunks rs.now size file (joined blocks.now) self.old.nr) }
         ensures counted { OnOk result
             (self.new.nr ≡ self.old.nr + length (records_by rs.now (joined blocks.now))) }
         ensures few { OnOk result (vec_len self.new.chunks ≤ most_chunks) }
-        ensures refused { IfErr result (RefusesMany
-            (vec_len self.old.chunks
-            + length (chunks_at rs.now file (joined blocks.now) self.old.nr
-            (places_by_size size (begins_by rs.now (joined blocks.now)))))
-            most_chunks) }
+        ensures refused { IfErr result (RefusesMany (vec_len self.old.chunks
+            + length (sized_chunks rs.now size file (joined blocks.now) self.old.nr)) most_chunks) }
     {
         let separator = Separator::of(rs);
         let mut passed = Passed {

@@ -23,7 +23,7 @@ fn begins_record(input: &Input, rs: &[u8], cut: (usize, usize)) -> bool
     let blocks = input.blocks(cut.0);
     let separator = Separator::of(rs);
     let whole = input.size(cut.0);
-    let first = begin_or_end(separator, blocks, 0);
+    let first = begin_or_end(separator, &blocks, 0);
     if cut.1 <= first || cut.1 >= whole {
         return false;
     }

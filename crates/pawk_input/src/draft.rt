@@ -8,16 +8,16 @@ ghost use Rattle.pawk_records.specs.Begins.{BeginsAt, begins_by};
 ghost use Rattle.pawk_records.specs.Separator.{rs_of};
 ghost use Rattle.pawk_blocks.specs.Blocks.{AreMended, joined};
 ghost use Rattle.pawk_input.specs.Plan.{IsBeginOrEnd, RefusesMany, RisesFrom};
-ghost use Rattle.pawk_input.specs.Plan.{chunks_at, cut_places, offsets, places_by_size};
+ghost use Rattle.pawk_input.specs.Plan.{chunks_at, cut_places, offsets, sized_chunks};
 
 use crate::cutting::{Chunk, CutRefusal, MOST_CHUNKS};
-use pawk_blocks::Blocks;
+use pawk_blocks::LentBlocks;
 use pawk_records::Separator;
 use std::alloc::Global;
 use std::ops::Range;
 
 /// The first place from `from` on at which a record begins, or the end where there is none.
-pub(crate) fn begin_or_end(separator: Separator, blocks: &Blocks, from: usize) -> usize
+pub(crate) fn begin_or_end(separator: Separator, blocks: &LentBlocks<'_>, from: usize) -> usize
     requires mended { AreMended (rs_of separator) blocks.now }
     requires limited { length (joined blocks.now) < 2 ^ 64 }
     ensures { IsBeginOrEnd (rs_of separator) (joined blocks.now) from result }
@@ -67,7 +67,7 @@ impl Draft {
         &mut self,
         file: usize,
         range: Range<usize>,
-        blocks: &Blocks,
+        blocks: &LentBlocks<'_>,
         separator: Separator,
         fnr: u64,
     ) -> Result<u64, CutRefusal>
@@ -100,7 +100,7 @@ impl Draft {
     pub(crate) fn add_by_size(
         &mut self,
         file: usize,
-        blocks: &Blocks,
+        blocks: &LentBlocks<'_>,
         rs: &[u8],
         size: u64,
     ) -> Result<(), CutRefusal>
@@ -109,18 +109,13 @@ impl Draft {
         requires mended { AreMended rs.now blocks.now }
         requires room { self.old.nr + length (joined blocks.now) ≤ most_bytes }
         requires few { vec_len self.old.chunks ≤ most_chunks }
-        ensures chunks { OnOk result (self.new.chunks.items
-            ≡ self.old.chunks.items
-            ++ chunks_at rs.now file (joined blocks.now) self.old.nr
-            (places_by_size size (begins_by rs.now (joined blocks.now)))) }
+        ensures chunks { OnOk result (self.new.chunks.items ≡ self.old.chunks.items
+            ++ sized_chunks rs.now size file (joined blocks.now) self.old.nr) }
         ensures counted { OnOk result
             (self.new.nr ≡ self.old.nr + length (records_by rs.now (joined blocks.now))) }
         ensures few { OnOk result (vec_len self.new.chunks ≤ most_chunks) }
-        ensures refused { IfErr result (RefusesMany
-            (vec_len self.old.chunks
-            + length (chunks_at rs.now file (joined blocks.now) self.old.nr
-            (places_by_size size (begins_by rs.now (joined blocks.now)))))
-            most_chunks) }
+        ensures refused { IfErr result (RefusesMany (vec_len self.old.chunks
+            + length (sized_chunks rs.now size file (joined blocks.now) self.old.nr)) most_chunks) }
     {
         let separator = Separator::of(rs);
         let whole = blocks.size();
@@ -140,7 +135,7 @@ impl Draft {
     pub(crate) fn add_at_cuts(
         &mut self,
         file: usize,
-        blocks: &Blocks,
+        blocks: &LentBlocks<'_>,
         rs: &[u8],
         cuts: &[(usize, usize)],
     ) -> Result<(), CutRefusal>

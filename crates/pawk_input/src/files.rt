@@ -1,14 +1,18 @@
 //! The input: a list of files.
 
 ghost use Rattle.std.specs.Prelude.{◌≡◌, ℕ, ◌+◌, ◌<◌, ◌≤◌, ◌↔◌, [], ◌∷◌, length, IsTrue};
-ghost use Rattle.std.specs.Prelude.{List, OnOk, MatchResult};
+ghost use Rattle.std.specs.Prelude.{List, OnOk, IfOk, MatchResult};
 ghost use Rattle.pawk_input.specs.Limits.{most_bytes};
 ghost use Rattle.pawk_blocks.specs.Blocks.{AreMended, joined};
-ghost use Rattle.pawk_input.specs.Input.{IsReady, file_at, files_of, in_blocks, items, total_size};
+ghost use Rattle.pawk_input.specs.Input.{IsReady, file_at, file_of, files_of, in_blocks};
+ghost use Rattle.pawk_input.specs.Input.{items, total_size, whole_files};
+ghost use Rattle.pawk_input.specs.Held.{held_files};
+ghost use Rattle.pawk_input.specs.Lent.{lent_file};
 ghost use Rattle.pawk_input.specs.Walk.{items_left};
 
+use crate::lent::{LentFile, LentFiles};
 use crate::walk::Records;
-use pawk_blocks::Blocks;
+use pawk_blocks::{Blocks, LentBlocks};
 use pawk_records::Separator;
 use std::alloc::AllocError;
 use std::error::Error;
@@ -30,30 +34,42 @@ impl fmt::Display for TooLarge {
 
 impl Error for TooLarge {}
 
+/// How the files are held.
+#[derive(Drop)]
+enum Held {
+    /// Names, each with all bytes in one vector.
+    Vectors(Vec<(Vec<u8>, Vec<u8>)>),
+    /// Names, each with the blocks of the bytes.
+    Blocks(Vec<(Vec<u8>, Blocks)>),
+}
+
 /// A list of files with their names and bytes, of at most [`LIMIT`] bytes together.
 #[derive(Drop)]
 pub struct Input {
-    files: Vec<(Vec<u8>, Blocks)>,
+    held: Held,
 }
 
 impl Model for Input {
     ghost use Rattle.std.specs.Prelude.{◌≤◌, List};
     ghost use Rattle.pawk_input.specs.Limits.{most_bytes};
-    ghost use Rattle.pawk_input.specs.Input.{FileInBlocks, files_of, in_blocks, total_size};
+    ghost use Rattle.pawk_input.specs.Input.{FileInBlocks, files_of, total_size};
+    ghost use Rattle.pawk_input.specs.Held.{held_files};
 
     ghost Value = { List FileInBlocks };
 
-    ghost view = { λ input. in_blocks input.files.items };
+    ghost view = { λ input. held_files input.held };
 
-    ghost invariant = { λ input. total_size (files_of (in_blocks input.files.items)) ≤ most_bytes };
+    ghost invariant = { λ input. total_size (files_of (held_files input.held)) ≤ most_bytes };
 }
 
-fn are_limited(files: &[(Vec<u8>, Blocks)]) -> bool
-    ensures { IsTrue result ↔ (total_size (files_of (in_blocks files.now)) ≤ most_bytes) }
+/// Whether files hold at most [`LIMIT`] bytes together.
+fn are_limited(files: LentFiles<'_>) -> bool
+    ensures { IsTrue result ↔ (total_size (files_of files.entry) ≤ most_bytes) }
 {
+    let mut rest = files;
     let mut total = 0u64;
-    for file in files {
-        match file.1.size_within((LIMIT - total) as usize) {
+    while let Some(file) = rest.next_file() {
+        match file.blocks.size_within((LIMIT - total) as usize) {
             Some(size) => total += size as u64,
             None => return false,
         }
@@ -73,18 +89,66 @@ fn mend_files(files: &mut [(Vec<u8>, Blocks)], rs: &[u8]) -> Result<(), AllocErr
     Ok(())
 }
 
+impl Held {
+    /// The files, lent.
+    fn lend(&self) -> LentFiles<'_>
+        ensures { result ≡ held_files self.now }
+    {
+        match self {
+            Held::Vectors(files) => LentFiles::in_vectors(files),
+            Held::Blocks(files) => LentFiles::in_blocks(files),
+        }
+    }
+
+    /// Mends the blocks of each file that lies in blocks.
+    fn mend(&mut self, rs: &[u8]) -> Result<(), AllocError>
+        requires { length rs.now ≤ 1 }
+        ensures same { files_of (held_files self.new) ≡ files_of (held_files self.old) }
+        ensures ready { OnOk result (IsReady rs.now (held_files self.new)) }
+    {
+        match self {
+            Held::Vectors(_) => Ok(()),
+            Held::Blocks(files) => mend_files(files, rs),
+        }
+    }
+}
+
 impl Input {
-    /// The input of these files, each a name and the blocks of its bytes. Takes no memory.
+    /// The input of these files, each a name and its bytes. Takes no memory and copies nothing. It
+    /// is ready for every separator.
     ///
     /// Gives `TooLarge` exactly where the files hold more than [`LIMIT`] bytes together; they are
     /// then given up.
-    pub fn new(files: Vec<(Vec<u8>, Blocks)>) -> Result<Input, TooLarge>
+    pub fn new(files: Vec<(Vec<u8>, Vec<u8>)>) -> Result<Input, TooLarge>
+        ensures files { IfOk result (λ input. files_of input ≡ whole_files files.items) }
+        ensures ready { IfOk result (λ input. (rs : List ℕ) → IsReady rs input) }
+        ensures limited { MatchResult result
+            (λ input. total_size (files_of input) ≤ most_bytes)
+            (λ _. most_bytes < total_size (whole_files files.items)) }
+    {
+        if are_limited(LentFiles::in_vectors(&files)) {
+            Ok(Input {
+                held: Held::Vectors(files),
+            })
+        } else {
+            Err(TooLarge)
+        }
+    }
+
+    /// The input of these files, each a name and the blocks of its bytes. Takes no memory and copies
+    /// nothing. It is ready for a separator once it was mended for it.
+    ///
+    /// Gives `TooLarge` exactly where the files hold more than [`LIMIT`] bytes together; they are
+    /// then given up.
+    pub fn from_blocks(files: Vec<(Vec<u8>, Blocks)>) -> Result<Input, TooLarge>
         ensures { MatchResult result
             (λ input. (input ≡ in_blocks files.items) × (total_size (files_of input) ≤ most_bytes))
             (λ _. most_bytes < total_size (files_of (in_blocks files.items))) }
     {
-        if are_limited(&files) {
-            Ok(Input { files })
+        if are_limited(LentFiles::in_blocks(&files)) {
+            Ok(Input {
+                held: Held::Blocks(files),
+            })
         } else {
             Err(TooLarge)
         }
@@ -94,13 +158,13 @@ impl Input {
     /// mends each file's blocks. Names and bytes stay as they are.
     ///
     /// An error comes where memory for bytes that go to another block was refused. No memory is
-    /// asked for where each file is one block.
+    /// asked for where each file is one vector or one block.
     pub fn mend(&mut self, rs: &[u8]) -> Result<(), AllocError>
         requires { length rs.now ≤ 1 }
         ensures same { files_of self.new ≡ files_of self.old }
         ensures ready { OnOk result (IsReady rs.now self.new) }
     {
-        mend_files(&mut self.files, rs)
+        self.held.mend(rs)
     }
 
     /// How many files there are.
@@ -108,7 +172,17 @@ impl Input {
         ensures count { result ≡ length (files_of self.now) }
         ensures limited { total_size (files_of self.now) ≤ most_bytes }
     {
-        self.files.len()
+        self.held.lend().len()
+    }
+
+    /// A file, by its place counted from 0.
+    fn file(&self, place: usize) -> LentFile<'_>
+        requires { place < length (files_of self.now) }
+        ensures value { file_of (lent_file result) ≡ file_at (files_of self.now) place }
+        ensures mended { (rs : List ℕ) → IsReady rs self.now → AreMended rs result.blocks }
+        ensures limited { total_size (files_of self.now) ≤ most_bytes }
+    {
+        self.held.lend().file(place)
     }
 
     /// The name of a file, by its place counted from 0.
@@ -116,7 +190,7 @@ impl Input {
         requires { file < length (files_of self.now) }
         ensures { result.now ≡ (file_at (files_of self.now) file).name }
     {
-        &self.files[file].0
+        self.file(file).name
     }
 
     /// How many bytes a file holds, by its place counted from 0.
@@ -124,17 +198,17 @@ impl Input {
         requires { file < length (files_of self.now) }
         ensures { result ≡ length (file_at (files_of self.now) file).bytes }
     {
-        self.files[file].1.size()
+        self.file(file).blocks.size()
     }
 
     /// The blocks of a file, by its place counted from 0.
-    pub(crate) fn blocks(&self, file: usize) -> &Blocks
+    pub(crate) fn blocks(&self, file: usize) -> LentBlocks<'_>
         requires { file < length (files_of self.now) }
-        ensures value { joined result.now ≡ (file_at (files_of self.now) file).bytes }
-        ensures mended { (rs : List ℕ) → IsReady rs self.now → AreMended rs result.now }
+        ensures value { joined result ≡ (file_at (files_of self.now) file).bytes }
+        ensures mended { (rs : List ℕ) → IsReady rs self.now → AreMended rs result }
         ensures limited { total_size (files_of self.now) ≤ most_bytes }
     {
-        &self.files[file].1
+        self.file(file).blocks
     }
 
     /// The records of all files in order, with their files and numbers. Takes no memory and copies
@@ -149,6 +223,6 @@ impl Input {
         ensures walk { items_left result ≡ items rs.now (files_of self.now) }
         ensures limited { total_size (files_of self.now) ≤ most_bytes }
     {
-        Records::of_files(Separator::of(rs), &self.files)
+        Records::of_files(Separator::of(rs), self.held.lend())
     }
 }

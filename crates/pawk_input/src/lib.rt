@@ -8,6 +8,7 @@ mod cutting;
 mod draft;
 mod files;
 mod item;
+mod lent;
 mod plan;
 mod walk;
 

@@ -55,7 +55,7 @@ impl Plan {
         let mut draft = Draft::new(alloc);
         for file in 0..input.files() {
             let blocks = input.blocks(file);
-            draft.add_by_size(file, blocks, rs, bytes)?;
+            draft.add_by_size(file, &blocks, rs, bytes)?;
         }
         Ok(Plan {
             chunks: draft.chunks,
@@ -91,7 +91,7 @@ impl Plan {
         for file in 0..input.files() {
             let blocks = input.blocks(file);
             let (here, later) = left.split_at(block_number(input.size(file), block));
-            draft.add_by_counts(file, blocks, rs, bytes, block, here)?;
+            draft.add_by_counts(file, &blocks, rs, bytes, block, here)?;
             left = later;
         }
         Ok(Plan {
@@ -130,7 +130,7 @@ impl Plan {
         for file in 0..input.files() {
             let (here, later) = left.split_at(cuts_in(file, left));
             let blocks = input.blocks(file);
-            draft.add_at_cuts(file, blocks, rs, here)?;
+            draft.add_at_cuts(file, &blocks, rs, here)?;
             left = later;
         }
         Ok(Plan {

@@ -4,12 +4,13 @@ ghost use Rattle.std.specs.Prelude.{◌≡◌, ℕ, ◌+◌, ◌^◌, ◌<◌, �
 ghost use Rattle.std.specs.Iterator.{YieldsFirstBy, item_count};
 ghost use Rattle.pawk_blocks.specs.Blocks.{joined};
 ghost use Rattle.pawk_records.specs.Separator.{rs_of};
-ghost use Rattle.pawk_input.specs.Input.{file_items, files_of, in_blocks, item_of, total_size};
+ghost use Rattle.pawk_input.specs.Input.{file_items, files_of, item_of, total_size};
 ghost use Rattle.pawk_input.specs.Walk.{block_records, items_in_blocks, items_left};
 ghost use Rattle.pawk_input.specs.Limits.{most_bytes};
 
 use crate::item::Item;
-use pawk_blocks::{Blocks, Pieces};
+use crate::lent::LentFiles;
+use pawk_blocks::Pieces;
 use pawk_records::Separator;
 use std::marker::Model;
 
@@ -23,7 +24,7 @@ pub struct Records<'a> {
     name: &'a [u8],
     nr: u64,
     fnr: u64,
-    later: &'a [(Vec<u8>, Blocks)],
+    later: LentFiles<'a>,
 }
 
 impl<'a> Model for Records<'a> {
@@ -31,35 +32,34 @@ impl<'a> Model for Records<'a> {
     ghost use Rattle.pawk_records.specs.Separator.{rs_of};
     ghost use Rattle.pawk_input.specs.Limits.{most_bytes};
     ghost use Rattle.pawk_blocks.specs.Blocks.{joined};
-    ghost use Rattle.pawk_input.specs.Input.{Item, files_of, in_blocks, total_size};
+    ghost use Rattle.pawk_input.specs.Input.{Item, files_of, total_size};
     ghost use Rattle.pawk_input.specs.Walk.{items_ahead};
 
     ghost Value = { List Item };
 
     ghost view = { λ r. items_ahead
         (rs_of r.separator) r.file r.name.now r.nr r.fnr (r.rest.now ∷ r.pieces)
-        (in_blocks r.later.now) };
+        r.later };
 
     ghost invariant = { λ r.
         (r.nr + length (items_ahead
-        (rs_of r.separator) r.file r.name.now r.nr r.fnr (r.rest.now ∷ r.pieces)
-        (in_blocks r.later.now))
+        (rs_of r.separator) r.file r.name.now r.nr r.fnr (r.rest.now ∷ r.pieces) r.later)
         ≤ most_bytes)
         × (r.fnr ≤ r.nr)
-        × (r.file + length r.later.now < 2 ^ 64)
+        × (r.file + length r.later < 2 ^ 64)
         × (length r.rest.now + length (joined r.pieces)
-        + total_size (files_of (in_blocks r.later.now)) ≤ most_bytes) };
+        + total_size (files_of r.later) ≤ most_bytes) };
 }
 
 impl<'a> Records<'a> {
     /// The records of all these files.
-    pub(crate) fn of_files(separator: Separator, files: &'a [(Vec<u8>, Blocks)]) -> Self
-        requires limited { total_size (files_of (in_blocks files.now)) ≤ most_bytes }
-        requires few { length files.now < 2 ^ 64 }
-        ensures { items_left result
-            ≡ items_in_blocks (rs_of separator) 0 0 (in_blocks files.entry.now) }
+    pub(crate) fn of_files(separator: Separator, files: LentFiles<'a>) -> Self
+        requires limited { total_size (files_of files) ≤ most_bytes }
+        requires few { length files < 2 ^ 64 }
+        ensures { items_left result ≡ items_in_blocks (rs_of separator) 0 0 files.entry }
     {
-        let Some((first, later)) = files.split_first() else {
+        let mut later = files;
+        let Some(first) = later.next_file() else {
             return Records {
                 separator,
                 rest: &[],
@@ -68,15 +68,15 @@ impl<'a> Records<'a> {
                 name: &[],
                 nr: 0,
                 fnr: 0,
-                later: &[],
+                later,
             };
         };
         Records {
             separator,
             rest: &[],
-            pieces: first.1.pieces(0, first.1.size()),
+            pieces: first.blocks.pieces(0, first.blocks.size()),
             file: 0,
-            name: &first.0,
+            name: first.name,
             nr: 0,
             fnr: 0,
             later,
@@ -107,7 +107,7 @@ impl<'a> Records<'a> {
             name,
             nr,
             fnr,
-            later: &[],
+            later: LentFiles::none(),
         }
     }
 }
@@ -138,13 +138,12 @@ impl<'a> Iterator for Records<'a> {
                 self.rest = piece;
                 continue;
             }
-            let (first, later) = self.later.split_first()?;
+            let first = self.later.next_file()?;
             self.rest = &[];
-            self.pieces = first.1.pieces(0, first.1.size());
-            self.name = &first.0;
+            self.pieces = first.blocks.pieces(0, first.blocks.size());
+            self.name = first.name;
             self.file += 1;
             self.fnr = 0;
-            self.later = later;
         }
     }
 }

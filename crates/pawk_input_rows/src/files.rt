@@ -1,6 +1,6 @@
 //! Rows about files, their records and blocks.
 
-ghost use Rattle.std.specs.Prelude.{◌≤◌, length};
+ghost use Rattle.std.specs.Prelude.{◌≤◌, length, IfOk, IfSome};
 ghost use Rattle.pawk_input.specs.Input.{IsReady};
 
 use crate::plans;
@@ -28,6 +28,9 @@ fn separator(alloc: Global, row: &[u8], first: usize) -> Result<Vec<u8>, AllocEr
 
 /// The blocks of a file, with a bar between them.
 fn blocks_of(alloc: Global, word: &[u8]) -> Result<Blocks, AllocError> {
+    if !word.contains(&b'|') {
+        return Blocks::whole(alloc, decode(alloc, word)?);
+    }
     let mut blocks = Vec::new(alloc);
     for block in word.split(|byte| *byte == b'|') {
         blocks.push(decode(alloc, block)?)?;
@@ -35,17 +38,73 @@ fn blocks_of(alloc: Global, word: &[u8]) -> Result<Blocks, AllocError> {
     Blocks::of(alloc, blocks)
 }
 
-/// The files of a row, from a cell on: names and blocks by turns.
-fn files_of(alloc: Global, row: &[u8], first: usize) -> Result<Vec<(Vec<u8>, Blocks)>, AllocError> {
+/// The files of a row, from a cell on: the cells of names and bytes by turns.
+fn files_of(alloc: Global, row: &[u8], first: usize) -> Result<Vec<(&[u8], &[u8])>, AllocError> {
     let mut files = Vec::new(alloc);
     let mut name = None;
     for word in row.split(|byte| *byte == b'\t').skip(first) {
         match name.take() {
-            None => name = Some(decode(alloc, word)?),
-            Some(name) => files.push((name, blocks_of(alloc, word)?))?,
+            None => name = Some(word),
+            Some(name) => files.push((name, word))?,
         }
     }
     Ok(files)
+}
+
+/// Whether a file of a row lies in blocks.
+fn has_blocks(files: &[(&[u8], &[u8])]) -> bool {
+    for file in files {
+        if file.1.contains(&b'|') {
+            return true;
+        }
+    }
+    false
+}
+
+/// The names and bytes of files.
+fn in_vectors(
+    alloc: Global,
+    files: &[(&[u8], &[u8])],
+) -> Result<Vec<(Vec<u8>, Vec<u8>)>, AllocError> {
+    let mut vectors = Vec::new(alloc);
+    for file in files {
+        let name = decode(alloc, file.0)?;
+        vectors.push((name, decode(alloc, file.1)?))?;
+    }
+    Ok(vectors)
+}
+
+/// The names of files, and their bytes in blocks.
+fn in_blocks(
+    alloc: Global,
+    files: &[(&[u8], &[u8])],
+) -> Result<Vec<(Vec<u8>, Blocks)>, AllocError> {
+    let mut blocks = Vec::new(alloc);
+    for file in files {
+        let name = decode(alloc, file.0)?;
+        blocks.push((name, blocks_of(alloc, file.1)?))?;
+    }
+    Ok(blocks)
+}
+
+/// The input of files that are ready for a separator: whole vectors where none lies in blocks.
+fn input_of(alloc: Global, files: &[(&[u8], &[u8])], rs: &[u8]) -> Result<Option<Input>, AllocError>
+    requires one_byte { length rs.now ≤ 1 }
+    ensures { IfOk result (λ found. IfSome found (λ input. IsReady rs.now input)) }
+{
+    if has_blocks(files) {
+        return match Input::from_blocks(in_blocks(alloc, files)?) {
+            Ok(mut input) => {
+                input.mend(rs)?;
+                Ok(Some(input))
+            }
+            Err(_) => Ok(None),
+        };
+    }
+    match Input::new(in_vectors(alloc, files)?) {
+        Ok(input) => Ok(Some(input)),
+        Err(_) => Ok(None),
+    }
 }
 
 /// Adds numbers with a blank between them, and a semicolon.
@@ -146,11 +205,9 @@ pub fn push_answer(alloc: Global, row: &[u8], out: &mut Vec<u8>) -> Result<(), A
     if rs.len() > 1 {
         return out.extend_from_slice(b"no such separator");
     }
-    let mut input = match Input::new(files_of(alloc, row, first)?) {
-        Ok(input) => input,
-        Err(_) => return out.extend_from_slice(b"too large"),
-    };
     let rs = rs.as_slice();
-    input.mend(rs)?;
-    push_on(alloc, row, rs, &input, out)
+    match input_of(alloc, &files_of(alloc, row, first)?, rs)? {
+        Some(input) => push_on(alloc, row, rs, &input, out),
+        None => out.extend_from_slice(b"too large"),
+    }
 }

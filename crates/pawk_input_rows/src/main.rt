@@ -1,8 +1,9 @@
 //! Reads rows from standard input, one a line, and answers each with a line: the records, fields and chunks of inputs.
 //!
 //! A row is a word and what it asks about, parted by tabs; in these a byte may be a backslash and three octal digits.
-//! `files` are a name and its bytes, and so on, with a bar between the blocks of a file; a place is a file's number and an offset, as `0:2`, and places are
-//! parted by commas.
+//! `files` are a name and its bytes, and so on, with a bar between the blocks of a file. Where no file of a row has a bar, the
+//! input is made of whole vectors, else of blocks that are mended. A place is a file's number and an offset, as `0:2`, and
+//! places are parted by commas.
 //!
 //! | row | answer |
 //! |---|---|

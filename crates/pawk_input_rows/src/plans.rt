@@ -4,7 +4,7 @@ ghost use Rattle.std.specs.Prelude.{◌≤◌, length};
 ghost use Rattle.pawk_input.specs.Input.{IsReady};
 
 use crate::files::{push_numbers, push_records};
-use pawk_input::{Blocks, CutRefusal, Input, Plan, TooLarge, count_blocks};
+use pawk_input::{CutRefusal, Input, Plan, TooLarge, count_blocks};
 use pawk_rows::{cell, number, piece, push_decimal};
 use std::alloc::{AllocError, Global};
 
@@ -127,22 +127,16 @@ pub fn push_at_cuts(
     push_plan(alloc, Plan::at(alloc, input, rs, cuts.as_slice()), out)
 }
 
-/// An input of one file without a name, of this many empty records.
-fn empty_records(alloc: Global, count: usize) -> Result<Option<Input>, AllocError> {
-    let mut files = Vec::new(alloc);
-    let blocks = Blocks::whole(alloc, vec![in alloc; b'\n'; count]?)?;
-    files.push((Vec::new(alloc), blocks))?;
-    Ok(Input::new(files).ok())
-}
-
 /// Adds how many chunks of a size a file of many empty records has.
 pub fn push_many(alloc: Global, row: &[u8], out: &mut Vec<u8>) -> Result<(), AllocError> {
     let size = number(cell(row, 2));
-    let mut input = match empty_records(alloc, number(cell(row, 1)) as usize)? {
-        Some(input) if size > 0 => input,
+    let count = number(cell(row, 1)) as usize;
+    let mut files = Vec::new(alloc);
+    files.push((Vec::new(alloc), vec![in alloc; b'\n'; count]?))?;
+    let input = match Input::new(files) {
+        Ok(input) if size > 0 => input,
         _ => return out.extend_from_slice(b"no such plan"),
     };
-    input.mend(b"\n")?;
     match Plan::by_size(alloc, &input, b"\n", size) {
         Ok(plan) => push_decimal(plan.len() as u64, out),
         Err(refusal) => push_refusal(alloc, refusal, out),

@@ -71,7 +71,8 @@ module _ {S T : Type 0} {t : Track S T} (eres : List (List ℕ)) (functions : Li
 
   goes_rules : (n : ℕ) (rules : List Rule) → AllowsRules t.pair.permits rules → Goes t Any (rules_from t.pair.first_calls eres functions n rules) (rules_from t.pair.second_calls eres functions n rules)
   goes_rules n [] may' = goes_plain (tt {0})
-  goes_rules n (r ∷ rs) may' = goes_bind (goes_selects n r.selector may'.0) (λ h _. goes_bind (goes_if h (goes_does r.body may'.1) (goes_plain (tt {0}))) (λ _ _. goes_rules (suc n) rs may'.2))
+  goes_rules n (r ∷ rs) may' =
+      goes_bind (goes_bind (goes_selects n r.selector may'.0) (λ h _. goes_if h (goes_does r.body may'.1) (goes_plain (tt {0})))) (λ _ _. goes_rules (suc n) rs may'.2)
 
 module _ {S T : Type 0} {t : Track S T} (eres : List (List ℕ)) (functions : List Function) (rules : List Rule) (may : AllowsMain t.pair.permits functions rules) where
   pub goes_record : (i : Item) → Goes t Any (one_record t.pair.first_calls eres functions rules i) (one_record t.pair.second_calls eres functions rules i)

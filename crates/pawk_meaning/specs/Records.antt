@@ -14,7 +14,7 @@ use Rattle.pawk_code.specs.Statements.{Stmts}
 use Rattle.pawk_code.specs.Programs.{Selector, always, matching, between, Rule, Function}
 use Rattle.pawk_input.specs.Input.{Item}
 use Rattle.pawk_meaning.specs.Limits.{greatest_calls}
-use Rattle.pawk_meaning.specs.Parts.{Outcome, gives, halts, Part, give, settle, bind, as_truth}
+use Rattle.pawk_meaning.specs.Parts.{Outcome, gives, halts, Moment, Part, give, settle, bind, as_truth}
 use Rattle.pawk_meaning.specs.Places.{text_at}
 use Rattle.pawk_meaning.specs.Meaning.{eval, execs, call_at}
 
@@ -51,10 +51,14 @@ module _ {S : Type 0} where
   end_of (gives x m) = record { world = m.world; state = m.state; output = m.output; left = through }
   end_of (halts h s state out) = end_of_halt h s state out
 
+  -- the moment at which a part begins that may take so many steps
+  abbrev pub opening_moment : ℕ → S → RecordState → List ℕ → Moment S
+  opening_moment budget s state out =
+      record { world = s; state = state; frame = []; arrays = []; output = out; left = budget }
+
   -- a part run from a world, a record state and an output, with so many steps
   abbrev pub run_part : {X : Type 0} → Part S X → ℕ → S → RecordState → List ℕ → End S
-  run_part part budget s state out =
-      end_of (part (record { world = s; state = state; frame = []; arrays = []; output = out; left = budget }))
+  run_part part budget s state out = end_of (part (opening_moment budget s state out))
 
   abbrev pub after_read : Option Fault → Part S (Unit {0})
   after_read None = give tt
@@ -90,11 +94,14 @@ module _ {S : Type 0} (calls : Calls S) (eres : List (List ℕ)) (functions : Li
   selects n (matching e) = holds e
   selects n (between p q) = bind (begins n p) (in_range n q)
 
+  -- the rule of this number, where it is for the record
+  abbrev pub does_rule : ℕ → Rule → Part S (Unit {0})
+  does_rule n r = bind (selects n r.selector) (λ h. if h then does r.body else give tt)
+
   -- the rules in order, of which the first has this number
   abbrev pub rules_from : ℕ → List Rule → Part S (Unit {0})
   rules_from n [] = give tt
-  rules_from n (r ∷ rs) =
-      bind (selects n r.selector) (λ h. bind (if h then does r.body else give tt) (λ _. rules_from (suc n) rs))
+  rules_from n (r ∷ rs) = bind (does_rule n r) (λ _. rules_from (suc n) rs)
 
   abbrev pub one_record : List Rule → Item → Part S (Unit {0})
   one_record rules i = bind (reads i) (λ _. rules_from 0 rules)

@@ -1,5 +1,5 @@
 -- Devices that bytes come from and go to.
-use Rattle.std.specs.Prelude.{◌≡◌, ℕ, ◌<◌, ◌≤◌, List, [], ◌∷◌, length, take, Option, IfSome}
+use Rattle.std.specs.Prelude.{◌≡◌, ℕ, ◌<◌, List, [], ◌∷◌, length, take, Option, IfSome}
 use Rattle.std.specs.Io.KnownBytes.{Keeps, Appends}
 use Rattle.pawk_input.specs.Input.{File}
 use Rattle.pawk_input.specs.declared.files.TheConstants.{LIMIT}
@@ -8,7 +8,6 @@ use Rattle.pawk_shape.specs.Program.{Shape, Spells}
 use Rattle.pawk_par.specs.Cutting.{IsRefused}
 use Rattle.pawk_sequence.specs.Outcome.{meaning}
 use Rattle.pawk_par.specs.Run.{route_over}
-use Rattle.pawk_par.specs.declared.cutting.Cutting.{Cutting}
 use Rattle.pawk_sequence.specs.declared.outcome.Ending.{Ending}
 use Rattle.pawk_par.specs.declared.report.Report.{Report}
 use Rattle.pawk_par.specs.declared.streaming.Request.{Request}

@@ -15,7 +15,7 @@ use crate::job::Job;
 use crate::report::{Refusal, Report};
 use crate::running::run;
 use pawk_device::{ReadStop, Sink, Source, read_all, write_all};
-use pawk_input::{Blocks, Input, TooLarge};
+use pawk_input::{Input, TooLarge};
 use pawk_sequence::Ending;
 use pawk_shape::{Assignment, Program, Settings, SettingsRefusal, SyntaxRefusal, parse};
 use pawk_worker::Gate;
@@ -86,11 +86,7 @@ fn nameless(alloc: Global, bytes: Vec<u8>) -> Result<Input, StreamRefusal>
     ensures refused { IfErr result (WhyUnread (Some bytes.items) 0 0) }
 {
     let mut files = Vec::new(alloc);
-    let blocks = match Blocks::whole(alloc, bytes) {
-        Ok(blocks) => blocks,
-        Err(_) => return Err(StreamRefusal::Memory),
-    };
-    if files.push((Vec::new(alloc), blocks)).is_err() {
+    if files.push((Vec::new(alloc), bytes)).is_err() {
         return Err(StreamRefusal::Memory);
     }
     match Input::new(files) {

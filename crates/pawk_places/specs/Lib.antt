@@ -1,2 +1,4 @@
 pub mod Yields
 pub mod Moments
+pub mod Ready
+pub mod Joined

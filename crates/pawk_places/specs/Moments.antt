@@ -1,5 +1,5 @@
 -- The moment that a world and a run show.
-use Rattle.std.specs.Prelude.{◌≡◌, ◌<◌, ℕ, List, map}
+use Rattle.std.specs.Prelude.{List, map}
 use Rattle.pawk_value.specs.Value.{shown, Uninit}
 use Rattle.pawk_store.specs.StateViews.{state_of}
 use Rattle.pawk_world.specs.Worlds as world

@@ -1,18 +1,28 @@
 //! What is done with whole arrays and with the keys of them.
 
-ghost use Rattle.std.specs.Prelude.{◌≡◌, ◌≤◌};
+ghost use Rattle.std.specs.Prelude.{◌≡◌, ◌≤◌, IfOk};
+ghost use Rattle.pawk_value.specs.Value.{lent_value};
+ghost use Rattle.pawk_array.specs.Texts.{AreWithin};
 ghost use Rattle.pawk_code.specs.ExpressionViews.{fields_view};
 ghost use Rattle.pawk_builtins.specs.ExpressionViews.{texts_of};
-ghost use Rattle.pawk_meaning.specs.Meaning.{pieces_of, split_into};
-ghost use Rattle.pawk_meaning.specs.Places.{clear_of, holds_in, keys_of, remove_in};
+ghost use Rattle.pawk_builtins.specs.Pieces.{pieces_in};
+ghost use Rattle.pawk_meaning.specs.Parts.{bind, settle};
+ghost use Rattle.pawk_meaning.specs.Meaning.{fill_from, pieces_of, split_into};
+ghost use Rattle.pawk_meaning.specs.Places.{clear_of, element_of, holds_in, keys_of};
+ghost use Rattle.pawk_meaning.specs.Places.{remove_in, write_at};
 ghost use Rattle.pawk_places.specs.Moments.{moment, table_view};
 ghost use Rattle.pawk_places.specs.Yields.{Yields};
 
+use crate::locals;
 use crate::run::Run;
+use crate::scalars::{FS, scalar_text};
 use crate::target::Table;
+use itoa::Buffer;
 use pawk_array::Texts;
 use pawk_code::expression::FieldsBy;
+use pawk_value::ValueRef;
 use pawk_world::{Halt, World};
+use std::ops::Range;
 
 /// What `split` separates by.
 #[derive(Clone, Copy)]
@@ -39,7 +49,11 @@ pub fn element_exists<W: World>(
         (holds_in W.calls (table_view table) key.now
         (moment (W.state world.old) run.old)) result (moment (W.state world.new) run.new) }
 {
-    Err(Halt::Memory)
+    match table {
+        Table::None => Ok(false),
+        Table::Global(slot) => world.holds(slot, key),
+        Table::Local(number) => { Ok(locals::element_exists(run.arrays.as_slice(), number, key)) }
+    }
 }
 
 /// Takes an element away, if it is there.
@@ -56,39 +70,119 @@ pub fn remove_element<W: World>(
         (remove_in W.calls (table_view table) key.now
         (moment (W.state world.old) run.old)) result (moment (W.state world.new) run.new) }
 {
-    Err(Halt::Memory)
+    match table {
+        Table::None => Ok(()),
+        Table::Global(slot) => world.remove(slot, key),
+        Table::Local(number) => {
+            locals::remove_element(&mut run.arrays, number, key);
+            Ok(())
+        }
+    }
 }
 
 /// Takes all elements away.
-pub fn clear_array<W: World>(
-    table: Table,
-    world: &mut W,
-    run: &mut Run<'_>,
-) -> Result<(), Halt>
+pub fn clear_array<W: World>(table: Table, world: &mut W, run: &mut Run<'_>) -> Result<(), Halt>
     ensures left { run.new.left ≤ run.old.left }
     ensures outcome { Yields (λ _. tt)
         (clear_of W.calls (table_view table)
         (moment (W.state world.old) run.old)) result (moment (W.state world.new) run.new) }
 {
-    Err(Halt::Memory)
+    match table {
+        Table::None => Ok(()),
+        Table::Global(slot) => world.clear(slot),
+        Table::Local(number) => {
+            locals::clear_array(&mut run.arrays, number);
+            Ok(())
+        }
+    }
 }
 
 /// All keys of an array, in the order of their bytes.
-pub fn array_keys<W: World>(
-    table: Table,
-    world: &mut W,
-    run: &mut Run<'_>,
-) -> Result<Texts, Halt>
+pub fn array_keys<W: World>(table: Table, world: &mut W, run: &mut Run<'_>) -> Result<Texts, Halt>
     ensures left { run.new.left ≤ run.old.left }
     ensures outcome { Yields (λ keys. keys)
         (keys_of W.calls (table_view table)
         (moment (W.state world.old) run.old)) result (moment (W.state world.new) run.new) }
 {
-    Err(Halt::Memory)
+    match table {
+        Table::None => Ok(Texts::new(run.alloc)),
+        Table::Global(slot) => world.keys(slot),
+        Table::Local(number) => Ok(locals::array_keys(run.alloc, run.arrays.as_slice(), number)?),
+    }
 }
 
-/// Empties an array, splits a text, and puts the pieces at the keys 1, 2 and so on. Gives how many there
-/// are.
+/// Gives an element of an array a value.
+fn set_element<W: World>(
+    table: Table,
+    key: &[u8],
+    value: ValueRef<'_>,
+    world: &mut W,
+    run: &mut Run<'_>,
+) -> Result<(), Halt>
+    ensures left { run.new.left ≤ run.old.left }
+    ensures outcome { Yields (λ _. tt)
+        (write_at W.calls (element_of (table_view table) key.now) (lent_value value.entry)
+        (moment (W.state world.old) run.old)) result (moment (W.state world.new) run.new) }
+{
+    match table {
+        Table::None => Ok(()),
+        Table::Global(slot) => world.set_element(slot, key, value),
+        Table::Local(number) => { Ok(locals::set_element(&mut run.arrays, number, key, value)?) }
+    }
+}
+
+/// Where the pieces of a text lie, by FS as it is now where that separates.
+fn find_pieces<W: World>(
+    separator: Separator<'_>,
+    text: &[u8],
+    world: &W,
+    run: &mut Run<'_>,
+) -> Result<Vec<Range<usize>>, Halt>
+    ensures left { run.new.left ≤ run.old.left }
+    ensures within { IfOk result (λ ranges. AreWithin text.now ranges.items) }
+    ensures outcome { Yields (λ ranges. pieces_in text.now ranges.items)
+        (bind (pieces_of W.calls (texts_of separator.entry.eres.now)
+        (fields_view separator.entry.by.now) separator.entry.text.now text.now) settle
+        (moment (W.state world.now) run.old)) result (moment (W.state world.now) run.new) }
+{
+    match separator.by {
+        FieldsBy::Fs => {
+            let mut buffer = Buffer::new();
+            let fs = scalar_text(FS, world, &mut buffer);
+            Ok(run.matchers.split_by(fs, text)?)
+        }
+        FieldsBy::Fixed(number) => {
+            Ok(run.matchers.split_between(separator.eres, *number, text)?)
+        }
+        FieldsBy::Value(_) => Ok(run.matchers.split_by(separator.text, text)?),
+    }
+}
+
+/// Puts the pieces of a text at the keys 1, 2 and so on.
+fn fill_array<W: World>(
+    table: Table,
+    text: &[u8],
+    pieces: &[Range<usize>],
+    world: &mut W,
+    run: &mut Run<'_>,
+) -> Result<(), Halt>
+    requires { AreWithin text.now pieces.now }
+    ensures left { run.new.left ≤ run.old.left }
+    ensures outcome { Yields (λ _. tt)
+        (fill_from W.calls (table_view table) 1 (pieces_in text.now pieces.now)
+        (moment (W.state world.old) run.old)) result (moment (W.state world.new) run.new) }
+{
+    for (index, piece) in pieces.iter().enumerate() {
+        let mut number = Buffer::new();
+        let key = number.format(index + 1).as_bytes();
+        let value = ValueRef::Maybe(&text[piece.start..piece.end]);
+        set_element(table, key, value, world, run)?;
+    }
+    Ok(())
+}
+
+/// Empties an array, splits a text, and puts the pieces at the keys 1, 2 and so on. Gives how many
+/// there are.
 ///
 /// Faults `fs` and `ere` of the separator come when the array is empty already.
 ///
@@ -107,5 +201,8 @@ pub fn split_into<W: World>(
         (fields_view separator.entry.by.now) separator.entry.text.now text.now)
         (moment (W.state world.old) run.old)) result (moment (W.state world.new) run.new) }
 {
-    Err(Halt::Memory)
+    clear_array(table, world, run)?;
+    let pieces = find_pieces(separator, text, world, run)?;
+    fill_array(table, text, pieces.as_slice(), world, run)?;
+    Ok(pieces.len() as i64)
 }

@@ -2,18 +2,82 @@
 
 ghost use Rattle.std.specs.Prelude.{◌≡◌, ◌≤◌, ◌++◌, OnOk};
 ghost use Rattle.pawk_value.specs.Held.{added, held_value};
+ghost use Rattle.pawk_value.specs.Value.{lent_value};
 ghost use Rattle.pawk_code.specs.ExpressionViews.{leaf_view};
-ghost use Rattle.pawk_meaning.specs.Parts.{as_number, as_text, as_truth, bind, settle};
+ghost use Rattle.pawk_store.specs.StateViews.{state_of};
+ghost use Rattle.pawk_meaning.specs.Parts.{as_number, as_text, as_truth, bind, local_at, settle};
 ghost use Rattle.pawk_meaning.specs.Builtins.{related};
+ghost use Rattle.pawk_meaning.specs.Builtins as builtins;
 ghost use Rattle.pawk_meaning.specs.Meaning.{value_of_leaf};
-ghost use Rattle.pawk_places.specs.Moments.{moment};
+ghost use Rattle.pawk_meaning.specs.Meaning as meaning;
+ghost use Rattle.pawk_places.specs.Moments.{holds_of, moment};
+ghost use Rattle.pawk_places.specs.Ready.{IsReady};
 ghost use Rattle.pawk_places.specs.Yields.{Yields};
 
-use crate::run::Run;
+use crate::run::{Parameter, Run};
 use pawk_code::leaf::Leaf;
 use pawk_code::word::Relation;
-use pawk_value::{Fault, Held};
+use pawk_store::RecordState;
+use pawk_value::{
+    Fault, Held, ValueRef, compare_lent, hold, lend, push_text_lent, to_num_lent, truth_lent,
+};
 use pawk_world::{Halt, World};
+use std::alloc::AllocError;
+use std::cmp::Ordering;
+
+/// Makes a leaf ready to be lent. The state stays.
+fn prepare_leaf(leaf: &Leaf, state: &mut RecordState<'_>) -> Result<(), AllocError>
+    ensures same { state_of state.new ≡ state_of state.old }
+    ensures more { state.old.line.found ≤ state.new.line.found }
+    ensures ready { OnOk result (IsReady leaf.now state.new) }
+{
+    match leaf {
+        Leaf::Special(variable) => state.prepare_special(*variable),
+        Leaf::Field(n) => state.line.prepare(*n),
+        Leaf::Number(_) | Leaf::Text(_) | Leaf::Global(_) | Leaf::Local(_) => Ok(()),
+    }
+}
+
+/// The value of a leaf, which is lent.
+fn lend_leaf<'a, W: World>(leaf: &'a Leaf, world: &'a W, run: &'a Run<'_>) -> ValueRef<'a>
+    requires { IsReady leaf.now run.now.state }
+    ensures { lent_value result ≡ meaning.leaf_value W.calls (leaf_view leaf.now)
+        (moment (W.state world.now) run.now) }
+{
+    match leaf {
+        Leaf::Number(number) => ValueRef::Num(*number),
+        Leaf::Text(text) => ValueRef::Text(text.as_slice()),
+        Leaf::Global(slot) => world.scalar(*slot),
+        Leaf::Local(number) => lend_parameter(run.frame.as_slice(), *number),
+        Leaf::Special(variable) => run.state.special(*variable),
+        Leaf::Field(n) => run.state.line.field(*n),
+    }
+}
+
+/// The value of a parameter, which is lent; none where there is no such parameter, or it is an
+/// array.
+pub(crate) fn lend_parameter(frame: &[Parameter], number: usize) -> ValueRef<'_>
+    ensures { lent_value result ≡ local_at (holds_of frame.now) number }
+{
+    match frame.get(number) {
+        Some(Parameter::Value(value)) => lend(value),
+        _ => ValueRef::Uninit,
+    }
+}
+
+/// Whether a comparison holds of things in this order.
+fn holds_for(relation: Relation, order: Ordering) -> bool
+    ensures { result ≡ builtins.holds_for relation order }
+{
+    match relation {
+        Relation::Less => order == Ordering::Less,
+        Relation::LessEqual => order != Ordering::Greater,
+        Relation::Equal => order == Ordering::Equal,
+        Relation::NotEqual => order != Ordering::Equal,
+        Relation::Greater => order == Ordering::Greater,
+        Relation::GreaterEqual => order != Ordering::Less,
+    }
+}
 
 /// The number of a leaf, or the fault of its conversion.
 pub fn leaf_number<W: World>(
@@ -26,7 +90,8 @@ pub fn leaf_number<W: World>(
         (as_number (value_of_leaf W.calls (leaf_view leaf.now))
         (moment (W.state world.now) run.old)) result (moment (W.state world.now) run.new) }
 {
-    Err(Halt::Memory)
+    prepare_leaf(leaf, &mut run.state)?;
+    Ok(to_num_lent(lend_leaf(leaf, world, run)))
 }
 
 /// The truth of a leaf, or the fault of its conversion.
@@ -40,7 +105,8 @@ pub fn leaf_truth<W: World>(
         (as_truth (value_of_leaf W.calls (leaf_view leaf.now))
         (moment (W.state world.now) run.old)) result (moment (W.state world.now) run.new) }
 {
-    Err(Halt::Memory)
+    prepare_leaf(leaf, &mut run.state)?;
+    Ok(truth_lent(lend_leaf(leaf, world, run)))
 }
 
 /// Appends the text of a leaf.
@@ -55,7 +121,9 @@ pub fn leaf_text<W: World>(
         (as_text out.old.items (value_of_leaf W.calls (leaf_view leaf.now))
         (moment (W.state world.now) run.old)) result (moment (W.state world.now) run.new) }
 {
-    Err(Halt::Memory)
+    prepare_leaf(leaf, &mut run.state)?;
+    push_text_lent(lend_leaf(leaf, world, run), out)?;
+    Ok(())
 }
 
 /// Lays down the value of a leaf: its bytes are appended to `out`.
@@ -72,7 +140,8 @@ pub fn leaf_value<W: World>(
         (value_of_leaf W.calls (leaf_view leaf.now)
         (moment (W.state world.now) run.old)) result (moment (W.state world.now) run.new) }
 {
-    Err(Halt::Memory)
+    prepare_leaf(leaf, &mut run.state)?;
+    Ok(hold(lend_leaf(leaf, world, run), out)?)
 }
 
 /// How two leaves compare. Nothing is copied.
@@ -91,5 +160,8 @@ pub fn compare_leaves<W: World>(
         bind (value_of_leaf W.calls (leaf_view right.now)) (λ y. settle (related relation x y)))
         (moment (W.state world.now) run.old)) result (moment (W.state world.now) run.new) }
 {
-    Err(Halt::Memory)
+    prepare_leaf(left, &mut run.state)?;
+    prepare_leaf(right, &mut run.state)?;
+    let order = compare_lent(lend_leaf(left, world, run), lend_leaf(right, world, run))?;
+    Ok(holds_for(relation, order))
 }

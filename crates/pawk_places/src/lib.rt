@@ -3,13 +3,15 @@
 
 mod arrays;
 mod leaves;
+mod locals;
 mod outputs;
 mod reading;
 mod run;
+mod scalars;
 mod target;
 mod writing;
 
-pub use arrays::{array_keys, clear_array, element_exists, remove_element, split_into, Separator};
+pub use arrays::{Separator, array_keys, clear_array, element_exists, remove_element, split_into};
 pub use leaves::{compare_leaves, leaf_number, leaf_text, leaf_truth, leaf_value};
 pub use outputs::{key_of_texts, print_bytes, print_line, tick};
 pub use reading::read_place;

@@ -7,23 +7,27 @@ ghost use Rattle.pawk_places.specs.Moments.{moment};
 ghost use Rattle.pawk_places.specs.Yields.{Yields};
 
 use crate::run::Run;
+use crate::scalars::{OFS, ORS, SUBSEP, push_joined, scalar_text};
+use itoa::Buffer;
 use pawk_array::Texts;
+use pawk_value::{Fault, LENGTH_LIMIT};
 use pawk_world::{Halt, World};
 
 /// One step of the budget.
 ///
 /// Fault `steps` where none is left.
-pub fn tick<W: World>(
-    world: &W,
-    run: &mut Run<'_>,
-) -> Result<(), Halt>
+pub fn tick<W: World>(world: &W, run: &mut Run<'_>) -> Result<(), Halt>
     ensures left { run.new.left ≤ run.old.left }
     ensures less { OnOk result (run.new.left < run.old.left) }
     ensures outcome { Yields (λ _. tt)
         (tick
         (moment (W.state world.now) run.old)) result (moment (W.state world.now) run.new) }
 {
-    Err(Halt::Memory)
+    if run.left == 0 {
+        return Err(Halt::Fault(Fault::Steps));
+    }
+    run.left -= 1;
+    Ok(())
 }
 
 /// The key that subscripts spell: several are joined by SUBSEP.
@@ -31,45 +35,56 @@ pub fn tick<W: World>(
 /// Fault `length` where it is longer than a text may be.
 ///
 /// POSIX.1-2017, awk, "Variables and Special Variables" (`SUBSEP`).
-pub fn key_of_texts<W: World>(
-    texts: &Texts,
-    world: &W,
-    run: &mut Run<'_>,
-) -> Result<Vec<u8>, Halt>
+pub fn key_of_texts<W: World>(texts: &Texts, world: &W, run: &mut Run<'_>) -> Result<Vec<u8>, Halt>
     ensures left { run.new.left ≤ run.old.left }
     ensures outcome { Yields (λ key. key.items)
         (key_of W.calls texts.now
         (moment (W.state world.now) run.old)) result (moment (W.state world.now) run.new) }
 {
-    Err(Halt::Memory)
+    let mut key = Vec::new(run.alloc);
+    if texts.len() == 0 {
+        return Ok(key);
+    }
+    if texts.len() == 1 {
+        key.extend_from_slice(texts.text(0))?;
+        return Ok(key);
+    }
+    let mut buffer = Buffer::new();
+    push_joined(texts, scalar_text(SUBSEP, world, &mut buffer), &mut key)?;
+    if key.len() > LENGTH_LIMIT {
+        return Err(Halt::Fault(Fault::Length));
+    }
+    Ok(key)
 }
 
 /// Prints texts with OFS between them and ORS behind.
 ///
 /// POSIX.1-2017, awk, "Output Statements" (`print`).
-pub fn print_line<W: World>(
-    texts: &Texts,
-    world: &W,
-    run: &mut Run<'_>,
-) -> Result<(), Halt>
+pub fn print_line<W: World>(texts: &Texts, world: &W, run: &mut Run<'_>) -> Result<(), Halt>
     ensures left { run.new.left ≤ run.old.left }
     ensures outcome { Yields (λ _. tt)
         (print_line W.calls texts.now
         (moment (W.state world.now) run.old)) result (moment (W.state world.now) run.new) }
 {
-    Err(Halt::Memory)
+    let mut between = Buffer::new();
+    let mut behind = Buffer::new();
+    push_joined(
+        texts,
+        scalar_text(OFS, world, &mut between),
+        &mut run.output,
+    )?;
+    run.output
+        .extend_from_slice(scalar_text(ORS, world, &mut behind))?;
+    Ok(())
 }
 
 /// Prints a text as it is.
-pub fn print_bytes<W: World>(
-    text: &[u8],
-    world: &W,
-    run: &mut Run<'_>,
-) -> Result<(), Halt>
+pub fn print_bytes<W: World>(text: &[u8], world: &W, run: &mut Run<'_>) -> Result<(), Halt>
     ensures left { run.new.left ≤ run.old.left }
     ensures outcome { Yields (λ _. tt)
         (print_text text.now
         (moment (W.state world.now) run.old)) result (moment (W.state world.now) run.new) }
 {
-    Err(Halt::Memory)
+    run.output.extend_from_slice(text)?;
+    Ok(())
 }

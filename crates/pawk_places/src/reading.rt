@@ -2,13 +2,17 @@
 
 ghost use Rattle.std.specs.Prelude.{◌≡◌, ◌≤◌, ◌++◌, OnOk};
 ghost use Rattle.pawk_value.specs.Held.{added, held_value};
-ghost use Rattle.pawk_meaning.specs.Places.{read_at, old_at};
+ghost use Rattle.pawk_meaning.specs.Parts.{as_number};
+ghost use Rattle.pawk_meaning.specs.Places.{cell, old_at, read_at};
+ghost use Rattle.pawk_world.specs.Worlds.{element};
 ghost use Rattle.pawk_places.specs.Moments.{aim_view, moment};
 ghost use Rattle.pawk_places.specs.Yields.{Yields};
 
+use crate::leaves::lend_parameter;
+use crate::locals;
 use crate::run::Run;
 use crate::target::Target;
-use pawk_value::Held;
+use pawk_value::{Fault, Held, hold, lend_held, to_num_lent};
 use pawk_world::{Halt, World};
 
 /// Lays down the value of a place, which creates an element: its bytes are appended to `out`.
@@ -27,5 +31,70 @@ pub fn read_place<W: World>(
         (read_at W.calls (aim_view target.now)
         (moment (W.state world.old) run.old)) result (moment (W.state world.new) run.new) }
 {
-    Err(Halt::Memory)
+    match target {
+        Target::Parameter(number) => {
+            Ok(hold(lend_parameter(run.frame.as_slice(), *number), out)?)
+        }
+        Target::Scalar(slot) => Ok(hold(world.scalar(*slot), out)?),
+        Target::Element(slot, key) => world.element(*slot, key.as_slice(), out),
+        Target::LocalElement(number, key) => Ok(locals::read_element(
+            &mut run.arrays,
+            *number,
+            key.as_slice(),
+            out,
+        )?),
+        Target::Field(n) => {
+            run.state.line.prepare(*n)?;
+            Ok(hold(run.state.line.field(*n), out)?)
+        }
+        Target::Nowhere => Ok(Held::Uninit),
+    }
+}
+
+/// The number of the old value of an element that is assigned, which is created.
+fn old_element_number<W: World>(
+    slot: usize,
+    key: &[u8],
+    world: &mut W,
+    run: &mut Run<'_>,
+) -> Result<Result<i64, Fault>, Halt>
+    ensures left { run.new.left ≤ run.old.left }
+    ensures outcome { Yields (λ number. number)
+        (as_number (old_at W.calls (cell (element slot key.now)))
+        (moment (W.state world.old) run.old)) result (moment (W.state world.new) run.new) }
+{
+    let mut bytes = Vec::new(run.alloc);
+    let held = world.old_element(slot, key, &mut bytes)?;
+    Ok(to_num_lent(lend_held(held, bytes.as_slice())))
+}
+
+/// The number of the old value of a place that is assigned, or the fault of its conversion. An
+/// element is created.
+pub(crate) fn old_number<W: World>(
+    target: &Target,
+    world: &mut W,
+    run: &mut Run<'_>,
+) -> Result<Result<i64, Fault>, Halt>
+    ensures left { run.new.left ≤ run.old.left }
+    ensures outcome { Yields (λ number. number)
+        (as_number (old_at W.calls (aim_view target.now))
+        (moment (W.state world.old) run.old)) result (moment (W.state world.new) run.new) }
+{
+    match target {
+        Target::Parameter(number) => {
+            Ok(to_num_lent(lend_parameter(run.frame.as_slice(), *number)))
+        }
+        Target::Scalar(slot) => Ok(to_num_lent(world.scalar(*slot))),
+        Target::Element(slot, key) => old_element_number(*slot, key.as_slice(), world, run),
+        Target::LocalElement(number, key) => Ok(locals::element_number(
+            &mut run.arrays,
+            *number,
+            key.as_slice(),
+        )?),
+        Target::Field(n) => {
+            run.state.line.prepare(*n)?;
+            Ok(to_num_lent(run.state.line.field(*n)))
+        }
+        Target::Nowhere => Ok(Ok(0)),
+    }
 }

@@ -1,8 +1,8 @@
 //! What a run of one record, or of BEGIN or END, has beside the globals.
 
-ghost use Rattle.std.specs.Prelude.{◌≡◌, IfOk};
-ghost use Rattle.pawk_meaning.specs.Parts.{entry_of};
-ghost use Rattle.pawk_places.specs.Moments.{holds_of};
+ghost use Rattle.std.specs.Prelude.{◌≡◌, ◌++◌, ◌∷◌, [], List, IfOk};
+ghost use Rattle.pawk_meaning.specs.Parts.{Hold, entry_of, with_locals};
+ghost use Rattle.pawk_places.specs.Moments.{hold_of, holds_of};
 
 use pawk_array::Array;
 use pawk_builtins::Matchers;
@@ -37,6 +37,22 @@ pub struct Run<'a> {
     pub matchers: Matchers,
 }
 
+/// A parameter that got no argument: a scalar without a value, or an empty array that is opened.
+fn open_local(alloc: Global, kind: Kind, arrays: &mut Vec<Array>) -> Result<Parameter, AllocError>
+    ensures { IfOk result (λ parameter. (front : List Hold) →
+        with_locals (kind ∷ []) (record { frame = front; arrays = arrays.old.items })
+        ≡ record { frame = front ++ hold_of parameter ∷ []; arrays = arrays.new.items }) }
+{
+    match kind {
+        Kind::Scalar => Ok(Parameter::Value(Value::Uninit)),
+        Kind::Array => {
+            let number = arrays.len();
+            arrays.push(Array::new(alloc))?;
+            Ok(Parameter::Local(number))
+        }
+    }
+}
+
 /// The parameters of a call: the arguments, and for each kind behind them a fresh one, a scalar
 /// without a value, or an empty array that is opened.
 ///
@@ -50,5 +66,13 @@ pub fn parameters(
     ensures { IfOk result (λ frame. entry_of kinds.now (holds_of arguments.items) arrays.old.items
         ≡ record { frame = holds_of frame.items; arrays = arrays.new.items }) }
 {
-    Err(AllocError)
+    let mut frame = arguments;
+    let given = frame.len();
+    if given < kinds.len() {
+        for kind in &kinds[given..] {
+            let parameter = open_local(alloc, *kind, arrays)?;
+            frame.push(parameter)?;
+        }
+    }
+    Ok(frame)
 }

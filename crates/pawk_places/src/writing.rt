@@ -1,18 +1,95 @@
 //! How places are changed.
 
-ghost use Rattle.std.specs.Prelude.{◌≡◌, ◌≤◌, ◌<◌, ◌^◌, IfSome};
+ghost use Rattle.std.specs.Prelude.{◌≡◌, ◌≤◌, ◌<◌, ◌^◌, IfSome, OnOk, slice_set};
 ghost use Rattle.pawk_value.specs.Value.{lent_value};
 ghost use Rattle.pawk_meaning.specs.Builtins.{Replaced};
 ghost use Rattle.pawk_meaning.specs.Meaning.{place_of_match, put_replaced, set_match};
-ghost use Rattle.pawk_meaning.specs.Places.{add_at, change_at, write_at};
-ghost use Rattle.pawk_places.specs.Moments.{aim_view, moment};
+ghost use Rattle.pawk_meaning.specs.Places.{add_at, change_at, field_value, write_at};
+ghost use Rattle.pawk_meaning.specs.Parts as parts;
+ghost use Rattle.pawk_world.specs.Sums as sums;
+ghost use Rattle.pawk_places.specs.Moments.{aim_view, hold_of, holds_of, moment};
 ghost use Rattle.pawk_places.specs.Yields.{Yields};
 
-use crate::run::Run;
+use crate::locals;
+use crate::reading::old_number;
+use crate::run::{Parameter, Run};
+use crate::scalars::{FS, OFS, scalar_text};
 use crate::target::Target;
+use itoa::Buffer;
 use pawk_code::word::Sign;
-use pawk_value::{Fault, Op, ValueRef};
+use pawk_value::{Fault, LENGTH_LIMIT, Op, ValueRef, arith, assign, copy_lent, text_in};
 use pawk_world::{Halt, World};
+use std::alloc::{AllocError, Global};
+
+/// Gives a parameter a value, in the room that it has for its text.
+fn assign_parameter(
+    alloc: Global,
+    parameter: &mut Parameter,
+    value: ValueRef<'_>,
+) -> Result<(), AllocError>
+    ensures { OnOk result (hold_of parameter.new ≡ parts.value (lent_value value.entry)) }
+{
+    match parameter {
+        Parameter::Value(old) => assign(alloc, old, value),
+        Parameter::Global(_) | Parameter::Local(_) => {
+            *parameter = Parameter::Value(copy_lent(alloc, value)?);
+            Ok(())
+        }
+    }
+}
+
+/// Gives the parameter of a number a value, if there is one.
+fn set_parameter(
+    alloc: Global,
+    frame: &mut Vec<Parameter>,
+    number: usize,
+    value: ValueRef<'_>,
+) -> Result<(), AllocError>
+    ensures { OnOk result (holds_of frame.new.items
+        ≡ slice_set (holds_of frame.old.items) number (parts.value (lent_value value.entry))) }
+{
+    if number < frame.len() {
+        assign_parameter(alloc, &mut frame[number], value)?;
+    }
+    Ok(())
+}
+
+/// Assigns a value to the record: its fields are those by FS as it is now.
+fn assign_record<W: World>(value: ValueRef<'_>, world: &W, run: &mut Run<'_>) -> Result<(), Halt>
+    ensures left { run.new.left ≤ run.old.left }
+    ensures outcome { Yields (λ _. tt)
+        (field_value W.calls 0 (lent_value value.entry)
+        (moment (W.state world.now) run.old)) result (moment (W.state world.now) run.new) }
+{
+    let mut number = Buffer::new();
+    let mut separator = Buffer::new();
+    let paragraph = run.state.is_paragraph();
+    let text = text_in(value, &mut number);
+    let fs = scalar_text(FS, world, &mut separator);
+    run.state.line.assign_text(text, fs, paragraph)?;
+    Ok(())
+}
+
+/// Assigns a value to the field with index `n`; 0 is the record.
+fn assign_field<W: World>(
+    n: usize,
+    value: ValueRef<'_>,
+    world: &W,
+    run: &mut Run<'_>,
+) -> Result<(), Halt>
+    ensures left { run.new.left ≤ run.old.left }
+    ensures outcome { Yields (λ _. tt)
+        (field_value W.calls n (lent_value value.entry)
+        (moment (W.state world.now) run.old)) result (moment (W.state world.now) run.new) }
+{
+    if n == 0 {
+        return assign_record(value, world, run);
+    }
+    let mut separator = Buffer::new();
+    let ofs = scalar_text(OFS, world, &mut separator);
+    run.state.line.assign_field(n, value, ofs)?;
+    Ok(())
+}
 
 /// Assigns a value to a place.
 ///
@@ -30,7 +107,21 @@ pub fn write_place<W: World>(
         (write_at W.calls (aim_view target.now) (lent_value value.entry)
         (moment (W.state world.old) run.old)) result (moment (W.state world.new) run.new) }
 {
-    Err(Halt::Memory)
+    match target {
+        Target::Parameter(number) => {
+            Ok(set_parameter(run.alloc, &mut run.frame, *number, value)?)
+        }
+        Target::Scalar(slot) => world.set_scalar(*slot, value),
+        Target::Element(slot, key) => world.set_element(*slot, key.as_slice(), value),
+        Target::LocalElement(number, key) => Ok(locals::set_element(
+            &mut run.arrays,
+            *number,
+            key.as_slice(),
+            value,
+        )?),
+        Target::Field(n) => assign_field(*n, value, world, run),
+        Target::Nowhere => Ok(()),
+    }
 }
 
 /// Changes a place by an operation with an amount, and gives the old number and the new one. The old
@@ -47,7 +138,22 @@ pub fn change_place<W: World>(
         (change_at W.calls op (aim_view target.now) amount
         (moment (W.state world.old) run.old)) result (moment (W.state world.new) run.new) }
 {
-    Err(Halt::Memory)
+    let number = old_number(target, world, run)?;
+    let old = number?;
+    let amount = amount?;
+    let new = arith(op, old, amount)?;
+    write_place(target, ValueRef::Num(new), world, run)?;
+    Ok((old, new))
+}
+
+/// The operation of a sign.
+fn op_of(sign: Sign) -> Op
+    ensures { result ≡ sums.op_of sign }
+{
+    match sign {
+        Sign::Plus => Op::Add,
+        Sign::Minus => Op::Subtract,
+    }
 }
 
 /// Adds an amount to a place, or takes it away, as [`change_place`] does; the value is dropped.
@@ -63,7 +169,14 @@ pub fn add_to_place<W: World>(
         (add_at W.calls sign (aim_view target.now) amount
         (moment (W.state world.old) run.old)) result (moment (W.state world.new) run.new) }
 {
-    Err(Halt::Memory)
+    match target {
+        Target::Scalar(slot) => world.add_scalar(*slot, sign, amount),
+        Target::Element(slot, key) => world.add_element(*slot, key.as_slice(), sign, amount),
+        _ => {
+            let _numbers = change_place(op_of(sign), target, amount, world, run)?;
+            Ok(())
+        }
+    }
 }
 
 /// Assigns to a place the text in which so many matches were replaced, if there are some, and gives how
@@ -85,7 +198,14 @@ pub fn put_text<W: World>(
         → Yields (λ number. number) (put_replaced W.calls (aim_view target.now) r
         (moment (W.state world.old) run.old)) result (moment (W.state world.new) run.new) }
 {
-    Err(Halt::Memory)
+    if count == 0 {
+        return Ok(0);
+    }
+    if text.len() > LENGTH_LIMIT {
+        return Err(Halt::Fault(Fault::Length));
+    }
+    write_place(target, ValueRef::Text(text), world, run)?;
+    Ok(count as i64)
 }
 
 /// Sets RSTART and RLENGTH to where a match is, and gives RSTART.
@@ -101,5 +221,14 @@ pub fn set_match_place<W: World>(
     ensures outcome { Yields (λ begin. begin) (set_match (place_of_match found)
         (moment (W.state world.now) run.old)) result (moment (W.state world.now) run.new) }
 {
-    Err(Halt::Memory)
+    let (begin, length) = match found {
+        Some((begin, end)) => (
+            (begin as i64).checked_add(1).ok_or(AllocError)?,
+            (end - begin) as i64,
+        ),
+        None => (0, -1),
+    };
+    run.state.rstart = begin;
+    run.state.rlength = length;
+    Ok(begin)
 }

@@ -69,6 +69,14 @@ prepared_by r n h = ⊎_elim (λ x. omega arith) (λ x. let all = none_more r x 
 pub all_found : (r : Inside) (most : ℕ) → length r.here.ranges.items < most → (most ≤ length r.here.ranges.items) ⊎ (r.next ≡ None) → length r.here.ranges.items ≡ length (record_of r).fields
 all_found r most few h = ⊎_elim (λ x. absurd (omega arith)) (λ x. sym (none_more r x)) h
 
+-- as many ranges were found as there are fields, where no more fields are
+pub count_found : (r : Inside) → length (record_of r).fields ≤ length r.here.ranges.items → length r.here.ranges.items ≡ length (record_of r).fields
+count_found r h =
+    let rs = r.here.ranges.items in
+    let more = map range_of (left r.splitter (text_of r) r.next) in
+    let long = length-values (text_of r) (rs ++ more) r.here.kinds.items in
+    omega (arith, long, length-append rs more)
+
 no_length : (rs : List (Range ℕ)) → length rs ≡ 0 → rs ≡ []
 no_length [] h = refl
 no_length (r ∷ rs) h = absurd (omega arith)

@@ -150,9 +150,19 @@ impl<'a> Record<'a> {
         ensures count { IfOk result (λ count. count ≡ length self.new.record_now.fields) }
         ensures same { self.new.record_now ≡ self.old.record_now }
         ensures ready { OnOk result (self.new.found ≡ length self.new.record_now.fields) }
+        ensures more { self.old.found ≤ self.new.found }
     {
         self.prepare_all()?;
         Ok(self.here.ranges.len())
+    }
+
+    /// How many fields there are (`NF`), where all were looked for.
+    #[inline]
+    pub fn prepared_count(&self) -> usize
+        requires { length self.now.record_now.fields ≤ self.now.found }
+        ensures { result ≡ length self.now.record_now.fields }
+    {
+        self.here.ranges.len()
     }
 
     /// Assigns a value to the field with index `n`, from 1 on. Past the last field there are uninitialised ones up to it.

@@ -7,12 +7,15 @@ use Rattle.pawk_resolve.specs.Scopes.{Scope, leaf_of, array_of}
 use Rattle.pawk_resolve.specs.Sorted.{nothing, numeral, unary_of, operation, binary_of, builtin_of, argument_of}
 
 module _ (s : Scope) where
+  -- an expression with no other inside; one between slashes that is no value stands in no checked program
+  abbrev pub resolved_small : Tree → Expr
+  resolved_small (tree.number n) = leaf (number (numeral n))
+  resolved_small (tree.string x) = leaf (text x)
+  resolved_small (tree.variable x) = leaf (leaf_of s x)
+  resolved_small t = nothing
+
   abbrev mutual
     pub resolved : Tree → Expr
-    resolved (tree.number n) = leaf (number (numeral n))
-    resolved (tree.string x) = leaf (text x)
-    resolved (tree.ere x) = nothing
-    resolved (tree.variable x) = leaf (leaf_of s x)
     resolved (tree.element x ts) = read (to_element (array_of s x) (resolved_all ts))
     resolved (tree.unary op a) = unary_of op (resolved a)
     resolved (tree.binary op a b) = binary_of s (operation op) (resolved a) b (resolved b)
@@ -20,6 +23,7 @@ module _ (s : Scope) where
     resolved (tree.member ts x) = test (member (array_of s x) (resolved_all ts))
     resolved (tree.call f ts) = call (slot s.globals.functions f) (resolved_arguments ts)
     resolved (tree.builtin f ts) = builtin_of s f ts (resolved_all ts)
+    resolved t = resolved_small t
 
     pub resolved_all : Trees → Exprs
     resolved_all tree.none = none

@@ -1,5 +1,5 @@
 -- The code of a program (POSIX.1-2017, awk, "Overall Program Structure").
-use Rattle.std.specs.Prelude.{ℕ, suc, Bool, not, ◌&&◌, if◌then◌else◌, List, [], ◌∷◌, ◌++◌, map, filter, codes}
+use Rattle.std.specs.Prelude.{ℕ, suc, Bool, not, ◌&&◌, if◌then◌else◌, List, [], ◌∷◌, ◌++◌, map, filter}
 use Rattle.std.specs.List.{flat_map}
 use Rattle.pawk_token.specs.Bytes.{Text}
 use Rattle.pawk_token.specs.Vocabulary.{is_among, is_run_variable}
@@ -10,16 +10,13 @@ use Rattle.pawk_syntax_uses.specs.Mentions.{Mention, array, scalar, target, argu
 use Rattle.pawk_syntax_kinds.specs.Demands.{Kinds}
 use Rattle.pawk_code.specs.declared.program.Kind.{Kind}
 use Rattle.pawk_code.specs.declared.program.Kind.TheVariants as kind
+use Rattle.pawk_code.specs.FirstSlots.{first_scalars}
 use Rattle.pawk_code.specs.Statements.{Stmts}
 use Rattle.pawk_code.specs.Programs.{Selector, always, matching, between, Rule, Function, Code}
 use Rattle.pawk_resolve.specs.Slots.{slot, with_texts, distinct}
 use Rattle.pawk_resolve.specs.Scopes.{Globals, Scope}
 use Rattle.pawk_resolve.specs.Resolved.{resolved}
 use Rattle.pawk_resolve.specs.ResolvedStatements.{resolved_body}
-
--- the scalars of the language that a program may assign have the first slots
-abbrev pub first_scalars : List Text
-first_scalars = codes "FS" ∷ codes "OFS" ∷ codes "ORS" ∷ codes "RS" ∷ codes "SUBSEP" ∷ codes "CONVFMT" ∷ codes "OFMT" ∷ []
 
 -- the name that is mentioned as a variable
 abbrev pub mentioned : Mention → List Text
@@ -106,21 +103,17 @@ abbrev pub functions_from : Globals → ℕ → List Part → List Function
 functions_from g n [] = []
 functions_from g n (p ∷ ps) = function_at g n p ++ functions_from g (suc n) ps
 
--- the place of each text among texts that may repeat it
-abbrev pub slots : List Text → List Text → List ℕ
-slots all xs = map (slot all) xs
-
-abbrev pub resolved_items : Globals → List Text → List Part → Code
-resolved_items g eres ps = record {
+abbrev pub resolved_items : Globals → List Part → Code
+resolved_items g ps = record {
   begins = flat_map (begin_of g) ps;
   rules = flat_map (rule_of g) ps;
   ends = flat_map (end_of g) ps;
   functions = functions_from g 1 ps;
   scalars = g.scalars;
   arrays = g.arrays;
-  expressions = slots eres g.expressions;
+  expressions = g.expressions;
 }
 
 -- the code of a program whose names have these kinds, and between whose slashes these expressions stand
 abbrev pub resolved_program : Kinds → List Text → List Part → Code
-resolved_program k eres ps = resolved_items (globals_of k eres ps) eres ps
+resolved_program k eres ps = resolved_items (globals_of k eres ps) ps

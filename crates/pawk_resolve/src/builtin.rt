@@ -6,9 +6,10 @@ ghost use Rattle.pawk_code.specs.ExpressionViews.{view, pattern_view, fields_vie
 ghost use Rattle.pawk_syntax_tree.specs.Tree.{view as tree_view};
 ghost use Rattle.pawk_resolve.specs.Sorted as spec;
 
+use crate::boxes::{pair, target};
 use crate::operation::Operation;
 use crate::scope::Scope;
-use crate::sorted::{join, nothing, place};
+use crate::sorted::{join, nothing};
 use pawk_code::expression::{
     Argument, Expr, FieldsBy, Numeric, NumericFunction, Pattern, Test, Textual,
 };
@@ -39,6 +40,22 @@ impl<'s, 't> Scope<'s, 't> {
             }
             _ => Ok(Pattern::Value(Box::new(alloc, e)?)),
         }
+    }
+
+    /// A code in a box, and a regular expression, whose tree and code are given.
+    fn matching(
+        &self,
+        alloc: Global,
+        a: Expr,
+        tree: &Tree,
+        b: Expr,
+    ) -> Result<(Box<Expr>, Pattern), AllocError>
+        ensures text { IfOk result (λ both. view both.0.value ≡ view a) }
+        ensures pattern { IfOk result (λ both. pattern_view both.1 ≡
+            spec.pattern_of (scope_view self.now) (tree_view tree.now) (view b)) }
+    {
+        let a = Box::new(alloc, a)?;
+        Ok((a, self.pattern(alloc, tree, b)?))
     }
 
     /// What `split` separates by.
@@ -95,32 +112,34 @@ impl<'s, 't> Scope<'s, 't> {
             spec.binary_of (scope_view self.now) operation (view a) (tree_view tree.now) (view b)) }
     {
         match operation {
-            Operation::Or => { Ok(Expr::Test(Test::Or(Box::new(alloc, a)?, Box::new(alloc, b)?))) }
+            Operation::Or => {
+                let (a, b) = pair(alloc, a, b)?;
+                Ok(Expr::Test(Test::Or(a, b)))
+            }
             Operation::And => {
-                Ok(Expr::Test(Test::And(Box::new(alloc, a)?, Box::new(alloc, b)?)))
+                let (a, b) = pair(alloc, a, b)?;
+                Ok(Expr::Test(Test::And(a, b)))
             }
             Operation::Match(holds) => {
-                let pattern = self.pattern(alloc, tree, b)?;
-                Ok(Expr::Test(Test::Match(holds, Box::new(alloc, a)?, pattern)))
+                let (a, pattern) = self.matching(alloc, a, tree, b)?;
+                Ok(Expr::Test(Test::Match(holds, a, pattern)))
             }
-            Operation::Compare(relation) => Ok(Expr::Test(Test::Compare(
-                relation,
-                Box::new(alloc, a)?,
-                Box::new(alloc, b)?,
-            ))),
+            Operation::Compare(relation) => {
+                let (a, b) = pair(alloc, a, b)?;
+                Ok(Expr::Test(Test::Compare(relation, a, b)))
+            }
             Operation::Join => join(alloc, a, b),
-            Operation::Arithmetic(op) => Ok(Expr::Numeric(Numeric::Arithmetic(
-                op,
-                Box::new(alloc, a)?,
-                Box::new(alloc, b)?,
-            ))),
+            Operation::Arithmetic(op) => {
+                let (a, b) = pair(alloc, a, b)?;
+                Ok(Expr::Numeric(Numeric::Arithmetic(op, a, b)))
+            }
             Operation::Assign => {
-                let to = place(alloc, a)?;
-                Ok(Expr::Assign(to, Box::new(alloc, b)?))
+                let (to, b) = target(alloc, a, b)?;
+                Ok(Expr::Assign(to, b))
             }
             Operation::Change(op) => {
-                let to = place(alloc, a)?;
-                Ok(Expr::Numeric(Numeric::Change(op, to, Box::new(alloc, b)?)))
+                let (to, b) = target(alloc, a, b)?;
+                Ok(Expr::Numeric(Numeric::Change(op, to, b)))
             }
         }
     }
@@ -138,21 +157,18 @@ impl<'s, 't> Scope<'s, 't> {
             function (view a) (tree_view tree.now) (view b)) }
     {
         match function {
-            Builtin::Index => Ok(Expr::Numeric(Numeric::Function(NumericFunction::Index(
-                Box::new(alloc, a)?,
-                Box::new(alloc, b)?,
-            )))),
-            Builtin::Substr => Ok(Expr::Textual(Textual::Suffix(
-                Box::new(alloc, a)?,
-                Box::new(alloc, b)?,
-            ))),
-            Builtin::Split => {
-                let array = self.array_named(tree);
-                Ok(Expr::Numeric(Numeric::Split(Box::new(alloc, a)?, array, FieldsBy::Fs)))
+            Builtin::Index => {
+                let (a, b) = pair(alloc, a, b)?;
+                Ok(Expr::Numeric(Numeric::Function(NumericFunction::Index(a, b))))
             }
+            Builtin::Substr => {
+                let (a, b) = pair(alloc, a, b)?;
+                Ok(Expr::Textual(Textual::Suffix(a, b)))
+            }
+            Builtin::Split => split(alloc, a, self.array_named(tree), FieldsBy::Fs),
             Builtin::Match => {
-                let pattern = self.pattern(alloc, tree, b)?;
-                Ok(Expr::Numeric(Numeric::Find(Box::new(alloc, a)?, pattern)))
+                let (a, pattern) = self.matching(alloc, a, tree, b)?;
+                Ok(Expr::Numeric(Numeric::Find(a, pattern)))
             }
             _ => Ok(nothing()),
         }
@@ -165,15 +181,31 @@ impl<'s, 't> Scope<'s, 't> {
         count: Count,
         first: Operand<'_>,
         text: Expr,
-        target: Expr,
+        to: Expr,
     ) -> Result<Expr, AllocError>
         ensures { IfOk result (λ all. view all ≡ code.numeric (code.replace count
             (spec.pattern_of (scope_view self.now) (tree_view first.entry.tree.now)
-            (view first.entry.code)) (view text) (spec.place_of (view target)))) }
+            (view first.entry.code)) (view text) (spec.place_of (view to)))) }
     {
         let pattern = self.pattern(alloc, first.tree, first.code)?;
-        let to = place(alloc, target)?;
-        Ok(Expr::Numeric(Numeric::Replace(count, pattern, Box::new(alloc, text)?, to)))
+        let (to, text) = target(alloc, to, text)?;
+        Ok(Expr::Numeric(Numeric::Replace(count, pattern, text, to)))
+    }
+
+    /// `split` of a text into an array, by what the third argument says.
+    fn split_by(
+        &self,
+        alloc: Global,
+        text: Expr,
+        array: Array,
+        by: Operand<'_>,
+    ) -> Result<Expr, AllocError>
+        ensures { IfOk result (λ all. view all ≡ code.numeric (code.split (view text) array
+            (spec.fields_of (scope_view self.now) (tree_view by.entry.tree.now)
+            (view by.entry.code)))) }
+    {
+        let by = self.fields_by(alloc, by.tree, by.code)?;
+        split(alloc, text, array, by)
     }
 
     /// A built-in function of three arguments, with their trees.
@@ -191,15 +223,10 @@ impl<'s, 't> Scope<'s, 't> {
             (tree_view third.entry.tree.now) (view third.entry.code)) }
     {
         match function {
-            Builtin::Substr => Ok(Expr::Textual(Textual::Substring(
-                Box::new(alloc, first.code)?,
-                Box::new(alloc, second.code)?,
-                Box::new(alloc, third.code)?,
-            ))),
+            Builtin::Substr => substring(alloc, first.code, second.code, third.code),
             Builtin::Split => {
                 let array = self.array_named(second.tree);
-                let by = self.fields_by(alloc, third.tree, third.code)?;
-                Ok(Expr::Numeric(Numeric::Split(Box::new(alloc, first.code)?, array, by)))
+                self.split_by(alloc, first.code, array, third)
             }
             Builtin::Sub => {
                 self.replacement(alloc, Count::First, first, second.code, third.code)
@@ -208,6 +235,23 @@ impl<'s, 't> Scope<'s, 't> {
             _ => Ok(nothing()),
         }
     }
+}
+
+/// `split` of a text into an array.
+fn split(alloc: Global, text: Expr, array: Array, by: FieldsBy) -> Result<Expr, AllocError>
+    ensures { IfOk result (λ all. view all ≡
+        code.numeric (code.split (view text) array (fields_view by))) }
+{
+    Ok(Expr::Numeric(Numeric::Split(Box::new(alloc, text)?, array, by)))
+}
+
+/// A part of a text, from a place on, of a length.
+fn substring(alloc: Global, text: Expr, from: Expr, length: Expr) -> Result<Expr, AllocError>
+    ensures { IfOk result (λ all. view all ≡
+        code.textual (code.substring (view text) (view from) (view length))) }
+{
+    let (text, from) = pair(alloc, text, from)?;
+    Ok(Expr::Textual(Textual::Substring(text, from, Box::new(alloc, length)?)))
 }
 
 /// A built-in function of one argument.

@@ -1,6 +1,6 @@
 //! Names by numbers.
 
-ghost use Rattle.std.specs.Prelude.{◌≡◌, ℕ, List, [], OnOk};
+ghost use Rattle.std.specs.Prelude.{◌≡◌, ◌++◌, ◌∷◌, ℕ, List, [], OnOk};
 ghost use Rattle.pawk_token.specs.Bytes.{Text};
 ghost use Rattle.pawk_resolve.specs.Slots as spec;
 ghost use Rattle.pawk_resolve.specs.Tables.{found, texts};
@@ -41,5 +41,31 @@ impl<'t> Table<'t> {
         ensures { result ≡ spec.slot (table_names self.now) name.now }
     {
         self.place(name).unwrap_or(0)
+    }
+
+    /// One more name. A name that is there already keeps its number.
+    pub fn push(&mut self, name: &'t [u8]) -> Result<(), AllocError>
+        ensures { OnOk result (table_names self.new ≡ table_names self.old ++ name.now ∷ []) }
+    {
+        if self.map.contains_key(name) {
+            self.names.push(name)?;
+            return Ok(());
+        }
+        let number = self.names.len();
+        self.names.reserve(1)?;
+        self.map.insert(name, number)?;
+        let _ = self.names.push(name);
+        Ok(())
+    }
+
+    /// A name, unless it is there.
+    pub fn add(&mut self, name: &'t [u8]) -> Result<(), AllocError>
+        ensures { OnOk result (table_names self.new ≡
+            spec.with_text (table_names self.old) name.now) }
+    {
+        if self.map.contains_key(name) {
+            return Ok(());
+        }
+        self.push(name)
     }
 }

@@ -1,5 +1,5 @@
 -- What a run keeps beside the globals (POSIX.1-2017, awk, "Variables and Special Variables").
-use Rattle.std.specs.Prelude.{ℕ, ℤ, suc, pos, negsuc, ◌<◌, ◌^◌, Bool, true, false, List, [], ◌∷◌, length, replicate, Option, Some, None}
+use Rattle.std.specs.Prelude.{ℕ, ℤ, suc, pos, negsuc, Bool, true, false, List, [], ◌∷◌, length, replicate, Option, Some, None}
 use Rattle.pawk_value.specs.Value.{Val, Uninit, Num, Maybe}
 use Rattle.pawk_code.specs.declared.leaf.Special.{Special}
 use Rattle.pawk_code.specs.declared.leaf.Special.TheVariants as special
@@ -55,9 +55,3 @@ special_value special.Fnr s = Num (pos s.fnr)
 special_value special.Filename s = s.name
 special_value special.Rstart s = Num s.rstart
 special_value special.Rlength s = Num s.rlength
-
--- what is counted is a number of the language
-pub record AreCounted (s : RecordState) : Type 0 where
-  pub records : s.nr < 2 ^ 63
-  pub of_file : s.fnr < 2 ^ 63
-  pub fields : length s.line.fields < 2 ^ 63

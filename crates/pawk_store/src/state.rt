@@ -1,19 +1,35 @@
 //! What a run keeps beside the globals.
 
-ghost use Rattle.std.specs.Prelude.{◌≡◌, ◌<◌, ◌+◌, ◌++◌, ◌^◌, IfOk, IfErr, OnOk, Some, None};
+ghost use Rattle.std.specs.Prelude.{◌≡◌, ◌<◌, ◌≤◌, ◌+◌, ◌^◌, IfOk, IfErr, OnOk, Some, None};
 ghost use Rattle.pawk_split.specs.FieldsOf.{IfFault};
 ghost use Rattle.pawk_input.specs.Input.{item_of};
 ghost use Rattle.pawk_record.specs.Records.{read};
-ghost use Rattle.pawk_value.specs.Held.{added, held_value};
 ghost use Rattle.pawk_value.specs.Value.{lent_value};
 ghost use Rattle.pawk_store.specs.RecordStates as spec;
-ghost use Rattle.pawk_store.specs.StateViews.{state_of};
+ghost use Rattle.pawk_store.specs.StateViews.{IsLendable, state_of};
 
 use pawk_code::leaf::Special;
 use pawk_input::Item;
 use pawk_record::Record;
-use pawk_value::{Held, Stop, ValueRef, hold};
+use pawk_value::{Stop, ValueRef};
 use std::alloc::{AllocError, Global};
+
+/// The count after one more record.
+fn next_count(count: u64) -> Result<u64, AllocError>
+    ensures { IfOk result (λ next. next ≡ count + 1) }
+{
+    count.checked_add(1).ok_or(AllocError)
+}
+
+/// Refuses what is no number of the language.
+fn check_number(count: u64) -> Result<(), AllocError>
+    ensures { OnOk result (count < 2 ^ 63) }
+{
+    if count > i64::MAX as u64 {
+        return Err(AllocError);
+    }
+    Ok(())
+}
 
 /// What a run keeps beside the globals (POSIX.1-2017, awk, "Variables and Special Variables").
 #[derive(Drop)]
@@ -71,33 +87,53 @@ impl<'a> RecordState<'a> {
     /// Reads a record: sets `NR`, `FNR`, `FILENAME`, `$0`, and the fields by this `FS`.
     ///
     /// Fault `fs` or `ere` where the record is not empty and `FS` is empty or no expression; the record
-    /// then has no fields.
+    /// then has no fields. Memory is refused also where 2^64 records were read, which no memory holds.
     pub fn read(&mut self, item: &Item<'a>, fs: &[u8]) -> Result<(), Stop>
-        requires counted { self.old.nr + 1 < 2 ^ 64 }
         ensures record { OnOk result
             (state_of self.new ≡ spec.with_item fs.now (item_of item.now) (state_of self.old)) }
+        ensures plain { OnOk result
+            ((read fs.now (spec.is_paragraph (state_of self.old)) (item_of item.now).bytes).1 ≡ None) }
         ensures fault { IfErr result (λ stop. IfFault stop (λ fault.
             (state_of self.new ≡ spec.with_item fs.now (item_of item.now) (state_of self.old))
             × ((read fs.now (spec.is_paragraph (state_of self.old)) (item_of item.now).bytes).1
             ≡ Some fault))) }
     {
         let paragraph = self.is_paragraph();
-        self.nr += 1;
+        self.nr = next_count(self.nr)?;
         self.fnr = item.fnr;
         self.name = Some(item.name);
         self.line.read(item.bytes, fs, paragraph)
     }
 
-    /// The value of a variable that the run sets, which is lent from the state.
-    fn lend_special(&mut self, variable: Special) -> Result<ValueRef<'a>, AllocError>
-        requires counted { spec.AreCounted (state_of self.old) }
-        ensures value { IfOk result
-            (λ v. lent_value v ≡ spec.special_value variable (state_of self.old)) }
+    /// Makes a variable that the run sets ready to be lent: looks for all fields where it is `NF`. The
+    /// state stays.
+    ///
+    /// Memory is refused also where it is 2^63 or more, which no memory holds.
+    pub fn prepare_special(&mut self, variable: Special) -> Result<(), AllocError>
         ensures same { state_of self.new ≡ state_of self.old }
+        ensures more { self.old.line.found ≤ self.new.line.found }
+        ensures ready { OnOk result (IsLendable variable self.new) }
     {
-        Ok(match variable {
+        match variable {
+            Special::Nr => check_number(self.nr),
+            Special::Nf => {
+                let count = self.line.count()?;
+                check_number(count as u64)
+            }
+            Special::Fnr => check_number(self.fnr),
+            Special::Filename | Special::Rstart | Special::Rlength => Ok(()),
+        }
+    }
+
+    /// The value of a variable that the run sets, which was made ready; it is lent from the state
+    /// (POSIX.1-2017, awk, "Variables and Special Variables").
+    pub fn special(&self, variable: Special) -> ValueRef<'_>
+        requires { IsLendable variable self.now }
+        ensures { lent_value result ≡ spec.special_value variable (state_of self.now) }
+    {
+        match variable {
             Special::Nr => ValueRef::Num(self.nr as i64),
-            Special::Nf => ValueRef::Num(self.line.count()? as i64),
+            Special::Nf => ValueRef::Num(self.line.prepared_count() as i64),
             Special::Fnr => ValueRef::Num(self.fnr as i64),
             Special::Filename => match self.name {
                 Some(name) => ValueRef::Maybe(name),
@@ -105,19 +141,6 @@ impl<'a> RecordState<'a> {
             },
             Special::Rstart => ValueRef::Num(self.rstart),
             Special::Rlength => ValueRef::Num(self.rlength),
-        })
-    }
-
-    /// Lays down the value of a variable that the run sets: the bytes of `FILENAME` are appended to
-    /// `out`. The state stays (POSIX.1-2017, awk, "Variables and Special Variables").
-    pub fn special(&mut self, variable: Special, out: &mut Vec<u8>) -> Result<Held, AllocError>
-        requires counted { spec.AreCounted (state_of self.old) }
-        ensures value { IfOk result (λ h. held_value h (added out.old.items out.new.items)
-            ≡ spec.special_value variable (state_of self.old)) }
-        ensures appended { OnOk result
-            (out.new.items ≡ out.old.items ++ added out.old.items out.new.items) }
-        ensures same { state_of self.new ≡ state_of self.old }
-    {
-        hold(self.lend_special(variable)?, out)
+        }
     }
 }

@@ -5,7 +5,7 @@ ghost use Rattle.pawk_par.specs.Cutting.{IsSized};
 ghost use Rattle.pawk_par.specs.Task.{IsCrew};
 
 use pawk_par::{
-    Blocks, Cutting, Ending, Gate, Input, Job, Outcome, Program, Refusal, Route, Settings, parse,
+    Cutting, Ending, Gate, Input, Job, Outcome, Program, Refusal, Route, Settings, parse,
     run,
 };
 use std::alloc::Global;
@@ -19,8 +19,7 @@ pub(crate) const SUM: &[u8] = b"{ n += $1 } END { print n }";
 /// An input of one file.
 pub(crate) fn one_file(alloc: Global, bytes: &[u8]) -> Result<Input, Fail> {
     let mut files = Vec::new(alloc);
-    let blocks = Blocks::whole(alloc, Vec::from_slice(alloc, bytes)?)?;
-    files.push((Vec::new(alloc), blocks))?;
+    files.push((Vec::new(alloc), Vec::from_slice(alloc, bytes)?))?;
     Ok(Input::new(files).map_err(|_| "too large")?)
 }
 

@@ -8,7 +8,7 @@ use Rattle.pawk_input.proofs.cuts.begins_record.Goals.{then-cut-first-via-then-c
 pub returns-then-cut-first : goal.returns-then-cut-first
 returns-then-cut-first c =
     let rs = c.args.rs.now in
-    let s = joined c.blocks-blocks.result.now in
+    let s = joined c.blocks-blocks.result in
     let same = ap length c.blocks-blocks.ensures.value in
     let h : IsBeginOrEnd rs s 0 c.begin_or_end-first.result = rw c.of-separator.ensures at c.begin_or_end-first.ensures in
     rw (← c.blocks-blocks.ensures.value) (sym (begins_outside rs s c.begin_or_end-first.result c.args.cut.1 h (elim c.then-cut-first.branch [
@@ -19,7 +19,7 @@ returns-then-cut-first c =
 pub returns : goal.returns
 returns c =
     let rs = c.args.rs.now in
-    let s = joined c.blocks-blocks.result.now in
+    let s = joined c.blocks-blocks.result in
     let same = ap length c.blocks-blocks.ensures.value in
     let h : IsBeginOrEnd rs s 0 c.begin_or_end-first.result = rw c.of-separator.ensures at c.begin_or_end-first.ensures in
     rw (← c.blocks-blocks.ensures.value) (rw c.of-separator.ensures at c.begins_at.ensures ∙ sym (begins_inside rs s c.begin_or_end-first.result c.args.cut.1 h (omega arith) (omega (arith, same))))

@@ -1,22 +1,8 @@
-use Rattle.std.proofs.Common.{◌≡◌, ◌<◌, length, ap, sym, ◌∙◌, arith}
-use Rattle.pawk_input.specs.Input.{File, file_at, file_of, files_of, named_blocks, in_blocks}
-use Rattle.pawk_input.proofs.ItemsLemmas.{Pair, length_held, held_at, length-file_at}
+use Rattle.std.proofs.Common.{ap, length, arith}
+use Rattle.pawk_input.specs.Input.{File, files_of}
+use Rattle.pawk_input.proofs.ItemsLemmas.{length-file_at}
 use Rattle.pawk_input.proofs.files.Input.size.Goals as goal
 
 pub size-requires : goal.size-requires
 size-requires c =
-    let pairs = c.self.inside.files.items in
-    let x = c.index.result.now in
-    let there : c.args.file < length pairs = omega (arith, c.requires, length_held pairs, ap (λ l. length (files_of l)) c.self.view_is) in
-    let at : file_at (files_of c.args.self.now) c.args.file ≡ file_of (named_blocks x) =
-    ap (λ l. file_at (files_of l) c.args.file) (sym c.self.view_is) ∙ held_at pairs c.args.file x there ∙ ap (λ (y : Pair). file_of (named_blocks y)) (sym c.index.ensures) in
-    omega (arith, length-file_at (files_of (in_blocks pairs)) c.args.file, c.self.invariant, ap (λ (f : File). length f.bytes) at, ap (λ l. length (file_at (files_of l) c.args.file).bytes) c.self.view_is)
-
-pub returns : goal.returns
-returns c =
-    let pairs = c.self.inside.files.items in
-    let x = c.index.result.now in
-    let there : c.args.file < length pairs = omega (arith, c.requires, length_held pairs, ap (λ l. length (files_of l)) c.self.view_is) in
-    let at : file_at (files_of c.args.self.now) c.args.file ≡ file_of (named_blocks x) =
-    ap (λ l. file_at (files_of l) c.args.file) (sym c.self.view_is) ∙ held_at pairs c.args.file x there ∙ ap (λ (y : Pair). file_of (named_blocks y)) (sym c.index.ensures) in
-    c.size.ensures ∙ ap (λ (f : File). length f.bytes) (sym at)
+    omega (arith, length-file_at (files_of c.args.self.now) c.args.file, c.file.ensures.limited, ap (λ (f : File). length f.bytes) c.file.ensures.value)

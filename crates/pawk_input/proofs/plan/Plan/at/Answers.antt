@@ -1,5 +1,4 @@
-use Rattle.std.proofs.Common.{◌≡◌, ◌+◌, ◌<◌, ◌≤◌, [], ◌++◌, length, take, drop, vec_len, refl, subst, ap, sym, ◌∙◌, arith, length-append}
-use Rattle.std.proofs.lemmas.List.{append-nil, drop_all}
+use Rattle.std.proofs.Common.{◌≡◌, ◌+◌, ◌<◌, ◌≤◌, ◌++◌, length, take, drop, vec_len, refl, ap, sym, ◌∙◌, arith, length-append}
 use Rattle.std.proofs.lemmas.Result.{err_from_is_err_and}
 use Rattle.std.specs.List.{prefix_len}
 use Rattle.pawk_blocks.specs.Blocks.{joined}
@@ -7,9 +6,9 @@ use Rattle.pawk_input.specs.Input.{files_of}
 use Rattle.pawk_input.specs.Limits.{most_chunks}
 use Rattle.pawk_records.specs.Records.{records_by}
 use Rattle.pawk_records.specs.Begins.{begins_by}
-use Rattle.pawk_input.specs.Plan.{IsPlanOf, chunks_at, cut_at, cut_places, offsets, chunks_of}
+use Rattle.pawk_input.specs.Plan.{chunks_at, cut_at, cut_places, offsets, chunks_of}
 use Rattle.pawk_records.proofs.BeginsLemmas.{length-records_by}
-use Rattle.pawk_input.proofs.PlanLemmas.{planned_next, planned_turn, total_size_next, is_plan}
+use Rattle.pawk_input.proofs.PlanLemmas.{planned_next, planned_turn, total_size_next, plan_at_end}
 use Rattle.pawk_input.proofs.DraftLemmas.{RefusesMany-longer}
 use Rattle.pawk_input.proofs.CutPlanLemmas.{is_here, FilesRise-from_start, FilesRise-later, offsets_first, offsets_here, offsets_later, cut_places-same, rises_at_cuts, picked_at_cuts}
 use Rattle.pawk_input.proofs.plan.Plan.at.Goals as goal
@@ -44,7 +43,7 @@ returns-in_err-add_at_cuts-clause-refused c =
     let cuts = c.args.cuts.now in
     let file = c.loop-file.file in
     let left = c.loop-file.left.now in
-    let bytes = joined c.blocks-blocks.result.now in
+    let bytes = joined c.blocks-blocks.result in
     let nr = c.loop-file.draft.nr in
     let old = c.loop-file.draft.chunks.items in
     let there : file < length files = omega arith in
@@ -67,7 +66,7 @@ loop-file-preserved c =
     let cuts = c.args.cuts.now in
     let file = c.loop-file.file in
     let left = c.loop-file.left.now in
-    let bytes = joined c.blocks-blocks.result.now in
+    let bytes = joined c.blocks-blocks.result in
     let nr = c.loop-file.draft.nr in
     let old = c.loop-file.draft.chunks.items in
     let there : file < length files = omega arith in
@@ -90,9 +89,4 @@ returns-clause-plan c =
     let rs = c.args.rs.now in
     let files = files_of c.args.input.now in
     let cuts = c.args.cuts.now in
-    let none : drop c.loop-file.file files ≡ [] = drop_all c.loop-file.file files (omega arith) in
-    let whole : c.loop-file.draft.chunks.items ≡ cut_at rs files cuts =
-    sym (append-nil c.loop-file.draft.chunks.items)
-    ∙ ap (λ l. c.loop-file.draft.chunks.items ++ chunks_of rs (cut_places cuts) c.loop-file.file c.loop-file.draft.nr l) (sym none)
-    ∙ c.loop-file.invariant.chunks in
-    subst (IsPlanOf rs files) (sym whole) (is_plan rs files (cut_places cuts) (picked_at_cuts rs files cuts c.in_ok-check_cuts.ensures))
+    plan_at_end rs files (cut_places cuts) (picked_at_cuts rs files cuts c.in_ok-check_cuts.ensures) c.loop-file.file c.loop-file.draft.nr c.loop-file.draft.chunks.items (omega arith) c.loop-file.invariant.chunks

@@ -1,35 +1,34 @@
-use Rattle.std.proofs.Common.{◌≡◌, ℕ, ◌<◌, List, [], ◌++◌, length, take, drop, subst, ap, sym, ◌∙◌, arith}
-use Rattle.std.proofs.lemmas.List.{append-nil, drop_all}
+use Rattle.std.proofs.Common.{◌≡◌, ℕ, ◌<◌, List, length, take, drop, ap, sym, ◌∙◌, arith}
 use Rattle.pawk_blocks.specs.Blocks.{joined}
 use Rattle.pawk_input.specs.Input.{file_at, files_of}
 use Rattle.pawk_input.specs.Counts.{blocks_of}
-use Rattle.pawk_input.specs.Plan.{IsPlanOf, chunks_of, sized, places_by_size}
+use Rattle.pawk_input.specs.Plan.{sized, places_by_size}
 use Rattle.pawk_records.proofs.BeginsLemmas.{length-records_by}
-use Rattle.pawk_input.proofs.PlanLemmas.{planned_turn, total_size_next, is_plan, picked_by_size}
+use Rattle.pawk_input.proofs.PlanLemmas.{planned_turn, total_size_next, plan_at_end, picked_by_size}
 use Rattle.pawk_input.proofs.CountLemmas.{enough_left, counts_here, counts_later}
 use Rattle.pawk_input.proofs.plan.Plan.by_counts.Goals as goal
 
 pub split_at-requires : goal.split_at-requires
 split_at-requires c =
-    let bytes = joined c.blocks-blocks.result.now in
+    let bytes = joined c.blocks-blocks.result in
     let block = c.args.block in
     let count : c.block_number.result ≡ blocks_of block (length bytes) (length bytes) = c.block_number.ensures ∙ ap (λ n. blocks_of block n n) (c.size.ensures ∙ ap length (sym c.blocks-blocks.ensures.value)) in
-    omega (arith, count, enough_left c.args.rs.now c.args.block c.requires.block (files_of c.args.input.now) c.loop-file.file (joined c.blocks-blocks.result.now) c.loop-file.left.now (omega arith) c.blocks-blocks.ensures.value c.loop-file.invariant.counts)
+    omega (arith, count, enough_left c.args.rs.now c.args.block c.requires.block (files_of c.args.input.now) c.loop-file.file (joined c.blocks-blocks.result) c.loop-file.left.now (omega arith) c.blocks-blocks.ensures.value c.loop-file.invariant.counts)
 
 pub add_by_counts-requires-clause-counts : goal.add_by_counts-requires-clause-counts
 add_by_counts-requires-clause-counts c =
-    let bytes = joined c.blocks-blocks.result.now in
+    let bytes = joined c.blocks-blocks.result in
     let block = c.args.block in
     let count : c.block_number.result ≡ blocks_of block (length bytes) (length bytes) = c.block_number.ensures ∙ ap (λ n. blocks_of block n n) (c.size.ensures ∙ ap length (sym c.blocks-blocks.ensures.value)) in
     c.split_at.ensures.front ∙ ap (λ n. take n c.loop-file.left.now) count
-    ∙ counts_here c.args.rs.now c.args.block c.requires.block (files_of c.args.input.now) c.loop-file.file (joined c.blocks-blocks.result.now) c.loop-file.left.now (omega arith) c.blocks-blocks.ensures.value c.loop-file.invariant.counts
+    ∙ counts_here c.args.rs.now c.args.block c.requires.block (files_of c.args.input.now) c.loop-file.file (joined c.blocks-blocks.result) c.loop-file.left.now (omega arith) c.blocks-blocks.ensures.value c.loop-file.invariant.counts
 
 pub loop-file-preserved : goal.loop-file-preserved
 loop-file-preserved c =
     let rs = c.args.rs.now in
     let files = files_of c.args.input.now in
     let file = c.loop-file.file in
-    let bytes = joined c.blocks-blocks.result.now in
+    let bytes = joined c.blocks-blocks.result in
     let block = c.args.block in
     let count : c.block_number.result ≡ blocks_of block (length bytes) (length bytes) = c.block_number.ensures ∙ ap (λ n. blocks_of block n n) (c.size.ensures ∙ ap length (sym c.blocks-blocks.ensures.value)) in
     let size = c.args.bytes in
@@ -49,10 +48,5 @@ returns-clause-plan c =
     let rs = c.args.rs.now in
     let files = files_of c.args.input.now in
     let size = c.args.bytes in
-    let chosen : ℕ → List ℕ → List ℕ = λ _ places. places_by_size size places in
-    let none : drop c.loop-file.file files ≡ [] = drop_all c.loop-file.file files (omega arith) in
-    let whole : c.loop-file.draft.chunks.items ≡ sized rs files size =
-    sym (append-nil c.loop-file.draft.chunks.items)
-    ∙ ap (λ l. c.loop-file.draft.chunks.items ++ chunks_of rs chosen c.loop-file.file c.loop-file.draft.nr l) (sym none)
-    ∙ c.loop-file.invariant.chunks in
-    subst (IsPlanOf rs files) (sym whole) (is_plan rs files chosen (λ j. picked_by_size rs size (file_at files j).bytes))
+    let picked = λ (j : ℕ). picked_by_size rs size (file_at files j).bytes in
+    plan_at_end rs files (λ _ places. places_by_size size places) picked c.loop-file.file c.loop-file.draft.nr c.loop-file.draft.chunks.items (omega arith) c.loop-file.invariant.chunks

@@ -2,7 +2,7 @@ use Rattle.std.proofs.Common.{◌≡◌, ◌+◌, ◌<◌, ◌≤◌, ◌^◌, �
 use Rattle.pawk_records.specs.Separator.{rs_of}
 use Rattle.pawk_blocks.specs.Blocks.{joined}
 use Rattle.pawk_input.specs.Limits.{most_bytes}
-use Rattle.pawk_input.specs.Input.{files_of, in_blocks, total_size}
+use Rattle.pawk_input.specs.Input.{files_of, total_size}
 use Rattle.pawk_input.specs.Walk.{items_ahead}
 use Rattle.pawk_input.proofs.ItemsLemmas.{turns}
 use Rattle.pawk_input.proofs.walk.RecordsIterator.next.Given as goal
@@ -12,13 +12,13 @@ invariant-loop-bytes l =
     let s = l.self-inside in
     let i = l.initial.self-inside in
     record {
-      same : items_ahead (rs_of s.separator) s.file s.name.now s.nr s.fnr (s.rest.now ∷ s.pieces) (in_blocks s.later.now)
-          ≡ items_ahead (rs_of i.separator) i.file i.name.now i.nr i.fnr (i.rest.now ∷ i.pieces) (in_blocks i.later.now);
-      counted : s.nr + length (items_ahead (rs_of s.separator) s.file s.name.now s.nr s.fnr (s.rest.now ∷ s.pieces) (in_blocks s.later.now)) ≤ most_bytes;
+      same : items_ahead (rs_of s.separator) s.file s.name.now s.nr s.fnr (s.rest.now ∷ s.pieces) s.later
+          ≡ items_ahead (rs_of i.separator) i.file i.name.now i.nr i.fnr (i.rest.now ∷ i.pieces) i.later;
+      counted : s.nr + length (items_ahead (rs_of s.separator) s.file s.name.now s.nr s.fnr (s.rest.now ∷ s.pieces) s.later) ≤ most_bytes;
       in_file : s.fnr ≤ s.nr;
-      few_files : s.file + length s.later.now < 2 ^ 64;
-      short : length s.rest.now + length (joined s.pieces) + total_size (files_of (in_blocks s.later.now)) ≤ most_bytes;
+      few_files : s.file + length s.later < 2 ^ 64;
+      short : length s.rest.now + length (joined s.pieces) + total_size (files_of s.later) ≤ most_bytes;
     }
 
 abbrev pub decreases-loop-bytes : goal.decreases-loop-bytes
-decreases-loop-bytes l = length l.self-inside.pieces + turns (in_blocks l.self-inside.later.now)
+decreases-loop-bytes l = length l.self-inside.pieces + turns l.self-inside.later

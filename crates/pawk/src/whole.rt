@@ -1,0 +1,105 @@
+//! Programs that are run on one thread.
+
+use crate::command_line::Request;
+use crate::files::{read_files, read_stream};
+use crate::reports::{End, Stop};
+use pawk_code::program::Code;
+use pawk_one::{Job, run_one};
+use pawk_par::Input;
+use pawk_resolve_program::program::resolve;
+use pawk_settings::{Settings, SettingsRefusal};
+use pawk_syntax::{Program, SyntaxRefusal, parse};
+use std::alloc::{AllocError, Global};
+use std::io::{Read, Write};
+use std::rt::Files;
+
+/// The program of a text.
+fn read_program(alloc: Global, text: &[u8]) -> Result<Program, Stop> {
+    match parse(alloc, text) {
+        Ok(program) => Ok(program),
+        Err(SyntaxRefusal::Memory) => Err(Stop::Memory),
+        Err(refusal) => Err(Stop::Program(refusal)),
+    }
+}
+
+/// A name and a value: a text is cut at its first `=`, and without one its name is empty.
+fn assignment(alloc: Global, text: &str) -> Result<(Vec<u8>, Vec<u8>), AllocError> {
+    let (name, value) = text.split_once('=').unwrap_or(("", text));
+    let name = Vec::from_slice(alloc, name.as_bytes())?;
+    Ok((name, Vec::from_slice(alloc, value.as_bytes())?))
+}
+
+/// What is assigned before the program runs: the values of `-v` in order, and then FS.
+fn assignments(
+    alloc: Global,
+    request: &Request<'_>,
+) -> Result<Vec<(Vec<u8>, Vec<u8>)>, AllocError> {
+    let mut pairs = Vec::new(alloc);
+    for text in &request.assignments {
+        pairs.push(assignment(alloc, *text)?)?;
+    }
+    if let Some(text) = request.separator {
+        let name = Vec::from_slice(alloc, b"FS")?;
+        pairs.push((name, Vec::from_slice(alloc, text.as_bytes())?))?;
+    }
+    Ok(pairs)
+}
+
+/// The settings of the run.
+fn read_settings(
+    alloc: Global,
+    request: &Request<'_>,
+    program: &Program,
+) -> Result<Settings, Stop> {
+    let pairs = assignments(alloc, request)?;
+    match Settings::new(alloc, program.tree(), pairs.as_slice(), request.steps) {
+        Ok(settings) => Ok(settings),
+        Err(SettingsRefusal::Memory) => Err(Stop::Memory),
+        Err(refusal) => Err(Stop::Settings(refusal.number())),
+    }
+}
+
+/// The input: the files that were named, or standard input; nothing is read where no record is.
+fn open_input<R: Files + AllocGlobal, I: Read + Drop>(
+    rt: &R,
+    request: &Request<'_>,
+    code: &Code,
+    input: I,
+) -> Result<Input, Stop> {
+    if code.rules.is_empty() && code.ends.is_empty() {
+        return read_files(rt, &[]);
+    }
+    if request.files.is_empty() {
+        return read_stream(rt.alloc(), input);
+    }
+    read_files(rt, &request.files)
+}
+
+/// Runs the program of this text on one thread, and writes its output.
+pub(crate) fn run_whole<R, I, O>(
+    rt: &R,
+    request: &Request<'_>,
+    text: &[u8],
+    input: I,
+    output: &mut O,
+) -> Result<End, Stop>
+where
+    R: Files + AllocGlobal,
+    I: Read + Drop,
+    O: Write,
+{
+    let alloc = rt.alloc();
+    let program = read_program(alloc, text)?;
+    let settings = read_settings(alloc, request, &program)?;
+    let code = resolve(alloc, &program)?;
+    let mut input = open_input(rt, request, &code, input)?;
+    let job = Job {
+        code: &code,
+        budget: settings.budget(),
+    };
+    let outcome = run_one(alloc, job, settings.assignments(), &mut input)?;
+    if output.write_all(&outcome.output).is_err() {
+        return Err(Stop::Write);
+    }
+    End::of_one(outcome.ending, &code)
+}

@@ -1,0 +1,57 @@
+use Rattle.std.proofs.Common.{◌++◌, ◌∙◌, ap, ℕ, Option, IfSome, sym, subst, arith}
+use Rattle.std.proofs.lemmas.List.{take_rest}
+use Rattle.pawk_ere.specs.Answers.{IsFor}
+use Rattle.pawk_code.specs.declared.word.Count.TheVariants.{All}
+use Rattle.pawk_meaning.specs.Builtins.{replaced}
+use Rattle.pawk_builtins.specs.ReplaceWalks.{IsAhead, IsNextReplaced}
+use Rattle.pawk_builtins.proofs.ReplaceLemmas.{laid_step, laid_all, count_more, count_within}
+use Rattle.pawk_builtins.proofs.replace.replace_all.Goals as goal
+
+pub overflow_add-count : goal.overflow_add-count
+overflow_add-count c =
+    let i = c.loop-found.invariant in
+    let text = c.args.text.now in
+    let e = c.requires.matcher.0 in
+    let for = c.requires.matcher.1 in
+    let next = subst (λ (o : Option (ℕ × ℕ)). IsNextReplaced e text c.loop-found.from c.loop-found.behind o) c.in-Some.is (c.in_ok-found.ensures.found e (subst (IsFor e) (sym i.matcher) for)) in
+    let few = count_more e c.args.replacement.now text c.loop-found.out.items c.loop-found.place c.loop-found.from c.loop-found.count c.loop-found.behind c.in-Some.found (i.laid e for) next in
+    let short = c.requires.short in
+    omega arith
+
+pub loop-found-preserved : goal.loop-found-preserved
+loop-found-preserved c =
+    let i = c.loop-found.invariant in
+    let text = c.args.text.now in
+    let r = c.args.replacement.now in
+    let ahead = subst (λ (o : Option (ℕ × ℕ)). IfSome o (IsAhead text c.loop-found.from c.loop-found.behind)) c.in-Some.is c.in_ok-found.ensures.ahead in
+    record {
+      matcher = c.next_match.ensures.matcher ∙ i.matcher;
+      ordered = c.place_behind.ensures.within.0;
+      high = c.place_behind.ensures.within.1;
+      laid = λ e for.
+          let next = subst (λ (o : Option (ℕ × ℕ)). IsNextReplaced e text c.loop-found.from c.loop-found.behind o) c.in-Some.is (c.in_ok-found.ensures.found e (subst (IsFor e) (sym i.matcher) for)) in
+          laid_step e r text (replaced All e r text) c.loop-found.out.items c.loop-found.place c.loop-found.from c.loop-found.count c.loop-found.behind c.in-Some.found
+          c.push_match.new.out.items c.place_behind.result i.ordered ahead (i.laid e for) next c.in_ok-push_match.ensures c.place_behind.ensures.place;
+    }
+
+pub returns-in_ok-extend_from_slice-clause-text : goal.returns-in_ok-extend_from_slice-clause-text
+returns-in_ok-extend_from_slice-clause-text c = λ e for.
+    let i = c.loop-found.invariant in
+    let text = c.args.text.now in
+    let r = c.args.replacement.now in
+    let out = c.loop-found.out.items in
+    let next = subst (λ (o : Option (ℕ × ℕ)). IsNextReplaced e text c.loop-found.from c.loop-found.behind o) c.in_default.is (c.in_ok-found.ensures.found e (subst (IsFor e) (sym i.matcher) for)) in
+    let all = laid_all e r text (replaced All e r text) out c.loop-found.place c.loop-found.from c.loop-found.count c.loop-found.behind i.ordered (i.laid e for) next in
+    (all.0, λ h. all.1 ∙ (ap (λ t. out ++ t) (sym (take_rest text c.loop-found.place)) ∙ sym c.in_ok-extend_from_slice.ensures.items))
+
+pub returns-in_ok-extend_from_slice-clause-few : goal.returns-in_ok-extend_from_slice-clause-few
+returns-in_ok-extend_from_slice-clause-few c =
+    let i = c.loop-found.invariant in
+    let text = c.args.text.now in
+    let r = c.args.replacement.now in
+    let e = c.requires.matcher.0 in
+    let for = c.requires.matcher.1 in
+    let all = (i.laid e for).number in
+    let most = count_within e r text in
+    let short = c.requires.short in
+    omega arith

@@ -1,0 +1,32 @@
+-- What the matchers of a run keep, and what one of them answers.
+use Rattle.std.specs.Prelude.{◌≡◌, ℕ, List, Option, Ok, IfSome, length, ◌≤◌}
+use Rattle.std.specs.List.{All}
+use Rattle.std.specs.declared.ops.Range.{Range}
+use Rattle.pawk_ere.specs.Kept.{IsOfItsText}
+use Rattle.pawk_ere.specs.declared.loan.Loan.{Loan}
+use Rattle.pawk_pattern.specs.Pattern.{Pattern}
+use Rattle.pawk_pattern.specs.Tokens.{SpellsEre}
+use Rattle.pawk_code.specs.declared.word.Count.{Count}
+use Rattle.pawk_meaning.specs.Builtins.{replaced, pieces_between}
+use Rattle.pawk_builtins.specs.Pieces.{pieces_in}
+use Rattle.pawk_builtins.specs.Replaces.{Left}
+
+-- each matcher that is there is one of its text
+abbrev pub AreOfTheirTexts : List (Option Loan) → Type 0
+AreOfTheirTexts slots = All (λ slot. IfSome slot IsOfItsText) slots
+
+-- so many matches of the expression that the bytes spell were replaced, and where there is one, the text is this
+pub record IsReplaced (bytes : List ℕ) (count : Count) (r s out : List ℕ) (n : ℕ) : Type 0 where
+  pub pattern : Pattern
+  pub spelled : SpellsEre bytes pattern
+  pub left : Left out n (Ok (replaced count pattern r s))
+
+-- the ranges are those of the pieces between the matches of the expression that the bytes spell
+pub record AreBetweenMatches (bytes s : List ℕ) (ranges : List (Range ℕ)) : Type 0 where
+  pub pattern : Pattern
+  pub spelled : SpellsEre bytes pattern
+  pub pieces : pieces_between (Ok pattern) s ≡ Ok (pieces_in s ranges)
+
+-- ranges within a text
+abbrev pub AreInside : List ℕ → List (Range ℕ) → Type 0
+AreInside s ranges = All (λ r. (r.start ≤ r.end) × (r.end ≤ length s)) ranges

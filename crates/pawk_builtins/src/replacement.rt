@@ -1,0 +1,73 @@
+//! What stands for a match.
+
+ghost use Rattle.std.specs.Prelude.{◌≡◌, ◌≤◌, ◌∷◌, ◌++◌, ℕ, List, true, length, IfOk, OnOk};
+ghost use Rattle.pawk_meaning.specs.Builtins as spec;
+ghost use Rattle.pawk_builtins.specs.ReplaceWalks.{begins_escaped};
+
+use memchr::memchr2;
+use std::alloc::AllocError;
+
+/// Whether bytes begin with one that a backslash before it makes one of the text.
+fn is_escaped(rest: &[u8]) -> bool
+    ensures { result ≡ begins_escaped rest.now }
+{
+    match rest.first() {
+        Some(byte) => *byte == b'&' || *byte == b'\\',
+        None => false,
+    }
+}
+
+/// Appends what the first byte of a replacement stands for, with the byte behind a backslash; gives
+/// the rest of the replacement.
+fn push_unit<'r>(
+    out: &mut Vec<u8>,
+    found: &[u8],
+    first: u8,
+    rest: &'r [u8],
+) -> Result<&'r [u8], AllocError>
+    ensures text { IfOk result (λ left. out.new.items ++ spec.replacement found.now left.now
+        ≡ out.old.items ++ spec.replacement found.now (first ∷ rest.now)) }
+    ensures shorter { IfOk result (λ left. length left.now ≤ length rest.now) }
+{
+    if first == b'&' {
+        out.extend_from_slice(found)?;
+        return Ok(rest);
+    }
+    if first == b'\\' && is_escaped(rest) {
+        out.push(rest[0])?;
+        return Ok(&rest[1..]);
+    }
+    out.push(first)?;
+    Ok(rest)
+}
+
+/// Whether each byte of a replacement stands for itself.
+fn is_plain(replacement: &[u8]) -> bool
+    ensures { (found : List ℕ) → result ≡ true → spec.replacement found replacement.now ≡ replacement.now }
+{
+    match memchr2(b'&', b'\\', replacement) {
+        Some(_) => false,
+        None => true,
+    }
+}
+
+/// Appends what stands for a match.
+///
+/// POSIX.1-2017, awk, "String Functions" (`sub`).
+pub(crate) fn push_replacement(
+    out: &mut Vec<u8>,
+    found: &[u8],
+    replacement: &[u8],
+) -> Result<(), AllocError>
+    ensures { OnOk result (out.new.items
+        ≡ out.old.items ++ spec.replacement found.now replacement.now) }
+{
+    if is_plain(replacement) {
+        return out.extend_from_slice(replacement);
+    }
+    let mut rest = replacement;
+    while !rest.is_empty() {
+        rest = push_unit(out, found, rest[0], &rest[1..])?;
+    }
+    Ok(())
+}

@@ -1,0 +1,16 @@
+//! Runs of one thread: one record, the actions of BEGIN and END, and a whole run.
+#![tactic(auto)]
+
+mod ending;
+mod left;
+mod limits;
+mod outcome;
+mod part;
+mod rules;
+mod whole;
+
+pub use ending::{Ending, Place};
+pub use left::Left;
+pub use outcome::{Outcome, run_one};
+pub use part::{actions, record};
+pub use whole::{Job, run_program};

@@ -1,0 +1,71 @@
+//! Runs of one thread.
+
+ghost use Rattle.std.specs.Prelude.{◌≡◌, [], length, IfOk};
+ghost use Rattle.pawk_code.specs.ProgramViews.{code_view};
+ghost use Rattle.pawk_input.specs.Input.{files_of};
+ghost use Rattle.pawk_store.specs.Globals.{calls};
+ghost use Rattle.pawk_store.specs.Openings.{opened, pairs_of};
+ghost use Rattle.pawk_store.specs.RecordStates.{opening};
+ghost use Rattle.pawk_store.specs.StateViews.{state_of};
+ghost use Rattle.pawk_meaning.specs.Runs as spec;
+ghost use Rattle.pawk_one.specs.Ends.{Answers};
+
+use crate::ending::Ending;
+use crate::whole::{Job, run_program};
+use pawk_builtins::Matchers;
+use pawk_input::Input;
+use pawk_places::Run;
+use pawk_settings::Assignment;
+use pawk_store::{Globals, RecordState};
+use std::alloc::{AllocError, Global};
+
+/// What a run leaves.
+#[derive(Drop)]
+pub struct Outcome {
+    pub output: Vec<u8>,
+    pub globals: Globals,
+    pub ending: Ending,
+}
+
+/// What a run begins with: no output, no record.
+fn opening_run<'a>(alloc: Global, job: Job<'_>) -> Result<Run<'a>, AllocError>
+    ensures { IfOk result (λ run. (run.output.items ≡ [])
+        × (state_of run.state ≡ opening (length (code_view job.entry.code.now).rules))) }
+{
+    Ok(Run {
+        alloc,
+        state: RecordState::new(alloc, job.code.rules.len())?,
+        frame: Vec::new(alloc),
+        arrays: Vec::new(alloc),
+        output: Vec::new(alloc),
+        left: job.budget,
+        matchers: Matchers::new(alloc, job.code.expressions.len())?,
+    })
+}
+
+/// Runs a program on one thread, with these assignments made before.
+///
+/// POSIX.1-2017, awk, "Overall Program Structure".
+pub fn run_one(
+    alloc: Global,
+    job: Job<'_>,
+    assignments: &[Assignment],
+    input: &mut Input,
+) -> Result<Outcome, AllocError>
+    ensures { IfOk result (Answers (spec.run calls (code_view job.entry.code.now).expressions
+        (code_view job.entry.code.now) job.entry.budget (files_of input.old)
+        (opened (code_view job.entry.code.now).scalars
+        (length (code_view job.entry.code.now).arrays) (pairs_of assignments.now))
+        (opening (length (code_view job.entry.code.now).rules)))) }
+{
+    let names = job.code.scalars.as_slice();
+    let arrays = job.code.arrays.len();
+    let mut globals = Globals::open(alloc, names, arrays, assignments)?;
+    let mut run = opening_run(alloc, job)?;
+    let ending = run_program(job, input, &mut globals, &mut run)?;
+    Ok(Outcome {
+        output: run.output,
+        globals,
+        ending,
+    })
+}

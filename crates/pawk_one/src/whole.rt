@@ -1,0 +1,218 @@
+//! Whole runs.
+
+ghost use Rattle.std.specs.Prelude.{◌≡◌, [], IfOk, None};
+ghost use Rattle.pawk_code.specs.ProgramViews.{code_view};
+ghost use Rattle.pawk_input.specs.Input.{files_of, item_of};
+ghost use Rattle.pawk_input.specs.Walk.{items_left};
+ghost use Rattle.pawk_store.specs.Slots.{rs_slot};
+ghost use Rattle.pawk_store.specs.StateViews.{state_of};
+ghost use Rattle.pawk_value.specs.Conversion.{text_of};
+ghost use Rattle.pawk_meaning.specs.Runs.{records_from, ends_from, behind_records, records_by_rs};
+ghost use Rattle.pawk_eval.specs.Contexts.{eres_of, functions_of};
+ghost use Rattle.pawk_meaning.specs.Runs as spec;
+ghost use Rattle.pawk_one.specs.declared.left.Left.TheVariants.{Through};
+ghost use Rattle.pawk_one.specs.Ends.{end_view, finish_view, left_view};
+ghost use Rattle.pawk_one.specs.Ends as ends;
+
+use crate::ending::{Ending, Place};
+use crate::left::Left;
+use crate::part::{actions, record};
+use itoa::Buffer;
+use pawk_code::program::Code;
+use pawk_eval::Context;
+use pawk_input::{Input, Item, Records};
+use pawk_places::Run;
+use pawk_value::{Fault, text_in};
+use pawk_world::World;
+use std::alloc::AllocError;
+
+/// The slot of RS.
+const RS: usize = 3;
+
+/// What is run, and how many steps BEGIN, each record and END may take.
+#[derive(Clone, Copy)]
+pub struct Job<'p> {
+    pub code: &'p Code,
+    pub budget: u64,
+}
+
+impl<'p> Job<'p> {
+    /// What its parts look at.
+    fn context(self) -> Context<'p>
+        ensures eres { eres_of result ≡ (code_view self.entry.code.now).expressions }
+        ensures functions { functions_of result ≡ (code_view self.entry.code.now).functions }
+    {
+        Context {
+            functions: self.code.functions.as_slice(),
+            eres: self.code.expressions.as_slice(),
+        }
+    }
+
+    /// Whether records are read: where there is a main rule or an action of END.
+    fn reads_records(self) -> bool
+        ensures { result ≡ spec.reads_records (code_view self.entry.code.now) }
+    {
+        !self.code.rules.is_empty() || !self.code.ends.is_empty()
+    }
+}
+
+/// Runs the actions of END.
+fn run_end<W: World>(
+    job: Job<'_>,
+    world: &mut W,
+    run: &mut Run<'_>,
+) -> Result<Ending, AllocError>
+    ensures { IfOk result (λ ending. ends_from W.calls (code_view job.entry.code.now).expressions
+        (code_view job.entry.code.now) job.entry.budget
+        (end_view (W.state world.old) run.old Through)
+        ≡ finish_view (W.state world.new) run.new ending) }
+{
+    let left = actions(job.context(), job.code.ends.as_slice(), job.budget, world, run)?;
+    match left {
+        Left::Through => Ok(Ending::Status(run.state.status)),
+        Left::NextFile => Ok(Ending::Status(run.state.status)),
+        Left::Exit(status) => Ok(Ending::Status(status)),
+        Left::Fault(fault) => Ok(Ending::Fault(fault, Place::End)),
+        Left::Clash => Ok(Ending::Disallowed),
+    }
+}
+
+/// Whether a record is of the file whose rest is left unread.
+fn is_skipped(skip: Option<usize>, item: &Item<'_>) -> bool
+    ensures { result ≡ spec.is_skipped skip (item_of item.now) }
+{
+    match skip {
+        Some(file) => item.file == file,
+        None => false,
+    }
+}
+
+/// The file whose rest is left unread behind this record.
+fn file_left(left: Left, item: &Item<'_>) -> Option<usize>
+    ensures { result ≡ ends.file_left (left_view left) item.now.file }
+{
+    match left {
+        Left::Through => None,
+        Left::NextFile => Some(item.file),
+        Left::Exit(_) => None,
+        Left::Fault(_) => None,
+        Left::Clash => None,
+    }
+}
+
+/// Whether no record is read behind a part that is left so.
+fn ends_records(left: Left) -> bool
+    ensures { result ≡ ends.ends_records (left_view left) }
+{
+    match left {
+        Left::Through => false,
+        Left::NextFile => false,
+        Left::Exit(_) => true,
+        Left::Fault(_) => true,
+        Left::Clash => true,
+    }
+}
+
+/// Runs the rules on each record.
+fn run_records<'a, W: World>(
+    job: Job<'_>,
+    records: Records<'a>,
+    world: &mut W,
+    run: &mut Run<'a>,
+) -> Result<Left, AllocError>
+    ensures { IfOk result (λ left. records_from W.calls (code_view job.entry.code.now).expressions
+        (code_view job.entry.code.now) job.entry.budget None
+        (end_view (W.state world.old) run.old Through) (items_left records.entry)
+        ≡ end_view (W.state world.new) run.new left) }
+{
+    let mut skip = None;
+    let mut left = Left::Through;
+    for item in records {
+        if is_skipped(skip, &item) {
+            continue;
+        }
+        let rules = job.code.rules.as_slice();
+        left = record(job.context(), rules, job.budget, &item, world, run)?;
+        if ends_records(left) {
+            return Ok(left);
+        }
+        skip = file_left(left, &item);
+    }
+    Ok(left)
+}
+
+/// Goes on behind the records.
+fn run_behind_records<W: World>(
+    job: Job<'_>,
+    left: Left,
+    world: &mut W,
+    run: &mut Run<'_>,
+) -> Result<Ending, AllocError>
+    ensures { IfOk result (λ ending. behind_records W.calls (code_view job.entry.code.now).expressions
+        (code_view job.entry.code.now) job.entry.budget (left_view left)
+        (end_view (W.state world.old) run.old left)
+        ≡ finish_view (W.state world.new) run.new ending) }
+{
+    match left {
+        Left::Through => run_end(job, world, run),
+        Left::NextFile => run_end(job, world, run),
+        Left::Exit(_) => run_end(job, world, run),
+        Left::Fault(fault) => Ok(Ending::Fault(fault, Place::Record(run.state.nr))),
+        Left::Clash => Ok(Ending::Disallowed),
+    }
+}
+
+/// Reads and runs all records, by RS as it is now, and then END.
+fn run_input<'a, W: World>(
+    job: Job<'_>,
+    input: &'a mut Input,
+    world: &mut W,
+    run: &mut Run<'a>,
+) -> Result<Ending, AllocError>
+    ensures { IfOk result (λ ending. records_by_rs W.calls (code_view job.entry.code.now).expressions
+        (code_view job.entry.code.now) job.entry.budget
+        (text_of (W.calls.look rs_slot (W.state world.old))) (files_of input.old)
+        (end_view (W.state world.old) run.old Through)
+        ≡ finish_view (W.state world.new) run.new ending) }
+{
+    let mut buffer = Buffer::new();
+    let rs = Vec::from_slice(run.alloc, text_in(world.scalar(RS), &mut buffer))?;
+    run.state.taken = Some(Vec::from_slice(run.alloc, rs.as_slice())?);
+    if rs.len() > 1 {
+        return Ok(Ending::Fault(Fault::Rs, Place::Record(1)));
+    }
+    input.mend(rs.as_slice())?;
+    let left = run_records(job, input.records(rs.as_slice()), world, run)?;
+    run_behind_records(job, left, world, run)
+}
+
+/// Runs a program: BEGIN, then each record of the input, then END, over a world and from a run whose
+/// output is empty.
+///
+/// POSIX.1-2017, awk, "Overall Program Structure".
+pub fn run_program<'a, W: World>(
+    job: Job<'_>,
+    input: &'a mut Input,
+    world: &mut W,
+    run: &mut Run<'a>,
+) -> Result<Ending, AllocError>
+    requires { run.old.output.items ≡ [] }
+    ensures { IfOk result (λ ending. spec.run W.calls (code_view job.entry.code.now).expressions
+        (code_view job.entry.code.now) job.entry.budget (files_of input.old)
+        (W.state world.old) (state_of run.old.state)
+        ≡ finish_view (W.state world.new) run.new ending) }
+{
+    match actions(job.context(), job.code.begins.as_slice(), job.budget, world, run)? {
+        Left::Through => {
+            if job.reads_records() {
+                run_input(job, input, world, run)
+            } else {
+                run_end(job, world, run)
+            }
+        }
+        Left::NextFile => run_end(job, world, run),
+        Left::Exit(_) => run_end(job, world, run),
+        Left::Fault(fault) => Ok(Ending::Fault(fault, Place::Begin)),
+        Left::Clash => Ok(Ending::Disallowed),
+    }
+}

@@ -1,0 +1,61 @@
+//! Texts of the variables that a program may assign, and texts with one of them between.
+
+ghost use Rattle.std.specs.Prelude.{◌≡◌, ◌++◌, OnOk};
+ghost use Rattle.pawk_value.specs.Conversion.{text_of};
+ghost use Rattle.pawk_meaning.specs.Builtins.{joined_by};
+ghost use Rattle.pawk_places.specs.Joined.{first_of};
+
+use itoa::Buffer;
+use pawk_array::Texts;
+use pawk_value::text_in;
+use pawk_world::World;
+use std::alloc::AllocError;
+
+/// The slot of `FS`.
+pub(crate) const FS: usize = 0;
+
+/// The slot of `OFS`.
+pub(crate) const OFS: usize = 1;
+
+/// The slot of `ORS`.
+pub(crate) const ORS: usize = 2;
+
+/// The slot of `SUBSEP`.
+pub(crate) const SUBSEP: usize = 4;
+
+/// The text of a global scalar, of which nothing is copied; a number is written into the buffer.
+pub(crate) fn scalar_text<'a, W: World>(
+    slot: usize,
+    world: &'a W,
+    buffer: &'a mut Buffer,
+) -> &'a [u8]
+    ensures { result.now ≡ text_of (W.calls.look slot (W.state world.now)) }
+{
+    text_in(world.scalar(slot), buffer)
+}
+
+/// Appends the first of some texts, if there is one.
+fn push_first(texts: &Texts, out: &mut Vec<u8>) -> Result<(), AllocError>
+    ensures { OnOk result (out.new.items ≡ out.old.items ++ first_of texts.now) }
+{
+    if texts.len() > 0 {
+        out.extend_from_slice(texts.text(0))?;
+    }
+    Ok(())
+}
+
+/// Appends texts with a separator between them.
+pub(crate) fn push_joined(
+    texts: &Texts,
+    separator: &[u8],
+    out: &mut Vec<u8>,
+) -> Result<(), AllocError>
+    ensures { OnOk result (out.new.items ≡ out.old.items ++ joined_by separator.now texts.now) }
+{
+    push_first(texts, out)?;
+    for number in 1..texts.len() {
+        out.extend_from_slice(separator)?;
+        out.extend_from_slice(texts.text(number))?;
+    }
+    Ok(())
+}

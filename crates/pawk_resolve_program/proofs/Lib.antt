@@ -1,0 +1,4 @@
+mod Between
+mod Among
+mod Choice
+mod First

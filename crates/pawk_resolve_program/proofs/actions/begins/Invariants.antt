@@ -1,0 +1,12 @@
+use Rattle.std.proofs.Common.{◌≡◌, ◌++◌, map, drop}
+use Rattle.std.specs.List.{flat_map}
+use Rattle.pawk_syntax_program.specs.Item.{part}
+use Rattle.pawk_code.specs.ProgramViews.{body_view}
+use Rattle.pawk_resolve.specs.ScopeViews.{globals_view}
+use Rattle.pawk_resolve.specs.ResolvedPrograms.{begin_of}
+use Rattle.pawk_resolve_program.proofs.actions.begins.Given as goal
+
+abbrev pub invariant-loop-item : goal.invariant-loop-item
+invariant-loop-item l =
+    map body_view l.all.items ++ flat_map (begin_of (globals_view l.globals)) (map part (drop l.item-index l.items))
+    ≡ flat_map (begin_of (globals_view l.globals)) (map part l.items)

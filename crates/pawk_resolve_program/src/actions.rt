@@ -1,0 +1,115 @@
+//! The code of all items.
+
+ghost use Rattle.std.specs.Prelude.{◌≡◌, IfOk, map};
+ghost use Rattle.std.specs.List.{flat_map};
+ghost use Rattle.pawk_syntax_program.specs.Item.{part};
+ghost use Rattle.pawk_code.specs.ProgramViews.{body_view, rule_view, function_view};
+ghost use Rattle.pawk_resolve.specs.ScopeViews.{globals_view};
+ghost use Rattle.pawk_resolve.specs.ResolvedPrograms as spec;
+
+use crate::items::{begin_of, end_of, function_of, rule_of};
+use crate::vectors::add;
+use pawk_code::program::{Function, Rule};
+use pawk_code::statement::Statement;
+use pawk_resolve::scope::Globals;
+use pawk_syntax_program::item::Item;
+use std::alloc::{AllocError, Global};
+
+/// What runs before, on and after the records.
+#[derive(Drop)]
+pub struct Actions {
+    pub begins: Vec<Vec<Statement>>,
+    pub rules: Vec<Rule>,
+    pub ends: Vec<Vec<Statement>>,
+}
+
+/// The actions of `BEGIN`.
+fn begins<'t>(
+    globals: &Globals<'t>,
+    alloc: Global,
+    items: &'t [Item],
+) -> Result<Vec<Vec<Statement>>, AllocError>
+    ensures { IfOk result (λ v. map body_view v.items ≡
+        flat_map (spec.begin_of (globals_view globals.now)) (map part items.now)) }
+{
+    let mut all = Vec::new(alloc);
+    for item in items {
+        let new = begin_of(globals, alloc, item)?;
+        add(&mut all, new)?;
+    }
+    Ok(all)
+}
+
+/// The rules.
+fn rules<'t>(
+    globals: &Globals<'t>,
+    alloc: Global,
+    items: &'t [Item],
+) -> Result<Vec<Rule>, AllocError>
+    ensures { IfOk result (λ v. map rule_view v.items ≡
+        flat_map (spec.rule_of (globals_view globals.now)) (map part items.now)) }
+{
+    let mut all = Vec::new(alloc);
+    for item in items {
+        let new = rule_of(globals, alloc, item)?;
+        add(&mut all, new)?;
+    }
+    Ok(all)
+}
+
+/// The actions of `END`.
+fn ends<'t>(
+    globals: &Globals<'t>,
+    alloc: Global,
+    items: &'t [Item],
+) -> Result<Vec<Vec<Statement>>, AllocError>
+    ensures { IfOk result (λ v. map body_view v.items ≡
+        flat_map (spec.end_of (globals_view globals.now)) (map part items.now)) }
+{
+    let mut all = Vec::new(alloc);
+    for item in items {
+        let new = end_of(globals, alloc, item)?;
+        add(&mut all, new)?;
+    }
+    Ok(all)
+}
+
+/// The functions.
+pub fn functions<'t>(
+    globals: &Globals<'t>,
+    alloc: Global,
+    items: &'t [Item],
+) -> Result<Vec<Function>, AllocError>
+    ensures { IfOk result (λ v. map function_view v.items ≡
+        spec.functions_from (globals_view globals.now) 1 (map part items.now)) }
+{
+    let mut all = Vec::new(alloc);
+    for (index, item) in items.iter().enumerate() {
+        let new = function_of(globals, alloc, index + 1, item)?;
+        add(&mut all, new)?;
+    }
+    Ok(all)
+}
+
+/// What runs before, on and after the records.
+pub fn actions_of<'t>(
+    globals: &Globals<'t>,
+    alloc: Global,
+    items: &'t [Item],
+) -> Result<Actions, AllocError>
+    ensures begins { IfOk result (λ a. map body_view a.begins.items ≡
+        flat_map (spec.begin_of (globals_view globals.now)) (map part items.now)) }
+    ensures rules { IfOk result (λ a. map rule_view a.rules.items ≡
+        flat_map (spec.rule_of (globals_view globals.now)) (map part items.now)) }
+    ensures ends { IfOk result (λ a. map body_view a.ends.items ≡
+        flat_map (spec.end_of (globals_view globals.now)) (map part items.now)) }
+{
+    let begins = begins(globals, alloc, items)?;
+    let rules = rules(globals, alloc, items)?;
+    let ends = ends(globals, alloc, items)?;
+    Ok(Actions {
+        begins,
+        rules,
+        ends,
+    })
+}

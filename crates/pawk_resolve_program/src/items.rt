@@ -1,0 +1,228 @@
+//! The code of items.
+
+ghost use Rattle.std.specs.Prelude.{◌≡◌, ◌∷◌, [], IfOk, map};
+ghost use Rattle.std.specs.Option.{option_to_list};
+ghost use Rattle.pawk_syntax_tree.specs.Tree.{view as tree_view};
+ghost use Rattle.pawk_syntax_program.specs.Item.{part, seen as tree_seen, texts as name_texts};
+ghost use Rattle.pawk_code.specs.ExpressionViews.{view};
+ghost use Rattle.pawk_code.specs.StatementViews.{seen};
+ghost use Rattle.pawk_code.specs.Programs as code;
+ghost use Rattle.pawk_code.specs.ProgramViews.{body_view, rule_view, selector_view, function_view};
+ghost use Rattle.pawk_resolve.specs.ScopeViews.{scope_view, table_names, globals_view};
+ghost use Rattle.pawk_resolve.specs.Resolved.{resolved};
+ghost use Rattle.pawk_resolve.specs.ResolvedStatements.{resolved_body};
+ghost use Rattle.pawk_resolve.specs.ResolvedPrograms as spec;
+
+use crate::names::table_of;
+use pawk_code::expression::Expr;
+use pawk_code::program::{Function, Kind, Rule, Selector};
+use pawk_code::statement::Statement;
+use pawk_resolve::scope::{Globals, Scope};
+use pawk_resolve::table::Table;
+use pawk_resolve_walk::expression::expression;
+use pawk_resolve_walk::statement::body;
+use pawk_syntax_program::item::Item;
+use pawk_syntax_program::statement::Statement as TreeStatement;
+use pawk_syntax_tree::tree::{Expr as Tree, Name};
+use std::alloc::{AllocError, Global};
+
+/// The code of a body outside of functions.
+fn global_body<'t>(
+    globals: &Globals<'t>,
+    alloc: Global,
+    a: &'t [TreeStatement],
+) -> Result<Vec<Statement>, AllocError>
+    ensures { IfOk result (λ v. seen v.items ≡
+        resolved_body (spec.global_scope (globals_view globals.now)) (tree_seen a.now)) }
+{
+    let parameters = Table::new(alloc);
+    let scope = Scope {
+        globals,
+        item: 0,
+        parameters: &parameters,
+    };
+    body(&scope, alloc, a)
+}
+
+/// The code of an expression outside of functions.
+fn global_expression<'t>(
+    globals: &Globals<'t>,
+    alloc: Global,
+    e: &'t Tree,
+) -> Result<Expr, AllocError>
+    ensures { IfOk result (λ x. view x ≡
+        resolved (spec.global_scope (globals_view globals.now)) (tree_view e.now)) }
+{
+    let parameters = Table::new(alloc);
+    let scope = Scope {
+        globals,
+        item: 0,
+        parameters: &parameters,
+    };
+    expression(&scope, alloc, e)
+}
+
+/// The action of `BEGIN`, if the item is one.
+pub fn begin_of<'t>(
+    globals: &Globals<'t>,
+    alloc: Global,
+    item: &'t Item,
+) -> Result<Option<Vec<Statement>>, AllocError>
+    ensures { IfOk result (λ o. map body_view (option_to_list o) ≡
+        spec.begin_of (globals_view globals.now) (part item.now)) }
+{
+    match item {
+        Item::Begin(a) => Ok(Some(global_body(globals, alloc, a)?)),
+        _ => Ok(None),
+    }
+}
+
+/// The action of `END`, if the item is one.
+pub fn end_of<'t>(
+    globals: &Globals<'t>,
+    alloc: Global,
+    item: &'t Item,
+) -> Result<Option<Vec<Statement>>, AllocError>
+    ensures { IfOk result (λ o. map body_view (option_to_list o) ≡
+        spec.end_of (globals_view globals.now) (part item.now)) }
+{
+    match item {
+        Item::End(a) => Ok(Some(global_body(globals, alloc, a)?)),
+        _ => Ok(None),
+    }
+}
+
+/// A range of records.
+fn range<'t>(
+    globals: &Globals<'t>,
+    alloc: Global,
+    e: &'t Tree,
+    f: &'t Tree,
+) -> Result<Selector, AllocError>
+    ensures { IfOk result (λ s. selector_view s ≡ code.between
+        (resolved (spec.global_scope (globals_view globals.now)) (tree_view e.now))
+        (resolved (spec.global_scope (globals_view globals.now)) (tree_view f.now))) }
+{
+    let first = global_expression(globals, alloc, e)?;
+    let last = global_expression(globals, alloc, f)?;
+    Ok(Selector::Range(first, last))
+}
+
+/// A rule on the records that are selected.
+fn rule<'t>(
+    globals: &Globals<'t>,
+    alloc: Global,
+    selector: Selector,
+    a: &'t [TreeStatement],
+) -> Result<Option<Rule>, AllocError>
+    ensures { IfOk result (λ o. map rule_view (option_to_list o) ≡
+        spec.rule (globals_view globals.now) (selector_view selector) (tree_seen a.now) ∷ []) }
+{
+    let body = global_body(globals, alloc, a)?;
+    Ok(Some(Rule { selector, body }))
+}
+
+/// The rule, if the item is one.
+pub fn rule_of<'t>(
+    globals: &Globals<'t>,
+    alloc: Global,
+    item: &'t Item,
+) -> Result<Option<Rule>, AllocError>
+    ensures { IfOk result (λ o. map rule_view (option_to_list o) ≡
+        spec.rule_of (globals_view globals.now) (part item.now)) }
+{
+    match item {
+        Item::Always(a) => rule(globals, alloc, Selector::Always, a),
+        Item::When(e, a) => {
+            let e = global_expression(globals, alloc, e)?;
+            rule(globals, alloc, Selector::When(e), a)
+        }
+        Item::Range(e, f, a) => {
+            let selector = range(globals, alloc, e, f)?;
+            rule(globals, alloc, selector, a)
+        }
+        Item::Begin(_) | Item::End(_) | Item::Function(_, _, _) => Ok(None),
+    }
+}
+
+/// What a parameter is.
+fn kind_of<'t>(globals: &Globals<'t>, number: usize, name: &'t Name) -> Kind
+    ensures { result ≡ spec.kind_of
+        ((globals_view globals.now).kinds (number, name.now.text.items)) }
+{
+    if globals.kinds.is_array(number, name.text.as_slice()) {
+        Kind::Array
+    } else {
+        Kind::Scalar
+    }
+}
+
+/// The kinds of the parameters of the item of this number.
+fn kinds_of<'t>(
+    globals: &Globals<'t>,
+    alloc: Global,
+    number: usize,
+    names: &'t [Name],
+) -> Result<Vec<Kind>, AllocError>
+    ensures { IfOk result (λ v. v.items ≡
+        map (λ x. spec.kind_of ((globals_view globals.now).kinds (number, x.text.items))) names.now) }
+{
+    let mut kinds = Vec::new(alloc);
+    for name in names {
+        kinds.push(kind_of(globals, number, name))?;
+    }
+    Ok(kinds)
+}
+
+/// The code of the body of the item of this number, whose parameters are given.
+fn function_body<'t>(
+    globals: &Globals<'t>,
+    alloc: Global,
+    number: usize,
+    names: &'t [Name],
+    a: &'t [TreeStatement],
+) -> Result<Vec<Statement>, AllocError>
+    ensures { IfOk result (λ v. seen v.items ≡ resolved_body
+        (spec.function_scope (globals_view globals.now) number (name_texts names.now))
+        (tree_seen a.now)) }
+{
+    let parameters = table_of(alloc, names)?;
+    let scope = Scope {
+        globals,
+        item: number,
+        parameters: &parameters,
+    };
+    body(&scope, alloc, a)
+}
+
+/// The function in the item of this number, whose parameters are given.
+fn function<'t>(
+    globals: &Globals<'t>,
+    alloc: Global,
+    number: usize,
+    names: &'t [Name],
+    a: &'t [TreeStatement],
+) -> Result<Function, AllocError>
+    ensures { IfOk result (λ f. function_view f ≡ spec.function
+        (globals_view globals.now) number (name_texts names.now) (tree_seen a.now)) }
+{
+    let kinds = kinds_of(globals, alloc, number, names)?;
+    let body = function_body(globals, alloc, number, names, a)?;
+    Ok(Function { kinds, body })
+}
+
+/// The function, if the item of this number is one.
+pub fn function_of<'t>(
+    globals: &Globals<'t>,
+    alloc: Global,
+    number: usize,
+    item: &'t Item,
+) -> Result<Option<Function>, AllocError>
+    ensures { IfOk result (λ o. map function_view (option_to_list o) ≡
+        spec.function_at (globals_view globals.now) number (part item.now)) }
+{
+    match item {
+        Item::Function(_, names, a) => Ok(Some(function(globals, alloc, number, names, a)?)),
+        _ => Ok(None),
+    }
+}
