@@ -13,10 +13,11 @@ ghost use Rattle.pawk_eval.specs.Contexts.{enter_of, eres_of};
 use crate::context::Context;
 use crate::expressions::{eval, text, truth};
 use crate::operands::operand;
-use crate::operations::find_first;
+use crate::operations::{find_first, find_in_field};
 use crate::places::key;
 use pawk_builtins::{Expression, related, same_truth};
 use pawk_code::expression::{Expr, Pattern, Test};
+use pawk_code::leaf::Leaf;
 use pawk_code::word::Relation;
 use pawk_places::{Run, compare_leaves, element_exists, table_of};
 use pawk_value::lend_held;
@@ -98,7 +99,8 @@ pub(crate) fn compare<W: World>(
     Ok(related(relation, lend_held(x, &left), lend_held(y, &right))?)
 }
 
-/// Whether a text matches, or, where no match is wanted, does not match.
+/// Whether a text matches, or, where no match is wanted, does not match. A field that is held
+/// against an expression between slashes is not copied.
 ///
 /// POSIX.1-2017, awk, "Regular Expressions".
 #[cycle(evaluate)]
@@ -117,6 +119,17 @@ pub(crate) fn matches<W: World>(
         (codes.matches wanted (view e.now) (pattern_view pattern.now))
         (moment (W.state world.old) run.old)) result (moment (W.state world.new) run.new) }
 {
+    if let Pattern::Fixed(_) = pattern {
+        if let Expr::Leaf(Leaf::Field(n)) = e {
+            let expression = Expression {
+                eres: context.eres,
+                pattern,
+                text: &[],
+            };
+            let found = find_in_field(expression, *n, world, run)?;
+            return Ok(same_truth(wanted, found.is_some()));
+        }
+    }
     let text = text(context, depth, e, world, run)?;
     let ere = operand(context, depth, pattern, world, run)?;
     let expression = Expression {

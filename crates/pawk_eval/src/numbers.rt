@@ -79,7 +79,7 @@ pub(crate) fn numeric<W: World>(
     }
 }
 
-/// What a built-in function of values that gives a number gives.
+/// The number that a built-in function of values gives.
 #[cycle(evaluate)]
 pub(crate) fn function<W: World>(
     context: Context<'_>,

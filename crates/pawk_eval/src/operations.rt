@@ -5,13 +5,14 @@ ghost use Rattle.pawk_value.specs.Value.{Text, shown};
 ghost use Rattle.pawk_value.specs.Held.{held_value};
 ghost use Rattle.pawk_world.specs.Sums.{arith_by};
 ghost use Rattle.pawk_world.specs.Sums as spec;
+ghost use Rattle.pawk_code.specs.Expressions.{field};
 ghost use Rattle.pawk_code.specs.ExpressionViews.{format_view};
 ghost use Rattle.pawk_builtins.specs.ExpressionViews.{expression_of};
 ghost use Rattle.pawk_builtins.specs.FormatViews.{format_text};
 ghost use Rattle.pawk_meaning.specs.Parts.{as_text, bind, settle};
 ghost use Rattle.pawk_meaning.specs.Builtins.{formatted_text, found_by, replaced_by};
 ghost use Rattle.pawk_meaning.specs.Builtins as builtins;
-ghost use Rattle.pawk_meaning.specs.Meaning.{put_replaced};
+ghost use Rattle.pawk_meaning.specs.Meaning.{put_replaced, value_of_leaf};
 ghost use Rattle.pawk_meaning.specs.Places.{read_at, variable_aim, write_at};
 ghost use Rattle.pawk_places.specs.Moments.{aim_view, hold_of, moment, table_view};
 ghost use Rattle.pawk_places.specs.Yields.{Yields};
@@ -123,6 +124,29 @@ pub fn find_first<W: World>(
         (settle (found_by (expression_of expression.entry) text.now)
         (moment (W.state world.now) run.old)) result (moment (W.state world.now) run.new) }
 {
+    Ok(run.matchers.find(expression, text)?)
+}
+
+/// Where an expression matches first in the text of a field, which is not copied.
+///
+/// Fault `ere` where it is a text that is no expression.
+///
+/// POSIX.1-2017, awk, "Regular Expressions".
+pub fn find_in_field<W: World>(
+    expression: Expression<'_>,
+    n: usize,
+    world: &W,
+    run: &mut Run<'_>,
+) -> Result<Option<(usize, usize)>, Halt>
+    ensures left { run.new.left ≤ run.old.left }
+    ensures outcome { Yields (λ found. found)
+        (bind (as_text [] (value_of_leaf W.calls (field n))) (λ s.
+        settle (found_by (expression_of expression.entry) s))
+        (moment (W.state world.now) run.old)) result (moment (W.state world.now) run.new) }
+{
+    run.state.line.prepare(n)?;
+    let mut buffer = Buffer::new();
+    let text = text_in(run.state.line.field(n), &mut buffer);
     Ok(run.matchers.find(expression, text)?)
 }
 
