@@ -3,8 +3,8 @@
 #   make            prove and build build/pawk
 #   make demo       build it and run it on three lines: the last line is 6
 #   make test       the whole gate, and then what stands beside it (tests/run)
-#   make bench      compare its user time with that of mawk and gawk, its elapsed time by workers, and the times of
-#                   expressions and of fields
+#   make bench      compare its user time with that of mawk and gawk, its elapsed time by workers, the times of
+#                   expressions and of fields, and 24 programs beside mawk, gawk and original-awk
 #   make install    put it at $(PREFIX)/bin/pawk (PREFIX is /usr/local)
 #   make clean      remove what was built, and what the proofs keep
 
@@ -48,6 +48,8 @@ bench: build
 	@test -e $(BENCH_DATA)/paragraphs.txt || bench/words $(BENCH_DATA)
 	cd crates/pawk_split_bench && rt run </dev/null
 	bench/fields $(BENCH_DATA)
+	@test -e $(BENCH_DATA)/suite/values.txt || bench/records $(BENCH_DATA)/suite
+	bench/suite $(BENCH_DATA)/suite
 
 install: build
 	mkdir -p $(DESTDIR)$(PREFIX)/bin
