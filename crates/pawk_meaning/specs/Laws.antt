@@ -52,10 +52,10 @@ IsFinal (Some (halt.exit n, s)) = Unit {0}
 abbrev pub RefusalsAreFinal : {S : Type 0} → Calls S → Type 0
 RefusalsAreFinal {S} calls = (q : Request) (s : S) → IsFinal (refusal_of (calls.ask q s))
 
--- left by one of these, or not by a halt that ends the run
+-- left by one of these halts, or by none
 abbrev pub LeftBy : (Halt → Type 0) → Left → Type 0
 LeftBy ends through = Unit {0}
-LeftBy ends next_file = Unit {0}
+LeftBy ends next_file = ends halt.next_file
 LeftBy ends (exit n) = ends (halt.exit n)
 LeftBy ends (fault f) = ends (halt.fault f)
 LeftBy ends clash = ends halt.clash
