@@ -31,7 +31,7 @@ abbrev pub KeepsItems : {S T : Type 0} → Track S T → Type 0
 KeepsItems t = (fs : List ℕ) (s : RecordState) (i : Item) → t.order.keeps s (with_item fs i s)
 
 module _ {S T : Type 0} {t : Track S T} where
-  goes_after_read : (f : Option Fault) → Goes t Any (after_read f) (after_read f)
+  pub goes_after_read : (f : Option Fault) → Goes t Any (after_read f) (after_read f)
   goes_after_read None = goes_plain (tt {0})
   goes_after_read (Some f) = goes_fault Any f
 

@@ -17,19 +17,15 @@ use Rattle.pawk_code.specs.declared.program.Kind.{Kind}
 use Rattle.pawk_code.specs.declared.program.Kind.TheVariants as kind
 use Rattle.pawk_meaning.specs.Parts.{Hold, value, global_array, local_array, Moment, Outcome, gives, halts, Part, halt_with, ask, then_do, tick_at, hold_or_none, Entry, with_locals}
 use Rattle.pawk_meaning.specs.Places.{as_array, array_at}
-use Rattle.pawk_meaning.specs.Lockstep.{Resource, array_slot, last_match, rule_ranges, Access, writes, IsPrefix, IsHeld, AllHeld, refusal_of, state_of, world_of, output_of, Reaches, RefusesIn, GoesOn, EndsBy}
+use Rattle.pawk_meaning.specs.Lockstep.{Resource, array_slot, last_match, rule_ranges, Access, writes, IsPrefix, IsHeld, AllHeld, refusal_of, state_of, world_of, output_of, record_state_of, Reaches, RefusesIn, GoesOn, EndsBy}
 use Rattle.pawk_meaning.specs.Allows.{TouchesArray, AllowsWhole}
+use Rattle.pawk_meaning.specs.Steady.{HaltsBy}
 
 pub prefix_here : (a : List ℕ) → IsPrefix a a
 prefix_here a = ([], sym (append-nil a))
 
 pub prefix_then : (a b c : List ℕ) → IsPrefix a b → IsPrefix b c → IsPrefix a c
 prefix_then a b c h k = (h.0 ++ k.0, k.1 ∙ ap (λ x. x ++ k.0) h.1 ∙ append_assoc a h.0 k.0)
-
--- halts by one of these, if it does
-abbrev pub HaltsIn : {S X : Type 0} → (Halt → Type 0) → Outcome S X → Type 0
-HaltsIn ends (gives x m) = Unit {0}
-HaltsIn ends (halts h s state out) = ends h
 
 -- of any value
 abbrev pub Any : {X : Type 0} → X → Type 0
@@ -67,11 +63,6 @@ any_order permits = record {
   match = λ may s start size. tt;
   ranges = λ may s inside. tt;
 }
-
--- the record state that an outcome leaves
-abbrev pub left_state : {S X : Type 0} → Outcome S X → RecordState
-left_state (gives x m) = m.state
-left_state (halts h s state out) = state
 
 -- what the parameters hold
 module _ (permits : Access → Resource → Type 0) where
@@ -123,9 +114,9 @@ module _ (permits : Access → Resource → Type 0) where
   Meets ends P (gives x m) = P x × AllHeld permits m.frame
   Meets ends P (halts h s state out) = ends h
 
-  pub halts_in : {S X : Type 0} (P : X → Type 0) (ends : Halt → Type 0) (o : Outcome S X) → Meets ends P o → HaltsIn ends o
-  halts_in P ends (gives x m) h = tt
-  halts_in P ends (halts i s state out) h = h
+  pub halts_by : {S X : Type 0} (P : X → Type 0) (ends : Halt → Type 0) (o : Outcome S X) → Meets ends P o → HaltsBy ends o
+  halts_by P ends (gives x m) h = tt
+  halts_by P ends (halts i s state out) h = h
 
   pub meets_weak : {S X : Type 0} (P Q : X → Type 0) (ends : Halt → Type 0) → ((x : X) → P x → Q x) → (o : Outcome S X) → Meets ends P o → Meets ends Q o
   meets_weak P Q ends h (gives x m) k = (h x k.0, k.1)
@@ -135,7 +126,7 @@ module _ (permits : Access → Resource → Type 0) where
   pub record Later {S X : Type 0} (ends : Halt → Type 0) (before : S → S → Type 0) (order : Order permits) (P : X → Type 0) (m : Moment S) (o : Outcome S X) : Type 0 where
     pub world : before m.world (world_of o)
     pub output : IsPrefix m.output (output_of o)
-    pub state : order.keeps m.state (left_state o)
+    pub state : order.keeps m.state (record_state_of o)
     pub meets : Meets ends P o
 
   module _ {S : Type 0} (before : S → S → Type 0) (calls : Calls S) (on : GoesOn permits before calls) (order : Order permits) where
@@ -145,7 +136,7 @@ module _ (permits : Access → Resource → Type 0) where
         record {
           world = on.then m.world n.world (world_of (k x n)) l.world j.world;
           output = prefix_then m.output n.output (output_of (k x n)) l.output j.output;
-          state = order.then m.state n.state (left_state (k x n)) l.state j.state;
+          state = order.then m.state n.state (record_state_of (k x n)) l.state j.state;
           meets = j.meets;
         }
     later_then P Q m (halts i q state o) k l h = record { world = l.world; output = l.output; state = l.state; meets = l.meets }

@@ -3,3 +3,4 @@ pub mod Going
 pub mod InExpressions
 pub mod InStatements
 pub mod InRecords
+pub mod Alone

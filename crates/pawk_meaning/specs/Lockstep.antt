@@ -106,6 +106,10 @@ module _ {S X : Type 0} where
   output_of (gives x m) = m.output
   output_of (halts h s state out) = out
 
+  abbrev pub record_state_of : Outcome S X → RecordState
+  record_state_of (gives x m) = m.state
+  record_state_of (halts h s state out) = state
+
 -- where one run is after a request that may have been refused: halted there, or somewhere later
 abbrev pub Reaches :
     {S X : Type 0} → (S → S → Type 0) → Option (Halt × S) → S → RecordState → List ℕ → Outcome S X → Type 0
