@@ -2,7 +2,7 @@
 
 ghost use Rattle.pawk_world.specs.Worlds.{Calls};
 ghost use Rattle.pawk_meaning.specs.Lockstep.{Access, Resource, Pair};
-ghost use Rattle.pawk_meaning.specs.Laws.{StatementsLaw, RecordLaw, RecordsLaw};
+ghost use Rattle.pawk_meaning.specs.Laws.{StatementsLaw, RecordLaw, ActionsLaw, RecordsLaw, RunLaw};
 ghost use Rattle.pawk_meaning.specs.Steady.{RecordKeepsLaw, RecordsKeepLaw, RecordsFollowLaw, ReadsAnewLaw};
 
 /// Two worlds for each setting, as their definitions have them: the meaning of each one's calls, a
@@ -39,6 +39,17 @@ pub fn lockstep_record<P: Pairing>()
 /// The same for a list of records, and how the run over each world may be left.
 pub fn lockstep_records<P: Pairing>()
     ensures { (i : P.Setting) → RecordsLaw (P.pair i) }
+{}
+
+/// The same for the actions of BEGIN or of END, one after the other.
+pub fn lockstep_actions<P: Pairing>()
+    ensures { (i : P.Setting) → ActionsLaw (P.pair i) }
+{}
+
+/// The same for a whole run: BEGIN, the records of files by RS as it is then, and END; and how the run
+/// over each world may end (POSIX.1-2017, awk, "Overall Program Structure").
+pub fn lockstep_run<P: Pairing>()
+    ensures { (i : P.Setting) → RunLaw (P.pair i) }
 {}
 
 /// One world for each setting, as its definitions have it, and what a program may do there to which
