@@ -2,7 +2,7 @@
 
 ghost use Rattle.pawk_world.specs.Worlds.{Calls};
 ghost use Rattle.pawk_meaning.specs.Lockstep.{Access, Resource, Pair};
-ghost use Rattle.pawk_meaning.specs.Laws.{StatementsLaw, RecordLaw, ActionsLaw, RecordsLaw, RunLaw};
+ghost use Rattle.pawk_meaning.specs.Laws.{StatementsLaw, RecordLaw, ActionsLaw, RecordsLaw, RunLaw, NeverDisallowsLaw};
 ghost use Rattle.pawk_meaning.specs.Steady.{RecordKeepsLaw, RecordsKeepLaw, RecordsFollowLaw, ReadsAnewLaw};
 
 /// Two worlds for each setting, as their definitions have them: the meaning of each one's calls, a
@@ -91,4 +91,9 @@ pub fn records_follow<P: Policy>()
 /// A record does not look at the record, `FNR` and `FILENAME` of before, of any program.
 pub fn reads_anew<P: Policy>()
     ensures { (i : P.Setting) → ReadsAnewLaw (P.calls i) }
+{}
+
+/// Over a world that answers no request with a clash no run of any program is disallowed.
+pub fn never_disallows<P: Policy>()
+    ensures { (i : P.Setting) → NeverDisallowsLaw (P.calls i) }
 {}
