@@ -288,3 +288,15 @@ reads_anew calls eres code i s t same = (
   λ m. ap (λ x. one_record calls eres code.functions code.rules i (record m { state = x })) (sym same),
   λ budget items e. ap (λ x. records_from calls eres code budget None (record e { state = x }) (i ∷ items)) (sym same),
 )
+
+-- ---- a second part from the state before the first
+
+module _ {S : Type 0} (permits : Access → Resource → Type 0) (calls : Calls S) (steady : IsSteady permits) (final : RefusalsAreFinal calls) (eres : List (List ℕ)) (code : Code) (may : AllowsMain permits code.functions code.rules) (budget : ℕ) where
+  pub records_resume : (items : List Item) (i : Item) (more : List Item) (e : End S) → e.left ≡ through → let f = records_from calls eres code budget None e items in f.left ≡ through → records_from calls eres code budget None f (i ∷ more) ≡ records_from calls eres code budget None (record f { state = record e.state { nr = e.state.nr + length items } }) (i ∷ more)
+  records_resume items i more e h on =
+      let f = records_from calls eres code budget None e items in
+      let k = records_keep permits calls steady final eres code may budget items e h in
+      let kept : f.state ≡ state_behind_records (length k.read) f.left e.state f.state = k.state in
+      let through_it : f.state ≡ state_behind_records (length k.read) through e.state f.state = kept ∙ ap (λ x. state_behind_records (length k.read) x e.state f.state) on in
+      let all : f.state ≡ state_behind_records (length items) through e.state f.state = through_it ∙ ap (λ (l : List Item). state_behind_records (length l) through e.state f.state) (sym (k.all_read on)) in
+      sym ((reads_anew calls eres code i (record e.state { nr = e.state.nr + length items }) f.state all).1 budget more f)

@@ -5,7 +5,7 @@ ghost use Rattle.pawk_meaning.specs.Lockstep.{Access, Resource, Pair};
 ghost use Rattle.pawk_meaning.specs.Laws.{StatementsLaw, RecordLaw, ActionsLaw, RecordsLaw};
 ghost use Rattle.pawk_meaning.specs.Laws.{RunLaw, NeverDisallowsLaw};
 ghost use Rattle.pawk_meaning.specs.Steady.{RecordKeepsLaw, RecordsKeepLaw, RecordsFollowLaw};
-ghost use Rattle.pawk_meaning.specs.Steady.{ReadsAnewLaw};
+ghost use Rattle.pawk_meaning.specs.Steady.{RecordsResumeLaw, ReadsAnewLaw};
 
 /// Two worlds for each setting, as their definitions have them: the meaning of each one's calls, a
 /// relation of their states, an order of each one's states in which its calls go on, what a program
@@ -73,8 +73,8 @@ pub trait Policy {
     ghost permits: { Setting → Access → Resource → Type 0 };
 }
 
-/// One record where `match`, ranges and `nextfile` are not permitted: of the record state it leaves all
-/// but the record, `NR`, `FNR` and `FILENAME` as it was, and it does not leave its file. A law, which
+/// One record where `match`, ranges and `nextfile` are not permitted: it changes nothing of the
+/// record state but the record, `NR`, `FNR` and `FILENAME`, and does not leave its file. A law, which
 /// takes and leaves nothing.
 pub fn record_keeps<P: Policy>()
     ensures { (i : P.Setting) → RecordKeepsLaw (P.permits i) (P.calls i) }
@@ -89,6 +89,12 @@ pub fn records_keep<P: Policy>()
 /// Records in two parts: the second part is read from where the first one came through.
 pub fn records_follow<P: Policy>()
     ensures { (i : P.Setting) → RecordsFollowLaw (P.permits i) (P.calls i) }
+{}
+
+/// The second part may be run from the record state before the first one, with `NR` moved on by as
+/// many records.
+pub fn records_resume<P: Policy>()
+    ensures { (i : P.Setting) → RecordsResumeLaw (P.permits i) (P.calls i) }
 {}
 
 /// A record does not look at the record, `FNR` and `FILENAME` of before, of any program.
