@@ -4,6 +4,7 @@ use Rattle.std.specs.Prelude.{slice_get, MatchOption}
 use Rattle.pawk_value.specs.Fault.{Fault}
 use Rattle.pawk_value.specs.Fault.TheVariants as fault
 use Rattle.pawk_value.specs.Value.{Val, Uninit, Text}
+use Rattle.pawk_world.specs.Halts.{Halt}
 use Rattle.pawk_world.specs.Halts as halt
 use Rattle.pawk_store.specs.Slots.{ofs_slot, ors_slot}
 use Rattle.pawk_code.specs.declared.name.Array.{Array}
@@ -15,13 +16,13 @@ use Rattle.pawk_code.specs.Statements.{next_file, exit, return, Stmt, simple, le
 use Rattle.pawk_code.specs.Statements.{Stmts, done, next}
 use Rattle.pawk_code.specs.Statements as code
 use Rattle.pawk_code.specs.Programs.{Function}
-use Rattle.pawk_meaning.specs.Parts.{Hold, Moment, gives, Part, halt_with, entry_of}
+use Rattle.pawk_meaning.specs.Parts.{Hold, Moment, Outcome, gives, Part, halt_with, then_do, entry_of}
 use Rattle.pawk_meaning.specs.Places.{Aim, array_at, text_at, variable_aim, remove_in, clear_of, keys_of}
 use Rattle.pawk_meaning.specs.Builtins.{joined_by, sign_of, formatted_text}
 use Rattle.pawk_meaning.specs.Meaning.{Way, on, by_break, by_continue, by_return, value_of_way, left_by, status_by, and_then, after_left, after_turn, turns, while_loop, print_text, eval, act, leaves, act_or_none, test_or_true, visit_keys, for_keys, exec, execs, run_function, run_function_at, call_at}
-use Rattle.pawk_meaning.specs.Lockstep.{Global, Access, writes, changes, removes, clears, walks, AllHeld}
-use Rattle.pawk_meaning.specs.Allows.{TouchesArray, TouchesVariable, Allows, AllowsSimple, AllowsLeave, AllowsSimpleIfAny, AllowsIfAny, AllowsStmt, AllowsStmts, AllowsFunctions}
-use Rattle.pawk_meaning.proofs.Later.{prefix_here, Any, held_extended, holding_array, later_then}
+use Rattle.pawk_meaning.specs.Lockstep.{Resource, function_slot, Access, writes, changes, removes, clears, walks, runs, AllHeld, EndsBy}
+use Rattle.pawk_meaning.specs.Allows.{TouchesArray, TouchesVariable, Allows, AllowsSimple, AllowsLeave, AllowsSimpleIfAny, AllowsIfAny, AllowsStmt, AllowsStmts, AllowsBody, AllowsFunctions}
+use Rattle.pawk_meaning.proofs.Later.{prefix_here, Any, Order, held_extended, holding_array, Later, later_then}
 use Rattle.pawk_meaning.proofs.Going.{Track, Held, Goes, held_too, in_step_then, goes_bind, goes_plain, goes_halt, goes_fault, goes_settle, goes_tick, goes_framed, goes_stated, goes_left, goes_spelled, goes_as_number, goes_as_truth, goes_dropped, goes_if, goes_decide}
 use Rattle.pawk_meaning.proofs.InExpressions.{Aims, aims_variable, goes_write_at, goes_add_at, goes_remove_in, goes_clear_of, goes_keys_of, goes_subscripts, goes_eval, goes_texts, goes_values, goes_aim, goes_format}
 
@@ -54,12 +55,12 @@ module _ {S T : Type 0} {t : Track S T} where
 module _ {S T : Type 0} {t : Track S T} (eres : List (List ℕ)) where
   goes_print_text : (s : List ℕ) → Goes t Any (print_text s) (print_text s)
   goes_print_text s = record {
-    first = λ m held. record { world = t.first.here m.world; output = (s, refl); meets = (tt, held) };
-    second = λ n held. record { world = t.second.here n.world; output = (s, refl); meets = (tt, held) };
+    first = λ m held. record { world = t.first.here m.world; output = (s, refl); state = t.order.here m.state; meets = (tt, held) };
+    second = λ n held. record { world = t.second.here n.world; output = (s, refl); state = t.order.here n.state; meets = (tt, held) };
     alike = λ m n same held. inl (refl, record { worlds = same.worlds; states = same.states; frames = same.frames; arrays = same.arrays; outputs = ap (λ o. o ++ s) same.outputs; lefts = same.lefts });
   }
 
-  module _ (enter : ℕ → List Hold → Part S Val) (enter' : ℕ → List Hold → Part T Val) (entered_too : (f : ℕ) (values : List Hold) → Held t values → Goes t Any (enter f values) (enter' f values)) where
+  module _ (enter : ℕ → List Hold → Part S Val) (enter' : ℕ → List Hold → Part T Val) (entered_too : (f : ℕ) → t.pair.permits runs (function_slot f) → (values : List Hold) → Held t values → Goes t Any (enter f values) (enter' f values)) where
     evals : (e : Expr) → Allows t.pair.permits e → Goes t Any (eval t.pair.first_calls eres enter e) (eval t.pair.second_calls eres enter' e)
     evals e may = goes_eval eres enter enter' entered_too e may
 
@@ -82,7 +83,7 @@ module _ {S T : Type 0} {t : Track S T} (eres : List (List ℕ)) where
     goes_leaves break may = goes_plain by_break
     goes_leaves continue may = goes_plain by_continue
     goes_leaves next_record may = goes_halt Any halt.next t.first.at_next t.second.at_next
-    goes_leaves next_file may = goes_halt Any halt.next_file t.first.at_next_file t.second.at_next_file
+    goes_leaves next_file may = goes_halt Any halt.next_file (t.first.at_next_file may) (t.second.at_next_file may)
     goes_leaves (exit None) may = goes_stated Any (λ s. halt_with (halt.exit s.status)) (λ s. halt_with (halt.exit s.status)) (λ s. goes_exit s.status)
     goes_leaves (exit (Some e)) may = goes_bind (goes_as_number (evals e may)) (λ x _. goes_bind (goes_settle (status_by x)) (λ n _. goes_exit n))
     goes_leaves (return None) may = goes_plain (by_return Uninit)
@@ -128,33 +129,30 @@ inside kinds values m = let e = entry_of kinds values m.arrays in record m { fra
 abbrev back : {Q : Type 0} → Moment Q → Way → Part Q Val
 back m way after = gives (value_of_way way) (record after { frame = m.frame; arrays = take (length m.arrays) after.arrays })
 
-held_inside : {Q : Type 0} (permits : Access → Global → Type 0) (kinds : List Kind) (values : List Hold) (m : Moment Q) → AllHeld permits values → AllHeld permits (inside kinds values m).frame
+later_outside : {Q X : Type 0} (permits : Access → Resource → Type 0) (ends : Halt → Type 0) (before : Q → Q → Type 0) (order : Order permits) (P : X → Type 0) (kinds : List Kind) (values : List Hold) (m : Moment Q) (o : Outcome Q X) → Later permits ends before order P (inside kinds values m) o → Later permits ends before order P m o
+later_outside permits ends before order P kinds values m o l = record { world = l.world; output = l.output; state = l.state; meets = l.meets }
+
+held_inside : {Q : Type 0} (permits : Access → Resource → Type 0) (kinds : List Kind) (values : List Hold) (m : Moment Q) → AllHeld permits values → AllHeld permits (inside kinds values m).frame
 held_inside permits kinds values m held = held_extended permits (drop (length values) kinds) (record { frame = values; arrays = m.arrays }) held
 
--- the body of a function that is there is permitted
-allowed_at : (permits : Access → Global → Type 0) (fs : List Function) → AllowsFunctions permits fs → (f : ℕ) → MatchOption (slice_get fs f) (Unit {0}) (λ g. AllowsStmts permits g.body)
-allowed_at permits [] may f = tt
-allowed_at permits (g ∷ fs) may zero = may.0
-allowed_at permits (g ∷ fs) may (suc f) = allowed_at permits fs may.1 f
-
-match_map : (o : Option Function) {P Q : Function → Type 0} → ((g : Function) → P g → Q g) → MatchOption o (Unit {0}) P → MatchOption o (Unit {0}) Q
-match_map None h m = tt
-match_map (Some g) h m = h g m
+body_map : (permits : Access → Resource → Type 0) (o : Option Function) {Q : Function → Type 0} → ((g : Function) → AllowsStmts permits g.body → Q g) → AllowsBody permits o → MatchOption o (Unit {0}) Q
+body_map permits None h may = tt
+body_map permits (Some g) h may = h g may
 
 module _ {S T : Type 0} {t : Track S T} where
   -- the caller's parameters and local arrays are put back
   goes_back : (f f' : List Hold) (k k' : ℕ) → f ≡ f' → k ≡ k' → Held t f → Held t f' → (v : Val) → Goes t Any (λ after. gives v (record after { frame = f; arrays = take k after.arrays })) (λ after. gives v (record after { frame = f'; arrays = take k' after.arrays }))
   goes_back f f' k k' e d held held' v = record {
-    first = λ m _. record { world = t.first.here m.world; output = prefix_here m.output; meets = (tt, held) };
-    second = λ n _. record { world = t.second.here n.world; output = prefix_here n.output; meets = (tt, held') };
+    first = λ m _. record { world = t.first.here m.world; output = prefix_here m.output; state = t.order.here m.state; meets = (tt, held) };
+    second = λ n _. record { world = t.second.here n.world; output = prefix_here n.output; state = t.order.here n.state; meets = (tt, held') };
     alike = λ m n same _. inl (refl, record { worlds = same.worlds; states = same.states; frames = e; arrays = ap (λ j. take j m.arrays) d ∙ ap (take k') same.arrays; outputs = same.outputs; lefts = same.lefts });
   }
 
 module _ {S T : Type 0} {t : Track S T} (eres : List (List ℕ)) where
   goes_called : (kinds : List Kind) (values : List Hold) → Held t values → {body : Part S Way} {body' : Part T Way} → Goes t Any body body' → Goes t Any (run_function t.pair.first_calls eres kinds body values) (run_function t.pair.second_calls eres kinds body' values)
   goes_called kinds values held {body = body} {body' = body'} h = record {
-    first = λ m mine. later_then t.pair.permits t.pair.before t.pair.first_calls t.first Any Any m.world m.output (body (inside kinds values m)) (back m) (h.first (inside kinds values m) (held_inside t.pair.permits kinds values m held)) (λ way n _ _. record { world = t.first.here n.world; output = prefix_here n.output; meets = (tt, mine) });
-    second = λ m mine. later_then t.pair.permits t.pair.before_second t.pair.second_calls t.second Any Any m.world m.output (body' (inside kinds values m)) (back m) (h.second (inside kinds values m) (held_inside t.pair.permits kinds values m held)) (λ way n _ _. record { world = t.second.here n.world; output = prefix_here n.output; meets = (tt, mine) });
+    first = λ m mine. later_outside t.pair.permits (EndsBy t.first) t.pair.before t.order Any kinds values m (then_do (body (inside kinds values m)) (back m)) (later_then t.pair.permits t.pair.before t.pair.first_calls t.first t.order Any Any (inside kinds values m) (body (inside kinds values m)) (back m) (h.first (inside kinds values m) (held_inside t.pair.permits kinds values m held)) (λ way n _ _. record { world = t.first.here n.world; output = prefix_here n.output; state = t.order.here n.state; meets = (tt, mine) }));
+    second = λ m mine. later_outside t.pair.permits (EndsBy t.second) t.pair.before_second t.order Any kinds values m (then_do (body' (inside kinds values m)) (back m)) (later_then t.pair.permits t.pair.before_second t.pair.second_calls t.second t.order Any Any (inside kinds values m) (body' (inside kinds values m)) (back m) (h.second (inside kinds values m) (held_inside t.pair.permits kinds values m held)) (λ way n _ _. record { world = t.second.here n.world; output = prefix_here n.output; state = t.order.here n.state; meets = (tt, mine) }));
     alike = λ m n same mine. in_step_then {t = t} Any Any
         (body (inside kinds values m))
         (body' (inside kinds values n))
@@ -172,11 +170,11 @@ module _ {S T : Type 0} {t : Track S T} (eres : List (List ℕ)) where
   goes_called_at None run run' h values held = goes_plain Uninit
   goes_called_at (Some g) run run' h values held = goes_called g.kinds values held h
 
-  pub goes_call_at : (fs : List Function) → AllowsFunctions t.pair.permits fs → (depth f : ℕ) (values : List Hold) → Held t values → Goes t Any (call_at t.pair.first_calls eres fs depth f values) (call_at t.pair.second_calls eres fs depth f values)
+  pub goes_call_at : (fs : List Function) → AllowsFunctions t.pair.permits fs → (depth f : ℕ) → t.pair.permits runs (function_slot f) → (values : List Hold) → Held t values → Goes t Any (call_at t.pair.first_calls eres fs depth f values) (call_at t.pair.second_calls eres fs depth f values)
   unfolding call_at
-  goes_call_at fs may zero f values held = goes_bind goes_tick (λ _ _. goes_fault Any fault.Depth)
-  goes_call_at fs may (suc depth) f values held =
-      goes_bind goes_tick (λ _ _. goes_called_at (slice_get fs f) (execs t.pair.first_calls eres (call_at t.pair.first_calls eres fs depth)) (execs t.pair.second_calls eres (call_at t.pair.second_calls eres fs depth)) (match_map (slice_get fs f) (λ g h. goes_execs eres (call_at t.pair.first_calls eres fs depth) (call_at t.pair.second_calls eres fs depth) (goes_call_at fs may depth) g.body h) (allowed_at t.pair.permits fs may f)) values held)
+  goes_call_at fs may zero f runnable values held = goes_bind goes_tick (λ _ _. goes_fault Any fault.Depth)
+  goes_call_at fs may (suc depth) f runnable values held =
+      goes_bind goes_tick (λ _ _. goes_called_at (slice_get fs f) (execs t.pair.first_calls eres (call_at t.pair.first_calls eres fs depth)) (execs t.pair.second_calls eres (call_at t.pair.second_calls eres fs depth)) (body_map t.pair.permits (slice_get fs f) (λ g h. goes_execs eres (call_at t.pair.first_calls eres fs depth) (call_at t.pair.second_calls eres fs depth) (goes_call_at fs may depth) g.body h) (may f runnable)) values held)
 
   pub goes_program : (fs : List Function) (ss : Stmts) → AllowsFunctions t.pair.permits fs → AllowsStmts t.pair.permits ss → (depth : ℕ) → Goes t Any (execs t.pair.first_calls eres (call_at t.pair.first_calls eres fs depth) ss) (execs t.pair.second_calls eres (call_at t.pair.second_calls eres fs depth) ss)
   goes_program fs ss may may' depth = goes_execs eres (call_at t.pair.first_calls eres fs depth) (call_at t.pair.second_calls eres fs depth) (goes_call_at fs may depth) ss may'
