@@ -1,1 +1,3 @@
 pub mod Roles
+pub mod Occurrences
+pub mod Reaches

@@ -1,6 +1,9 @@
 //! Which programs may run in chunks, and why not.
 #![tactic(auto)]
 
+pub mod expression;
+pub mod occurrence;
 mod role;
+mod statement;
 
 pub use role::{Role, Roles};
