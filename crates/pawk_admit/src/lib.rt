@@ -3,6 +3,7 @@
 
 pub mod expression;
 pub mod occurrence;
+mod reach;
 mod role;
 mod statement;
 
