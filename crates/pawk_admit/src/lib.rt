@@ -3,9 +3,9 @@
 
 mod admission;
 mod decision;
-pub mod expression;
+mod expression;
 mod marks;
-pub mod occurrence;
+mod occurrence;
 mod reach;
 mod reason;
 mod role;
