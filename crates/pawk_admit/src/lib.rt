@@ -4,6 +4,7 @@
 mod admission;
 mod decision;
 mod expression;
+pub mod laws;
 mod marks;
 mod occurrence;
 mod reach;
