@@ -1,5 +1,6 @@
 pub mod Entries
 pub mod ArrayViews
+pub mod Elements
 pub mod Lending
 pub mod Texts
 pub mod Law

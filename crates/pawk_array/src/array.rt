@@ -1,12 +1,13 @@
 //! Arrays.
 
-ghost use Rattle.std.specs.Prelude.{◌≡◌, ◌≤◌, [], ◌↔◌, length, IsTrue, IfOk, OnOk, OnErr, is_some};
+ghost use Rattle.std.specs.Prelude.{◌≡◌, ◌≤◌, [], ◌↔◌, length, map, IsTrue, IfOk, OnOk, OnErr, is_some};
 ghost use Rattle.std.specs.List.{All};
 ghost use Rattle.std.specs.Option.{option_map};
 ghost use Rattle.std.specs.Borrow.{sem};
 ghost use Rattle.pawk_value.specs.Value.{lent_value, shown, Uninit};
-ghost use Rattle.pawk_array.specs.Entries.{found, put, without, value_of, touched, pieces_of, keys};
+ghost use Rattle.pawk_array.specs.Entries.{found, put, without, value_of, touched, pieces_of, keys, Rise};
 ghost use Rattle.pawk_array.specs.ArrayViews.{entries_of, HasKeyAt};
+ghost use Rattle.pawk_array.specs.Elements.{element_of};
 ghost use Rattle.pawk_array.specs.Lending.{LendsElement, EndsTouched};
 
 use crate::texts::Texts;
@@ -33,6 +34,13 @@ impl Model for Array {
     ghost use Rattle.pawk_array.specs.ArrayViews.{entries_of};
 
     ghost view = { λ a. entries_of a.map.entries };
+}
+
+/// An element of an array: its key and its value.
+#[derive(Clone, Copy)]
+pub struct Element<'a> {
+    pub key: &'a [u8],
+    pub value: ValueRef<'a>,
 }
 
 /// The place of a key among the pairs; a key that is missing is added, with the uninitialised value.
@@ -179,9 +187,10 @@ impl Array {
         Ok(Array { alloc, map })
     }
 
-    /// All keys, in the order of their bytes.
-    pub fn keys(&self, alloc: Global) -> Result<Texts, AllocError>
-        ensures { IfOk result (λ all. all ≡ keys self.now) }
+    /// All keys, lent, in the order of their bytes.
+    fn sorted(&self, alloc: Global) -> Result<Vec<&[u8]>, AllocError>
+        ensures keys { IfOk result (λ all. map (λ x. x.now) all.items ≡ keys self.now) }
+        ensures rises { OnOk result (Rise self.now) }
     {
         let mut sorted = Vec::with_capacity(alloc, self.map.len())?;
         for place in 0..self.map.len() {
@@ -189,6 +198,28 @@ impl Array {
             sorted.push(key.as_slice())?;
         }
         sorted.sort_unstable();
+        Ok(sorted)
+    }
+
+    /// All keys, in the order of their bytes.
+    pub fn keys(&self, alloc: Global) -> Result<Texts, AllocError>
+        ensures { IfOk result (λ all. all ≡ keys self.now) }
+    {
+        let sorted = self.sorted(alloc)?;
         Texts::of(alloc, sorted.as_slice())
+    }
+
+    /// All elements, lent, in the order of the bytes of their keys.
+    pub fn elements(&self, alloc: Global) -> Result<Vec<Element<'_>>, AllocError>
+        ensures { IfOk result (λ all. map element_of all.items ≡ self.now) }
+    {
+        let sorted = self.sorted(alloc)?;
+        let mut all = Vec::with_capacity(alloc, sorted.len())?;
+        for key in sorted.as_slice() {
+            if let Some(value) = self.get(key) {
+                all.push(Element { key, value })?;
+            }
+        }
+        Ok(all)
     }
 }

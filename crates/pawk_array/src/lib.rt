@@ -5,5 +5,5 @@ mod array;
 pub mod laws;
 mod texts;
 
-pub use array::Array;
+pub use array::{Array, Element};
 pub use texts::Texts;

@@ -3,3 +3,5 @@ pub mod Openings
 pub mod RecordStates
 pub mod StateViews
 pub mod Slots
+pub mod Listings
+pub mod ListingViews

@@ -2,11 +2,13 @@
 
 ghost use Rattle.std.specs.Prelude.{◌≡◌, IfOk, OnOk, map, slice_set};
 ghost use Rattle.pawk_value.specs.Value.{lent_value, shown};
+ghost use Rattle.pawk_array.specs.Elements.{element_of};
+ghost use Rattle.pawk_store.specs.Globals.{array_at};
 ghost use Rattle.pawk_store.specs.Openings.{texts_of, pairs_of, opened};
 
 use crate::copies::{copy_arrays, copy_names, copy_scalars};
 use crate::openings::{empty_arrays, extra_names, push_opening_values};
-use pawk_array::{Array, Texts};
+use pawk_array::{Array, Element, Texts};
 use pawk_code::word::Sign;
 use pawk_settings::Assignment;
 use pawk_value::{Fault, Held, Value, ValueRef, assign, hold, lend, to_num, to_num_lent};
@@ -78,6 +80,20 @@ impl Globals {
             arrays: empty_arrays(alloc, arrays)?,
             extras,
         })
+    }
+
+    /// The elements of an array, lent, in the order of the bytes of their keys.
+    pub(crate) fn elements(
+        &self,
+        alloc: Global,
+        array: usize,
+    ) -> Result<Vec<Element<'_>>, AllocError>
+        ensures { IfOk result (λ all. map element_of all.items ≡ array_at self.now array) }
+    {
+        match self.arrays.get(array) {
+            Some(elements) => elements.elements(alloc),
+            None => Ok(Vec::new(alloc)),
+        }
     }
 
     /// A copy that holds its own bytes.

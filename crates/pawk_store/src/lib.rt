@@ -3,8 +3,12 @@
 
 mod copies;
 mod globals;
+mod listing;
 mod openings;
+mod specials;
 mod state;
 
 pub use globals::Globals;
+pub use listing::{Content, Named, Names};
+pub use specials::Specials;
 pub use state::RecordState;

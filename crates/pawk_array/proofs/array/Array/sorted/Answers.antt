@@ -1,5 +1,4 @@
 use Rattle.std.proofs.Common.{◌≡◌, ◌++◌, ◌∷◌, [], List, ℕ, Some, map, sym, ◌∙◌, ap, subst, arith, slice_get, get_or}
-use Rattle.std.specs.Prelude.{IfOk}
 use Rattle.std.specs.Option.{option_map}
 use Rattle.std.specs.Map.Iter.{deref_pair}
 use Rattle.std.specs.List.Sorted.{IsPermutation}
@@ -7,10 +6,10 @@ use Rattle.std.proofs.lemmas.List.{map-append, map_more}
 use Rattle.std.proofs.lemmas.List.Sorted.{IsPermutation-map}
 use Rattle.std.proofs.lemmas.Option.{get_or_from_slice_get}
 use Rattle.pawk_array.specs.Entries.{keys}
-use Rattle.pawk_array.proofs.PairsLemmas.{Key}
+use Rattle.pawk_array.proofs.PairsLemmas.{Key, rise-entries_of}
 use Rattle.pawk_array.proofs.KeysLemmas.{keys_in_order, sorted_texts, take_all}
 use Rattle.pawk_scalar.specs.declared.values.Value.{Value}
-use Rattle.pawk_array.proofs.array.Array.keys.Goals as goal
+use Rattle.pawk_array.proofs.array.Array.sorted.Goals as goal
 
 pub loop-place-preserved : goal.loop-place-preserved
 loop-place-preserved c =
@@ -37,6 +36,4 @@ returns c =
     let moved = subst P whole (IsPermutation-map (λ x. x.now) old new c.sort_unstable.ensures.permutation) in
     let sorted = sorted_texts new c.sort_unstable.ensures.sorted in
     let ordered = keys_in_order es (map (λ x. x.now) new) c.len.ensures.unique moved sorted in
-    let all = ap (map (λ x. x.now)) c.as_slice-2.ensures.value ∙ ordered ∙ ap keys c.self.view_is in
-    let Q : List (List ℕ) → Type 0 = λ xs. IfOk c.of.result (λ k. k ≡ xs) in
-    subst Q all c.of.ensures
+    record { keys = ordered ∙ ap keys c.self.view_is; rises = rw (← c.self.view_is) (rise-entries_of es) }
