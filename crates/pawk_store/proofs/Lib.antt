@@ -1,2 +1,3 @@
 pub mod OpeningLemmas
 pub mod ListingLemmas
+pub mod ListingLawLemmas

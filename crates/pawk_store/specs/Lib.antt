@@ -5,3 +5,4 @@ pub mod StateViews
 pub mod Slots
 pub mod Listings
 pub mod ListingViews
+pub mod ListingLaw

@@ -6,7 +6,7 @@ ghost use Rattle.pawk_array.specs.Elements.{element_of};
 ghost use Rattle.pawk_store.specs.Globals.{array_at};
 ghost use Rattle.pawk_store.specs.Openings.{texts_of, pairs_of, opened};
 
-use crate::copies::{copy_arrays, copy_names, copy_scalars};
+use crate::copies::{copy_arrays, copy_scalars};
 use crate::openings::{empty_arrays, extra_names, push_opening_values};
 use pawk_array::{Array, Element, Texts};
 use pawk_code::word::Sign;
@@ -23,8 +23,6 @@ pub struct Globals {
     alloc: Global,
     scalars: Vec<Value>,
     arrays: Vec<Array>,
-    /// The names of scalars that are assigned and are not of the program, whose slots come last.
-    extras: Vec<Vec<u8>>,
 }
 
 impl Model for Globals {
@@ -78,7 +76,6 @@ impl Globals {
             alloc,
             scalars,
             arrays: empty_arrays(alloc, arrays)?,
-            extras,
         })
     }
 
@@ -104,7 +101,6 @@ impl Globals {
             alloc,
             scalars: copy_scalars(alloc, self.scalars.as_slice())?,
             arrays: copy_arrays(alloc, self.arrays.as_slice())?,
-            extras: copy_names(alloc, self.extras.as_slice())?,
         })
     }
 }

@@ -3,6 +3,7 @@
 
 mod copies;
 mod globals;
+pub mod laws;
 mod listing;
 mod openings;
 mod specials;
