@@ -1,4 +1,5 @@
 pub mod Entries
+pub mod Keys
 pub mod ArrayViews
 pub mod Elements
 pub mod Lending

@@ -10,6 +10,7 @@ ghost use Rattle.pawk_array.specs.ArrayViews.{entries_of, HasKeyAt};
 ghost use Rattle.pawk_array.specs.Elements.{element_of};
 ghost use Rattle.pawk_array.specs.Lending.{LendsElement, EndsTouched};
 
+use crate::key::{Key, Query};
 use crate::texts::Texts;
 use indexmap::IndexMap;
 use itoa::Buffer;
@@ -23,7 +24,7 @@ use std::ops::Range;
 #[derive(Drop)]
 pub struct Array {
     alloc: Global,
-    map: IndexMap<Vec<u8>, Value>,
+    map: IndexMap<Key, Value>,
 }
 
 impl Model for Array {
@@ -44,20 +45,16 @@ pub struct Element<'a> {
 }
 
 /// The place of a key among the pairs; a key that is missing is added, with the uninitialised value.
-fn place_of(
-    alloc: Global,
-    map: &mut IndexMap<Vec<u8>, Value>,
-    key: &[u8],
-) -> Result<usize, AllocError>
+fn place_of(alloc: Global, map: &mut IndexMap<Key, Value>, key: &[u8]) -> Result<usize, AllocError>
     ensures place { IfOk result (λ place. HasKeyAt map.new.entries place key.now) }
     ensures touched { OnOk result
         (entries_of map.new.entries ≡ touched key.now (entries_of map.old.entries)) }
     ensures err { OnErr result (map.new.entries ≡ map.old.entries) }
 {
-    match map.get_index_of(key) {
+    match map.get_index_of(Query(key)) {
         Some(place) => Ok(place),
         None => {
-            let key = Vec::from_slice(alloc, key)?;
+            let key = Key::new(alloc, key)?;
             let (place, _) = map.insert_full(key, Value::Uninit)?;
             Ok(place)
         }
@@ -67,14 +64,14 @@ fn place_of(
 /// Puts a copy of a pair among the pairs.
 fn insert_copy(
     alloc: Global,
-    map: &mut IndexMap<Vec<u8>, Value>,
+    map: &mut IndexMap<Key, Value>,
     key: &[u8],
     value: &Value,
 ) -> Result<(), AllocError>
     ensures { OnOk result (entries_of map.new.entries
         ≡ put key.now (shown value.now) (entries_of map.old.entries)) }
 {
-    let key = Vec::from_slice(alloc, key)?;
+    let key = Key::new(alloc, key)?;
     let value = copy_value(alloc, value)?;
     map.insert(key, value)?;
     Ok(())
@@ -102,7 +99,7 @@ impl Array {
     pub fn get(&self, key: &[u8]) -> Option<ValueRef<'_>>
         ensures { option_map lent_value result ≡ found key.now self.now }
     {
-        match self.map.get(key) {
+        match self.map.get(Query(key)) {
             None => None,
             Some(value) => Some(lend(value)),
         }
@@ -112,14 +109,14 @@ impl Array {
     pub fn contains(&self, key: &[u8]) -> bool
         ensures { result ≡ is_some (found key.now self.now) }
     {
-        self.map.contains_key(key)
+        self.map.contains_key(Query(key))
     }
 
     /// Takes an element away, if it is there.
     pub fn remove(&mut self, key: &[u8])
         ensures { self.new ≡ without key.now self.old }
     {
-        let _ = self.map.swap_remove(key);
+        let _ = self.map.swap_remove(Query(key));
     }
 
     /// Takes all elements away.
@@ -182,7 +179,7 @@ impl Array {
         while place > 0 {
             place -= 1;
             let (key, value) = self.map.get_index(place).unwrap();
-            insert_copy(alloc, &mut map, key.as_slice(), value)?;
+            insert_copy(alloc, &mut map, key.text(), value)?;
         }
         Ok(Array { alloc, map })
     }
@@ -195,7 +192,7 @@ impl Array {
         let mut sorted = Vec::with_capacity(alloc, self.map.len())?;
         for place in 0..self.map.len() {
             let (key, _) = self.map.get_index(place).unwrap();
-            sorted.push(key.as_slice())?;
+            sorted.push(key.text())?;
         }
         sorted.sort_unstable();
         Ok(sorted)
