@@ -1,5 +1,5 @@
 -- Elements in the order of their keys.
-use Rattle.std.proofs.Common.{◌≡◌, ℕ, zero, suc, ◌+◌, ◌<◌, Bool, true, false, cond, List, [], ◌∷◌, ◌++◌, length, map, get_or, take, Some, None, Bor, refl, sym, ◌∙◌, ap, arith}
+use Rattle.std.proofs.Common.{◌≡◌, ℕ, zero, suc, ◌+◌, ◌<◌, Bool, true, false, cond, List, [], ◌∷◌, ◌++◌, length, map, get_or, take, Some, None, refl, sym, ◌∙◌, ap, arith}
 use Rattle.std.specs.Prelude.{◌&&◌}
 use Rattle.std.specs.Ordering.{is_lt, is_eq, eq_by_cmp, ordering_reverse}
 use Rattle.std.specs.declared.cmp.Ordering.{Ordering}
@@ -11,6 +11,7 @@ use Rattle.std.proofs.lemmas.Slice.Eq.{bytes_eq-Decides}
 use Rattle.pawk_value.specs.Value.{Val, lent_value}
 use Rattle.pawk_scalar.specs.declared.values.ValueRef.{ValueRef}
 use Rattle.pawk_array.specs.declared.array.Element.{Element}
+use Rattle.pawk_array.specs.declared.headed.Headed.{Headed}
 use Rattle.pawk_array.specs.Elements.{element_of}
 use Rattle.pawk_array.specs.Entries.{Entries, Rise, order, found, keys}
 use Rattle.pawk_array.proofs.EntriesLemmas.{total}
@@ -51,32 +52,33 @@ none : List ℕ × Val
 none = ([], Rattle.pawk_value.specs.Value.Uninit)
 
 -- the key at a place of the keys has what stands at that place
-key_has : (es : Entries) (ks : List (Bor (List ℕ))) (i : ℕ) (d : Bor (List ℕ)) → Rise es → map (λ x. x.now) ks ≡ keys es → i < length ks →
-    ((get_or ks i d).now ≡ (get_or es i none).0) × (found (get_or ks i d).now es ≡ Some (get_or es i none).1) × (i < length es)
-key_has es ks i d h e g =
-    let size : length ks ≡ length es = sym (length-map ks (λ (x : Bor (List ℕ)). x.now)) ∙ ap length e ∙ length-map es (λ (x : List ℕ × Val). x.0) in
+key_has : (es : Entries) (ks : List Headed) (i : ℕ) (k : Headed) → Rise es → map (λ x. x.text.now) ks ≡ keys es → i < length ks → k ≡ get_or ks i k →
+    (k.text.now ≡ (get_or es i none).0) × (found k.text.now es ≡ Some (get_or es i none).1) × (i < length es)
+key_has es ks i k h e g is =
+    let size : length ks ≡ length es = sym (length-map ks (λ (x : Headed). x.text.now)) ∙ ap length e ∙ length-map es (λ (x : List ℕ × Val). x.0) in
     let inside : i < length es = omega (arith, g, size) in
-    let same : (get_or ks i d).now ≡ (get_or es i none).0 =
-    sym (get_or-map (λ (x : Bor (List ℕ)). x.now) ks i d [] g) ∙ ap (λ xs. get_or xs i []) e ∙ get_or-map (λ (x : List ℕ × Val). x.0) es i none [] inside in
-    (same, ap (λ k. found k es) same ∙ found_at es i none h inside, inside)
+    let same : k.text.now ≡ (get_or es i none).0 =
+    ap (λ (x : Headed). x.text.now) is ∙ sym (get_or-map (λ (x : Headed). x.text.now) ks i k [] g) ∙ ap (λ xs. get_or xs i []) e
+    ∙ get_or-map (λ (x : List ℕ × Val). x.0) es i none [] inside in
+    (same, ap (λ q. found q es) same ∙ found_at es i none h inside, inside)
 
 -- one more element
-pub element_more : (es : Entries) (ks : List (Bor (List ℕ))) (i : ℕ) (d : Bor (List ℕ)) (all new : List Element) (v : ValueRef) →
-    Rise es → map (λ x. x.now) ks ≡ keys es → i < length ks → Some (lent_value v) ≡ found (get_or ks i d).now es →
-    map element_of all ≡ take i es → new ≡ all ++ (record { key = get_or ks i d; value = v }) ∷ [] → map element_of new ≡ take (i + 1) es
-element_more es ks i d all new v h e g at so_far pushed =
-    let k = key_has es ks i d h e g in
-    let value : lent_value v ≡ (get_or es i none).1 = some_same (at ∙ k.1) in
+pub element_more : (es : Entries) (ks : List Headed) (i : ℕ) (k : Headed) (all new : List Element) (v : ValueRef) →
+    Rise es → map (λ x. x.text.now) ks ≡ keys es → i < length ks → k ≡ get_or ks i k → Some (lent_value v) ≡ found k.text.now es →
+    map element_of all ≡ take i es → new ≡ all ++ (record { key = k.text; value = v }) ∷ [] → map element_of new ≡ take (i + 1) es
+element_more es ks i k all new v h e g is at so_far pushed =
+    let has = key_has es ks i k h e g is in
+    let value : lent_value v ≡ (get_or es i none).1 = some_same (at ∙ has.1) in
     rw pushed (map-append _ all _
-    ∙ ap (λ xs. xs ++ ((get_or ks i d).now, lent_value v) ∷ []) so_far
-    ∙ ap (λ x. take i es ++ (x, lent_value v) ∷ []) k.0
+    ∙ ap (λ xs. xs ++ (k.text.now, lent_value v) ∷ []) so_far
+    ∙ ap (λ x. take i es ++ (x, lent_value v) ∷ []) has.0
     ∙ ap (λ x. take i es ++ ((get_or es i none).0, x) ∷ []) value
-    ∙ sym (take_more es i none k.2)) where
+    ∙ sym (take_more es i none has.2)) where
       some_same : {x y : Val} → Some x ≡ Some y → x ≡ y
       some_same e = cc
 
 -- no key is without an element
-pub element_there : (es : Entries) (ks : List (Bor (List ℕ))) (i : ℕ) (d : Bor (List ℕ)) → Rise es → map (λ x. x.now) ks ≡ keys es → i < length ks →
-    None ≡ found (get_or ks i d).now es → ⊥
-element_there es ks i d h e g at =
-    let no : None ≡ Some (get_or es i none).1 = at ∙ (key_has es ks i d h e g).1 in cc
+pub element_there : (es : Entries) (ks : List Headed) (i : ℕ) (k : Headed) → Rise es → map (λ x. x.text.now) ks ≡ keys es → i < length ks → k ≡ get_or ks i k →
+    None ≡ found k.text.now es → ⊥
+element_there es ks i k h e g is at =
+    let no : None ≡ Some (get_or es i none).1 = at ∙ (key_has es ks i k h e g is).1 in cc

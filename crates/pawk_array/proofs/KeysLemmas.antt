@@ -1,5 +1,5 @@
 -- Keys in order, and keys in one room.
-use Rattle.std.proofs.Common.{◌≡◌, ℕ, zero, suc, ◌+◌, ◌-◌, ◌<◌, ◌≤◌, Bool, true, false, cond, List, [], ◌∷◌, ◌++◌, length, map, get_or, take, drop, refl, sym, ◌∙◌, ap, arith, length-drop, Bor, Option, None, Some}
+use Rattle.std.proofs.Common.{◌≡◌, ℕ, zero, suc, ◌+◌, ◌-◌, ◌<◌, ◌≤◌, Bool, true, false, cond, List, [], ◌∷◌, ◌++◌, length, map, get_or, take, drop, refl, sym, ◌∙◌, ap, arith, length-drop, Option, None, Some}
 use Rattle.std.specs.Prelude.{is_some, slice_range, ◌&&◌, ◌||◌}
 use Rattle.std.specs.List.{AllByRecursion, IsDistinct, list_any}
 use Rattle.std.specs.List.Sorted.{IsPermutation, IsSorted, IsStrictlySortedBy}
@@ -18,6 +18,7 @@ use Rattle.std.proofs.lemmas.Map.Keys.{sorted_from_all_adjacent, apart_from_dist
 use Rattle.std.proofs.lemmas.Slice.Eq.{bytes_eq-Decides}
 use Rattle.pawk_scalar.specs.declared.values.Value.{Value}
 use Rattle.pawk_array.specs.Entries.{Entries, order, keys}
+use Rattle.pawk_array.specs.declared.headed.Headed.{Headed}
 use Rattle.pawk_array.specs.declared.key.Key.{Key}
 use Rattle.pawk_array.specs.Keys.{text_of}
 use Rattle.pawk_array.specs.ArrayViews.{entries_of}
@@ -130,15 +131,15 @@ keys_in_order es ks distinct moved sorted =
     let equal = same_entries order total same_text (marks ks) (marks all) (holds _ (strictly ks strict)) (holds _ (sorted_marks (entries_of es) ∙ rise-entries_of es)) finds in
     sym (marked_keys ks) ∙ ap (map (λ e. e.0)) equal ∙ marked_keys all
 
-sorted_from : (first : Bor (List ℕ)) (xs : List (Bor (List ℕ))) → IsSorted (λ x y. order x.now y.now) xs → IsSorted order (map (λ x. x.now) xs)
+sorted_from : (first : Headed) (xs : List Headed) → IsSorted (λ x y. order x.text.now y.text.now) xs → IsSorted order (map (λ x. x.text.now) xs)
 sorted_from first xs h k d low below =
-    let size = length-map xs (λ (x : Bor (List ℕ)). x.now) in
+    let size = length-map xs (λ (x : Headed). x.text.now) in
     let next : k + 1 < length xs = omega (arith, below, size) in
     let here : k < length xs = omega (arith, next) in
-    rw (get_or-map (λ x. x.now) xs (k + 1) first d next, get_or-map (λ x. x.now) xs k first d here) (h k first low next)
+    rw (get_or-map (λ x. x.text.now) xs (k + 1) first d next, get_or-map (λ x. x.text.now) xs k first d here) (h k first low next)
 
 -- texts behind references are sorted as these are
-pub sorted_texts : (xs : List (Bor (List ℕ))) → IsSorted (λ x y. order x.now y.now) xs → IsSorted order (map (λ x. x.now) xs)
+pub sorted_texts : (xs : List Headed) → IsSorted (λ x y. order x.text.now y.text.now) xs → IsSorted order (map (λ x. x.text.now) xs)
 sorted_texts [] h = λ k d low below. absurd (omega (arith, below))
 sorted_texts (x ∷ xs) h = sorted_from x (x ∷ xs) h
 

@@ -3,3 +3,4 @@ pub mod PairsLemmas
 pub mod KeysLemmas
 pub mod LawLemmas
 pub mod ElementLemmas
+pub mod HeadLemmas

@@ -1,4 +1,5 @@
 pub mod Entries
+pub mod Heads
 pub mod Keys
 pub mod ArrayViews
 pub mod Elements

@@ -10,6 +10,7 @@ ghost use Rattle.pawk_array.specs.ArrayViews.{entries_of, HasKeyAt};
 ghost use Rattle.pawk_array.specs.Elements.{element_of};
 ghost use Rattle.pawk_array.specs.Lending.{LendsElement, EndsTouched};
 
+use crate::headed::Headed;
 use crate::key::{Key, Query};
 use crate::texts::Texts;
 use indexmap::IndexMap;
@@ -185,14 +186,14 @@ impl Array {
     }
 
     /// All keys, lent, in the order of their bytes.
-    fn sorted(&self, alloc: Global) -> Result<Vec<&[u8]>, AllocError>
-        ensures keys { IfOk result (λ all. map (λ x. x.now) all.items ≡ keys self.now) }
+    fn sorted(&self, alloc: Global) -> Result<Vec<Headed<'_>>, AllocError>
+        ensures keys { IfOk result (λ all. map (λ x. x.text.now) all.items ≡ keys self.now) }
         ensures rises { OnOk result (Rise self.now) }
     {
         let mut sorted = Vec::with_capacity(alloc, self.map.len())?;
         for place in 0..self.map.len() {
             let (key, _) = self.map.get_index(place).unwrap();
-            sorted.push(key.text())?;
+            sorted.push(Headed::new(key.text()))?;
         }
         sorted.sort_unstable();
         Ok(sorted)
@@ -213,7 +214,8 @@ impl Array {
         let sorted = self.sorted(alloc)?;
         let mut all = Vec::with_capacity(alloc, sorted.len())?;
         for key in sorted.as_slice() {
-            if let Some(value) = self.get(key) {
+            if let Some(value) = self.get(key.text) {
+                let key = key.text;
                 all.push(Element { key, value })?;
             }
         }

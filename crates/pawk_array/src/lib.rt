@@ -2,6 +2,7 @@
 #![tactic(auto)]
 
 mod array;
+mod headed;
 mod key;
 pub mod laws;
 mod texts;

@@ -23,7 +23,7 @@ loop-place-preserved c =
     let more = map_more (λ (e : Key × Value). text_of e.0) es place (pair.0.now, pair.1.now) (omega (arith, c.len-place-end.ensures.len)) in
     rw c.in_ok-push.ensures.items
     (map-append _ c.loop-place.sorted.items _
-    ∙ ap (λ x. map (λ y. y.now) c.loop-place.sorted.items ++ x ∷ []) (c.text.ensures ∙ ap (λ (e : Key × Value). text_of e.0) (sym here))
+    ∙ ap (λ x. map (λ y. y.text.now) c.loop-place.sorted.items ++ x ∷ []) (c.new.ensures ∙ c.text.ensures ∙ ap (λ (e : Key × Value). text_of e.0) (sym here))
     ∙ ap (λ xs. xs ++ text_of (get_or es place (pair.0.now, pair.1.now)).0 ∷ []) c.loop-place.invariant
     ∙ sym more)
 
@@ -32,10 +32,10 @@ returns c =
     let es = c.self.inside.map.entries in
     let old = c.loop-place.sorted.items in
     let new = c.sort_unstable.new.self.items in
-    let whole : map (λ x. x.now) old ≡ map (λ e. text_of e.0) es =
+    let whole : map (λ x. x.text.now) old ≡ map (λ e. text_of e.0) es =
     c.loop-place.invariant ∙ ap (map (λ (e : Key × Value). text_of e.0)) (take_all es c.loop-place.place (omega (arith, c.len-place-end.ensures.len))) in
-    let P : List (List ℕ) → Type 0 = λ xs. IsPermutation xs (map (λ x. x.now) new) in
-    let moved = subst P whole (IsPermutation-map (λ x. x.now) old new c.sort_unstable.ensures.permutation) in
+    let P : List (List ℕ) → Type 0 = λ xs. IsPermutation xs (map (λ x. x.text.now) new) in
+    let moved = subst P whole (IsPermutation-map (λ x. x.text.now) old new c.sort_unstable.ensures.permutation) in
     let sorted = sorted_texts new c.sort_unstable.ensures.sorted in
-    let ordered = keys_in_order es (map (λ x. x.now) new) c.len.ensures.unique moved sorted in
+    let ordered = keys_in_order es (map (λ x. x.text.now) new) c.len.ensures.unique moved sorted in
     record { keys = ordered ∙ ap keys c.self.view_is; rises = rw (← c.self.view_is) (rise-entries_of es) }
