@@ -20,9 +20,9 @@ use std::marker::Model;
 /// written to it is lost.
 #[derive(Drop)]
 pub struct Globals {
-    alloc: Global,
-    scalars: Vec<Value>,
-    arrays: Vec<Array>,
+    pub(crate) alloc: Global,
+    pub(crate) scalars: Vec<Value>,
+    pub(crate) arrays: Vec<Array>,
 }
 
 impl Model for Globals {
