@@ -1,5 +1,5 @@
 -- Keys in order, and keys in one room.
-use Rattle.std.proofs.Common.{◌≡◌, ℕ, zero, suc, ◌+◌, ◌-◌, ◌<◌, ◌≤◌, Bool, true, false, cond, List, [], ◌∷◌, ◌++◌, length, map, get_or, take, drop, refl, sym, ◌∙◌, ap, arith, length-drop, Bor, Option, None, Some}
+use Rattle.std.proofs.Common.{◌≡◌, ℕ, zero, suc, ◌+◌, ◌-◌, ◌<◌, ◌≤◌, Bool, true, false, cond, List, [], ◌∷◌, ◌++◌, length, map, get_or, take, drop, refl, sym, ◌∙◌, ap, arith, length-drop, Option, None, Some}
 use Rattle.std.specs.Prelude.{is_some, slice_range, ◌&&◌, ◌||◌}
 use Rattle.std.specs.List.{AllByRecursion, IsDistinct, list_any}
 use Rattle.std.specs.List.Sorted.{IsPermutation, IsSorted, IsStrictlySortedBy}
@@ -18,10 +18,13 @@ use Rattle.std.proofs.lemmas.Map.Keys.{sorted_from_all_adjacent, apart_from_dist
 use Rattle.std.proofs.lemmas.Slice.Eq.{bytes_eq-Decides}
 use Rattle.pawk_scalar.specs.declared.values.Value.{Value}
 use Rattle.pawk_array.specs.Entries.{Entries, order, keys}
+use Rattle.pawk_array.specs.declared.headed.Headed.{Headed}
+use Rattle.pawk_array.specs.declared.key.Key.{Key}
+use Rattle.pawk_array.specs.Keys.{text_of}
 use Rattle.pawk_array.specs.ArrayViews.{entries_of}
 use Rattle.pawk_array.specs.Texts.{texts_in, AreWithin}
 use Rattle.pawk_array.proofs.EntriesLemmas.{total, same_text, holds, flip}
-use Rattle.pawk_array.proofs.PairsLemmas.{Key, Pairs, same_bytes, has_bytes, rise-entries_of, contains_by}
+use Rattle.pawk_array.proofs.PairsLemmas.{Pairs, same_bytes, has_bytes, rise-entries_of, contains_by}
 
 -- ---- one room
 
@@ -85,20 +88,20 @@ rises x y g h = by_cases (order y x) refl (total.antisymm x y) where
       let yes = (bytes_eq-Decides x y).1 (sym same) in cc
   by_cases Greater p q = q ∙ ap ordering_reverse p
 
-apart_map : (k : List ℕ) (es : Pairs) → AllByRecursion (λ y. bytes_eq k y.items ≡ false) (keys_of es) → AllByRecursion (λ y. bytes_eq k y ≡ false) (map (λ e. e.0.items) es)
+apart_map : (k : List ℕ) (es : Pairs) → AllByRecursion (λ y. bytes_eq k (text_of y) ≡ false) (keys_of es) → AllByRecursion (λ y. bytes_eq k y ≡ false) (map (λ e. text_of e.0) es)
 apart_map k [] h = tt
 apart_map k (e ∷ es) h = (h.0, apart_map k es h.1)
 
-distinct_texts : (es : Pairs) → IsDistinct same_bytes (keys_of es) → IsDistinct bytes_eq (map (λ e. e.0.items) es)
+distinct_texts : (es : Pairs) → IsDistinct same_bytes (keys_of es) → IsDistinct bytes_eq (map (λ e. text_of e.0) es)
 unfolding IsDistinct
 distinct_texts [] h = tt
-distinct_texts (e ∷ es) h = (apart_map e.0.items es h.0, distinct_texts es h.1)
+distinct_texts (e ∷ es) h = (apart_map (text_of e.0) es h.0, distinct_texts es h.1)
 
-any_lookup : (q : List ℕ) (es : Pairs) → list_any (bytes_eq q) (map (λ e. e.0.items) es) ≡ is_some (lookup (has_bytes q) es)
+any_lookup : (q : List ℕ) (es : Pairs) → list_any (bytes_eq q) (map (λ e. text_of e.0) es) ≡ is_some (lookup (has_bytes q) es)
 any_lookup q [] = refl
 any_lookup q (e ∷ es) = by_cases (has_bytes q e.0) (any_lookup q es) where
-  by_cases : (b : Bool) → list_any (bytes_eq q) (map (λ e. e.0.items) es) ≡ is_some (lookup (has_bytes q) es) →
-      (b || list_any (bytes_eq q) (map (λ e. e.0.items) es)) ≡ is_some (cond b (Some e.1) (lookup (has_bytes q) es))
+  by_cases : (b : Bool) → list_any (bytes_eq q) (map (λ e. text_of e.0) es) ≡ is_some (lookup (has_bytes q) es) →
+      (b || list_any (bytes_eq q) (map (λ e. text_of e.0) es)) ≡ is_some (cond b (Some e.1) (lookup (has_bytes q) es))
   by_cases true h = refl
   by_cases false h = h
 
@@ -113,10 +116,10 @@ unit_same (Some x) None e = cc
 unit_same (Some x) (Some y) e = refl
 
 -- the keys of distinct pairs, in order, are the keys of what the pairs hold
-pub keys_in_order : (es : Pairs) (ks : List (List ℕ)) → IsDistinct same_bytes (keys_of es) → IsPermutation (map (λ e. e.0.items) es) ks → IsSorted order ks →
+pub keys_in_order : (es : Pairs) (ks : List (List ℕ)) → IsDistinct same_bytes (keys_of es) → IsPermutation (map (λ e. text_of e.0) es) ks → IsSorted order ks →
     ks ≡ keys (entries_of es)
 keys_in_order es ks distinct moved sorted =
-    let texts : List (List ℕ) = map (λ e. e.0.items) es in
+    let texts : List (List ℕ) = map (λ e. text_of e.0) es in
     let apart = IsDistinct-IsPermutation bytes_eq flip texts ks moved (distinct_texts es distinct) in
     let strict = sorted_from_all_adjacent total ks [] (λ k below. rises (get_or ks k []) (get_or ks (k + 1) []) (sorted k [] (omega arith) below) (apart_from_distinct bytes_eq ks k (k + 1) [] apart (omega arith) below)) in
     let all = keys (entries_of es) in
@@ -128,15 +131,15 @@ keys_in_order es ks distinct moved sorted =
     let equal = same_entries order total same_text (marks ks) (marks all) (holds _ (strictly ks strict)) (holds _ (sorted_marks (entries_of es) ∙ rise-entries_of es)) finds in
     sym (marked_keys ks) ∙ ap (map (λ e. e.0)) equal ∙ marked_keys all
 
-sorted_from : (first : Bor (List ℕ)) (xs : List (Bor (List ℕ))) → IsSorted (λ x y. order x.now y.now) xs → IsSorted order (map (λ x. x.now) xs)
+sorted_from : (first : Headed) (xs : List Headed) → IsSorted (λ x y. order x.text.now y.text.now) xs → IsSorted order (map (λ x. x.text.now) xs)
 sorted_from first xs h k d low below =
-    let size = length-map xs (λ (x : Bor (List ℕ)). x.now) in
+    let size = length-map xs (λ (x : Headed). x.text.now) in
     let next : k + 1 < length xs = omega (arith, below, size) in
     let here : k < length xs = omega (arith, next) in
-    rw (get_or-map (λ x. x.now) xs (k + 1) first d next, get_or-map (λ x. x.now) xs k first d here) (h k first low next)
+    rw (get_or-map (λ x. x.text.now) xs (k + 1) first d next, get_or-map (λ x. x.text.now) xs k first d here) (h k first low next)
 
 -- texts behind references are sorted as these are
-pub sorted_texts : (xs : List (Bor (List ℕ))) → IsSorted (λ x y. order x.now y.now) xs → IsSorted order (map (λ x. x.now) xs)
+pub sorted_texts : (xs : List Headed) → IsSorted (λ x y. order x.text.now y.text.now) xs → IsSorted order (map (λ x. x.text.now) xs)
 sorted_texts [] h = λ k d low below. absurd (omega (arith, below))
 sorted_texts (x ∷ xs) h = sorted_from x (x ∷ xs) h
 

@@ -1,14 +1,17 @@
 //! Arrays.
 
-ghost use Rattle.std.specs.Prelude.{◌≡◌, ◌≤◌, [], ◌↔◌, length, IsTrue, IfOk, OnOk, OnErr, is_some};
+ghost use Rattle.std.specs.Prelude.{◌≡◌, ◌≤◌, [], ◌↔◌, length, map, IsTrue, IfOk, OnOk, OnErr, is_some};
 ghost use Rattle.std.specs.List.{All};
 ghost use Rattle.std.specs.Option.{option_map};
 ghost use Rattle.std.specs.Borrow.{sem};
 ghost use Rattle.pawk_value.specs.Value.{lent_value, shown, Uninit};
-ghost use Rattle.pawk_array.specs.Entries.{found, put, without, value_of, touched, pieces_of, keys};
+ghost use Rattle.pawk_array.specs.Entries.{found, put, without, value_of, touched, pieces_of, keys, Rise};
 ghost use Rattle.pawk_array.specs.ArrayViews.{entries_of, HasKeyAt};
+ghost use Rattle.pawk_array.specs.Elements.{element_of};
 ghost use Rattle.pawk_array.specs.Lending.{LendsElement, EndsTouched};
 
+use crate::headed::Headed;
+use crate::key::{Key, Query};
 use crate::texts::Texts;
 use indexmap::IndexMap;
 use itoa::Buffer;
@@ -22,7 +25,7 @@ use std::ops::Range;
 #[derive(Drop)]
 pub struct Array {
     alloc: Global,
-    map: IndexMap<Vec<u8>, Value>,
+    map: IndexMap<Key, Value>,
 }
 
 impl Model for Array {
@@ -35,21 +38,24 @@ impl Model for Array {
     ghost view = { λ a. entries_of a.map.entries };
 }
 
+/// An element of an array: its key and its value.
+#[derive(Clone, Copy)]
+pub struct Element<'a> {
+    pub key: &'a [u8],
+    pub value: ValueRef<'a>,
+}
+
 /// The place of a key among the pairs; a key that is missing is added, with the uninitialised value.
-fn place_of(
-    alloc: Global,
-    map: &mut IndexMap<Vec<u8>, Value>,
-    key: &[u8],
-) -> Result<usize, AllocError>
+fn place_of(alloc: Global, map: &mut IndexMap<Key, Value>, key: &[u8]) -> Result<usize, AllocError>
     ensures place { IfOk result (λ place. HasKeyAt map.new.entries place key.now) }
     ensures touched { OnOk result
         (entries_of map.new.entries ≡ touched key.now (entries_of map.old.entries)) }
     ensures err { OnErr result (map.new.entries ≡ map.old.entries) }
 {
-    match map.get_index_of(key) {
+    match map.get_index_of(Query(key)) {
         Some(place) => Ok(place),
         None => {
-            let key = Vec::from_slice(alloc, key)?;
+            let key = Key::new(alloc, key)?;
             let (place, _) = map.insert_full(key, Value::Uninit)?;
             Ok(place)
         }
@@ -59,14 +65,14 @@ fn place_of(
 /// Puts a copy of a pair among the pairs.
 fn insert_copy(
     alloc: Global,
-    map: &mut IndexMap<Vec<u8>, Value>,
+    map: &mut IndexMap<Key, Value>,
     key: &[u8],
     value: &Value,
 ) -> Result<(), AllocError>
     ensures { OnOk result (entries_of map.new.entries
         ≡ put key.now (shown value.now) (entries_of map.old.entries)) }
 {
-    let key = Vec::from_slice(alloc, key)?;
+    let key = Key::new(alloc, key)?;
     let value = copy_value(alloc, value)?;
     map.insert(key, value)?;
     Ok(())
@@ -94,7 +100,7 @@ impl Array {
     pub fn get(&self, key: &[u8]) -> Option<ValueRef<'_>>
         ensures { option_map lent_value result ≡ found key.now self.now }
     {
-        match self.map.get(key) {
+        match self.map.get(Query(key)) {
             None => None,
             Some(value) => Some(lend(value)),
         }
@@ -104,14 +110,14 @@ impl Array {
     pub fn contains(&self, key: &[u8]) -> bool
         ensures { result ≡ is_some (found key.now self.now) }
     {
-        self.map.contains_key(key)
+        self.map.contains_key(Query(key))
     }
 
     /// Takes an element away, if it is there.
     pub fn remove(&mut self, key: &[u8])
         ensures { self.new ≡ without key.now self.old }
     {
-        let _ = self.map.swap_remove(key);
+        let _ = self.map.swap_remove(Query(key));
     }
 
     /// Takes all elements away.
@@ -174,21 +180,45 @@ impl Array {
         while place > 0 {
             place -= 1;
             let (key, value) = self.map.get_index(place).unwrap();
-            insert_copy(alloc, &mut map, key.as_slice(), value)?;
+            insert_copy(alloc, &mut map, key.text(), value)?;
         }
         Ok(Array { alloc, map })
+    }
+
+    /// All keys, lent, in the order of their bytes.
+    fn sorted(&self, alloc: Global) -> Result<Vec<Headed<'_>>, AllocError>
+        ensures keys { IfOk result (λ all. map (λ x. x.text.now) all.items ≡ keys self.now) }
+        ensures rises { OnOk result (Rise self.now) }
+    {
+        let mut sorted = Vec::with_capacity(alloc, self.map.len())?;
+        for place in 0..self.map.len() {
+            let (key, _) = self.map.get_index(place).unwrap();
+            sorted.push(Headed::new(key.text()))?;
+        }
+        sorted.sort_unstable();
+        Ok(sorted)
     }
 
     /// All keys, in the order of their bytes.
     pub fn keys(&self, alloc: Global) -> Result<Texts, AllocError>
         ensures { IfOk result (λ all. all ≡ keys self.now) }
     {
-        let mut sorted = Vec::with_capacity(alloc, self.map.len())?;
-        for place in 0..self.map.len() {
-            let (key, _) = self.map.get_index(place).unwrap();
-            sorted.push(key.as_slice())?;
-        }
-        sorted.sort_unstable();
+        let sorted = self.sorted(alloc)?;
         Texts::of(alloc, sorted.as_slice())
+    }
+
+    /// All elements, lent, in the order of the bytes of their keys.
+    pub fn elements(&self, alloc: Global) -> Result<Vec<Element<'_>>, AllocError>
+        ensures { IfOk result (λ all. map element_of all.items ≡ self.now) }
+    {
+        let sorted = self.sorted(alloc)?;
+        let mut all = Vec::with_capacity(alloc, sorted.len())?;
+        for key in sorted.as_slice() {
+            if let Some(value) = self.get(key.text) {
+                let key = key.text;
+                all.push(Element { key, value })?;
+            }
+        }
+        Ok(all)
     }
 }

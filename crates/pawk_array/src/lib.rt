@@ -2,8 +2,10 @@
 #![tactic(auto)]
 
 mod array;
+mod headed;
+mod key;
 pub mod laws;
 mod texts;
 
-pub use array::Array;
+pub use array::{Array, Element};
 pub use texts::Texts;

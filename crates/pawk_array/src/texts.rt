@@ -2,6 +2,7 @@
 
 ghost use Rattle.std.specs.Prelude.{◌≡◌, ◌<◌, ◌++◌, ◌∷◌, [], length, map, slice_get, Some, IfOk, OnOk};
 
+use crate::headed::Headed;
 use std::alloc::{AllocError, Global};
 use std::marker::Model;
 use std::ops::Range;
@@ -48,12 +49,12 @@ impl Texts {
     }
 
     /// Copies of these texts.
-    pub(crate) fn of(alloc: Global, texts: &[&[u8]]) -> Result<Texts, AllocError>
-        ensures { IfOk result (λ copy. copy ≡ map (λ x. x.now) texts.now) }
+    pub(crate) fn of(alloc: Global, texts: &[Headed<'_>]) -> Result<Texts, AllocError>
+        ensures { IfOk result (λ copy. copy ≡ map (λ x. x.text.now) texts.now) }
     {
         let mut copy = Texts::new(alloc);
         for text in texts {
-            copy.push(text)?;
+            copy.push(text.text)?;
         }
         Ok(copy)
     }

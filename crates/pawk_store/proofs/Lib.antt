@@ -1,1 +1,3 @@
 pub mod OpeningLemmas
+pub mod ListingLemmas
+pub mod ListingLawLemmas

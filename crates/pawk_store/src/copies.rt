@@ -2,7 +2,6 @@
 
 ghost use Rattle.std.specs.Prelude.{◌≡◌, map, IfOk};
 ghost use Rattle.pawk_value.specs.Value.{shown};
-ghost use Rattle.pawk_store.specs.Openings.{texts_of};
 
 use pawk_array::Array;
 use pawk_value::{Value, copy_value};
@@ -26,17 +25,6 @@ pub(crate) fn copy_arrays(alloc: Global, arrays: &[Array]) -> Result<Vec<Array>,
     let mut copy = Vec::with_capacity(alloc, arrays.len())?;
     for array in arrays {
         copy.push(array.copy(alloc)?)?;
-    }
-    Ok(copy)
-}
-
-/// Copies of names.
-pub(crate) fn copy_names(alloc: Global, names: &[Vec<u8>]) -> Result<Vec<Vec<u8>>, AllocError>
-    ensures { IfOk result (λ copy. texts_of copy.items ≡ texts_of names.now) }
-{
-    let mut copy = Vec::with_capacity(alloc, names.len())?;
-    for name in names {
-        copy.push(Vec::from_slice(alloc, name.as_slice())?)?;
     }
     Ok(copy)
 }

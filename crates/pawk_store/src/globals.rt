@@ -2,11 +2,13 @@
 
 ghost use Rattle.std.specs.Prelude.{◌≡◌, IfOk, OnOk, map, slice_set};
 ghost use Rattle.pawk_value.specs.Value.{lent_value, shown};
+ghost use Rattle.pawk_array.specs.Elements.{element_of};
+ghost use Rattle.pawk_store.specs.Globals.{array_at};
 ghost use Rattle.pawk_store.specs.Openings.{texts_of, pairs_of, opened};
 
-use crate::copies::{copy_arrays, copy_names, copy_scalars};
+use crate::copies::{copy_arrays, copy_scalars};
 use crate::openings::{empty_arrays, extra_names, push_opening_values};
-use pawk_array::{Array, Texts};
+use pawk_array::{Array, Element, Texts};
 use pawk_code::word::Sign;
 use pawk_settings::Assignment;
 use pawk_value::{Fault, Held, Value, ValueRef, assign, hold, lend, to_num, to_num_lent};
@@ -18,11 +20,9 @@ use std::marker::Model;
 /// written to it is lost.
 #[derive(Drop)]
 pub struct Globals {
-    alloc: Global,
-    scalars: Vec<Value>,
-    arrays: Vec<Array>,
-    /// The names of scalars that are assigned and are not of the program, whose slots come last.
-    extras: Vec<Vec<u8>>,
+    pub(crate) alloc: Global,
+    pub(crate) scalars: Vec<Value>,
+    pub(crate) arrays: Vec<Array>,
 }
 
 impl Model for Globals {
@@ -76,8 +76,21 @@ impl Globals {
             alloc,
             scalars,
             arrays: empty_arrays(alloc, arrays)?,
-            extras,
         })
+    }
+
+    /// The elements of an array, lent, in the order of the bytes of their keys.
+    pub(crate) fn elements(
+        &self,
+        alloc: Global,
+        array: usize,
+    ) -> Result<Vec<Element<'_>>, AllocError>
+        ensures { IfOk result (λ all. map element_of all.items ≡ array_at self.now array) }
+    {
+        match self.arrays.get(array) {
+            Some(elements) => elements.elements(alloc),
+            None => Ok(Vec::new(alloc)),
+        }
     }
 
     /// A copy that holds its own bytes.
@@ -88,7 +101,6 @@ impl Globals {
             alloc,
             scalars: copy_scalars(alloc, self.scalars.as_slice())?,
             arrays: copy_arrays(alloc, self.arrays.as_slice())?,
-            extras: copy_names(alloc, self.extras.as_slice())?,
         })
     }
 }

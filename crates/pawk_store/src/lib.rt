@@ -3,8 +3,13 @@
 
 mod copies;
 mod globals;
+pub mod laws;
+mod listing;
 mod openings;
+mod specials;
 mod state;
 
 pub use globals::Globals;
+pub use listing::{Content, Named, Names};
+pub use specials::Specials;
 pub use state::RecordState;

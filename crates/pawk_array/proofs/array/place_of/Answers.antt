@@ -1,6 +1,7 @@
 use Rattle.std.proofs.Common.{◌≡◌, List, ℕ, false, is_some, sym, ◌∙◌, ap, subst}
 use Rattle.std.specs.Map.{lookup}
 use Rattle.pawk_array.specs.Entries.{touched}
+use Rattle.pawk_array.specs.Keys.{text_of}
 use Rattle.pawk_array.specs.ArrayViews.{entries_of, HasKeyAt}
 use Rattle.pawk_array.proofs.PairsLemmas.{has_bytes, place_found, place_inserted, touched_there, touched_new}
 use Rattle.pawk_array.proofs.array.place_of.Goals as goal
@@ -18,13 +19,13 @@ returns-in_ok-place-in-None-clause-place c =
     let k = c.in_ok-key-in-None.key in
     let u = c.in_ok-place-in-None.ensures in
     let P : List ℕ → Type 0 = HasKeyAt c.insert_full.new.self.entries c.in_ok-place-in-None.place in
-    subst P c.in_ok-key-in-None.ensures.items (rw (u.index, u.entries) (place_inserted k _ c.args.map.now.entries))
+    subst P c.in_ok-key-in-None.ensures (rw (u.index, u.entries) (place_inserted k _ c.args.map.now.entries))
 
 pub returns-in_ok-place-in-None-clause-touched : goal.returns-in_ok-place-in-None-clause-touched
 returns-in_ok-place-in-None-clause-touched c =
     let k = c.in_ok-key-in-None.key in
     let u = c.in_ok-place-in-None.ensures.updates in
-    let same : k.items ≡ c.args.key.now = c.in_ok-key-in-None.ensures.items in
-    let absent : is_some (lookup (has_bytes k.items) c.args.map.now.entries) ≡ false =
+    let same : text_of k ≡ c.args.key.now = c.in_ok-key-in-None.ensures in
+    let absent : is_some (lookup (has_bytes (text_of k)) c.args.map.now.entries) ≡ false =
     rw same (sym c.get_index_of.ensures.found ∙ ap is_some c.in-None.is) in
     touched_new k c.args.map.now.entries c.insert_full.new.self.entries absent u.1 u.3 ∙ ap (λ q. touched q (entries_of c.args.map.now.entries)) same

@@ -3,6 +3,7 @@ use Rattle.std.specs.Option.{option_map}
 use Rattle.std.specs.Map.Iter.{deref_pair}
 use Rattle.pawk_value.specs.Value.{shown}
 use Rattle.pawk_array.specs.Entries.{put}
+use Rattle.pawk_array.specs.Keys.{text_of}
 use Rattle.pawk_array.specs.ArrayViews.{entries_of}
 use Rattle.pawk_array.proofs.PairsLemmas.{entries_from}
 use Rattle.pawk_array.proofs.array.Array.copy.Goals as goal
@@ -19,7 +20,7 @@ loop-place-preserved c =
       within = omega (arith, c.loop-place.invariant.within);
       so_far =
           c.in_ok-insert_copy.ensures
-          ∙ ap (λ k. put k (shown pair.1.now) (entries_of c.loop-place.map.entries)) c.as_slice.ensures.value
-          ∙ ap (put pair.0.now.items (shown pair.1.now)) (c.loop-place.invariant.so_far ∙ ap (λ n. entries_of (drop n es)) (sym next))
+          ∙ ap (λ k. put k (shown pair.1.now) (entries_of c.loop-place.map.entries)) c.text.ensures
+          ∙ ap (put (text_of pair.0.now) (shown pair.1.now)) (c.loop-place.invariant.so_far ∙ ap (λ n. entries_of (drop n es)) (sym next))
           ∙ sym before;
     }

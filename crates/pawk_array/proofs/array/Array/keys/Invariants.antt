@@ -1,5 +1,0 @@
-use Rattle.std.proofs.Common.{◌≡◌, map, take}
-use Rattle.pawk_array.proofs.array.Array.keys.Given as goal
-
-abbrev pub invariant-loop-place : goal.invariant-loop-place
-invariant-loop-place l = map (λ x. x.now) l.sorted.items ≡ map (λ e. e.0.items) (take l.place l.self-inside.map.entries)

@@ -1,0 +1,68 @@
+//! Reads rows from standard input, one a line, and answers each with a line: what the globals of a run have.
+//!
+//! A row is calls, parted by tabs; in names, keys and values a byte may be a backslash and three octal digits. The first
+//! are `v` and an assignment before the run, as `vn=1`. The program has the scalars FS, OFS, ORS, RS, SUBSEP, CONVFMT,
+//! OFMT, n and s, in the slots 0 to 8, and the arrays a and b, in the slots 0 and 1.
+//!
+//! The answers are parted by spaces. A value is `_` where it is uninitialised, and else a number behind `#`, a text behind
+//! `"` or a candidate behind `~`; a call takes values in the same form. A fault answers its name in brackets.
+//!
+//! | call | does | answers |
+//! |---|---|---|
+//! | `l`slot | | the value of a scalar |
+//! | `w`slot`=`value | sets a scalar | |
+//! | `+`slot`=`value, `-`slot`=`value | adds to a scalar, or takes away | |
+//! | `r`slot`=`key, `o`slot`=`key | reads an element, or an old one | the value |
+//! | `s`slot`=`key`=`value | sets an element | |
+//! | `p`slot`=`key`=`value, `m`slot`=`key`=`value | adds to an element, or takes away | |
+//! | `i`slot`=`key | | whether the element is there: 1 or 0 |
+//! | `d`slot`=`key | takes an element away | |
+//! | `c`slot | takes all away | |
+//! | `k`slot | | the keys in their order, parted by `|` |
+//! | `f`slot`=`count | sets the numbers from `count - 1` down to 0 | |
+//! | `e`slot | | how many keys there are, and whether they rise |
+//! | `y` | goes on with a copy | |
+//! | `t`text | reads a record by blanks, of a file without a name | |
+//! | `L` | | every global, parted by commas: its name, `=` and its value, or its keys and values in brackets |
+#![tactic(auto)]
+
+mod calls;
+mod listings;
+mod openings;
+mod values;
+
+use calls::Calls;
+use openings::{assignments, names};
+use pawk_settings::Assignment;
+use pawk_store::Names;
+use std::alloc::{AllocError, Global};
+use std::io;
+
+/// The answer to a row with these assignments.
+fn answer(alloc: Global, row: &[u8], assignments: &[Assignment]) -> Result<Vec<u8>, AllocError> {
+    let scalars = names(alloc, b"FS OFS ORS RS SUBSEP CONVFMT OFMT n s")?;
+    let arrays = names(alloc, b"a b")?;
+    let names = Names {
+        scalars: scalars.as_slice(),
+        arrays: arrays.as_slice(),
+        assignments,
+    };
+    let mut calls = Calls::new(alloc, names)?;
+    for call in row.split(|byte| *byte == b'\t') {
+        calls.call(alloc, names, call)?;
+    }
+    Ok(calls.answers)
+}
+
+fn main(rt: HostRuntime) -> io::Result<()> {
+    for line in rt.lines(rt.alloc()) {
+        let row = line?;
+        let assignments = assignments(rt.alloc(), row.as_str().as_bytes())?;
+        let answer = answer(rt.alloc(), row.as_str().as_bytes(), assignments.as_slice())?;
+        println!(rt;
+            "{}",
+            str::from_utf8(answer.as_slice()).unwrap_or("not a text")
+        )?;
+    }
+    Ok(())
+}
