@@ -20,11 +20,11 @@ use Rattle.pawk_eval.specs.declared.operations.Replacement.{Replacement}
 
 -- the functions of the program
 abbrev pub functions_of : Context → List Function
-functions_of context = map function_view context.functions.now
+functions_of context = map function_view context.code.now.functions.items
 
 -- what stands between the slashes of the program
 abbrev pub eres_of : Context → List (List ℕ)
-eres_of context = texts_of context.eres.now
+eres_of context = texts_of context.code.now.expressions.items
 
 -- the call of a function, where so many more may be nested
 abbrev pub enter_of : {S : Type 0} → Calls S → Context → ℕ → ℕ → List Hold → Part S Val

@@ -72,6 +72,7 @@ pub(crate) fn test<W: World>(
 
 /// How two expressions compare. Nothing of two leaves is copied.
 #[cycle(evaluate)]
+#[inline(never)]
 pub(crate) fn compare<W: World>(
     context: Context<'_>,
     depth: u64,
@@ -104,6 +105,7 @@ pub(crate) fn compare<W: World>(
 ///
 /// POSIX.1-2017, awk, "Regular Expressions".
 #[cycle(evaluate)]
+#[inline(never)]
 pub(crate) fn matches<W: World>(
     context: Context<'_>,
     depth: u64,
@@ -122,7 +124,7 @@ pub(crate) fn matches<W: World>(
     if let Pattern::Fixed(_) = pattern {
         if let Expr::Leaf(Leaf::Field(n)) = e {
             let expression = Expression {
-                eres: context.eres,
+                eres: context.code.expressions.as_slice(),
                 pattern,
                 text: &[],
             };
@@ -133,7 +135,7 @@ pub(crate) fn matches<W: World>(
     let text = text(context, depth, e, world, run)?;
     let ere = operand(context, depth, pattern, world, run)?;
     let expression = Expression {
-        eres: context.eres,
+        eres: context.code.expressions.as_slice(),
         pattern,
         text: &ere,
     };

@@ -77,6 +77,7 @@ pub(crate) fn eval<W: World>(
 
 /// Assigns the value of an expression to a place, and lays it down.
 #[cycle(evaluate)]
+#[inline(never)]
 pub(crate) fn assign<W: World>(
     context: Context<'_>,
     depth: u64,
@@ -208,6 +209,7 @@ pub(crate) fn text<W: World>(
 
 /// The value of an expression.
 #[cycle(evaluate)]
+#[inline(never)]
 pub(crate) fn value<W: World>(
     context: Context<'_>,
     depth: u64,

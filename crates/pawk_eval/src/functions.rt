@@ -23,6 +23,7 @@ use std::mem;
 
 /// What the arguments of a call give to its parameters.
 #[cycle(evaluate)]
+#[inline(never)]
 pub(crate) fn pass<W: World>(
     context: Context<'_>,
     depth: u64,
@@ -46,6 +47,7 @@ pub(crate) fn pass<W: World>(
 
 /// What an argument gives to its parameter: a value, or an array by reference.
 #[cycle(evaluate)]
+#[inline(never)]
 pub(crate) fn parameter<W: World>(
     context: Context<'_>,
     depth: u64,
@@ -71,6 +73,7 @@ pub(crate) fn parameter<W: World>(
 ///
 /// POSIX.1-2017, awk, "User-Defined Functions".
 #[cycle(evaluate)]
+#[inline(never)]
 pub(crate) fn call<W: World>(
     context: Context<'_>,
     depth: u64,

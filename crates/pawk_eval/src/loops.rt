@@ -40,6 +40,7 @@ use pawk_world::{Halt, World};
 ///
 /// POSIX.1-2017, awk, "Actions" (`while`, `for`).
 #[cycle(evaluate)]
+#[inline(never)]
 pub(crate) fn turns<W: World>(
     context: Context<'_>,
     depth: u64,
@@ -121,6 +122,7 @@ pub(crate) fn perform_or_none<W: World>(
 ///
 /// POSIX.1-2017, awk, "Actions" (`do`).
 #[cycle(evaluate)]
+#[inline(never)]
 pub(crate) fn turns_after<W: World>(
     context: Context<'_>,
     depth: u64,
@@ -146,6 +148,7 @@ pub(crate) fn turns_after<W: World>(
 ///
 /// POSIX.1-2017, awk, "Actions" (`for`).
 #[cycle(evaluate)]
+#[inline(never)]
 pub(crate) fn count<W: World>(
     context: Context<'_>,
     depth: u64,
@@ -170,6 +173,7 @@ pub(crate) fn count<W: World>(
 ///
 /// POSIX.1-2017, awk, "Actions" (`for` with `in`).
 #[cycle(evaluate)]
+#[inline(never)]
 pub(crate) fn walk<W: World>(
     context: Context<'_>,
     depth: u64,
@@ -193,6 +197,7 @@ pub(crate) fn walk<W: World>(
 
 /// Runs a body for each of these keys.
 #[cycle(evaluate)]
+#[inline(never)]
 pub(crate) fn visit<W: World>(
     context: Context<'_>,
     depth: u64,

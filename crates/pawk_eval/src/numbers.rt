@@ -81,6 +81,7 @@ pub(crate) fn numeric<W: World>(
 
 /// The number that a built-in function of values gives.
 #[cycle(evaluate)]
+#[inline(never)]
 pub(crate) fn function<W: World>(
     context: Context<'_>,
     depth: u64,
@@ -115,6 +116,7 @@ pub(crate) fn function<W: World>(
 ///
 /// POSIX.1-2017, awk, "String Functions" (`split`).
 #[cycle(evaluate)]
+#[inline(never)]
 pub(crate) fn split<W: World>(
     context: Context<'_>,
     depth: u64,
@@ -134,7 +136,7 @@ pub(crate) fn split<W: World>(
     let separator = separator(context, depth, by, world, run)?;
     let table = table_of(&run.frame, array);
     let by = Separator {
-        eres: context.eres,
+        eres: context.code.expressions.as_slice(),
         by,
         text: &separator,
     };
@@ -145,6 +147,7 @@ pub(crate) fn split<W: World>(
 ///
 /// POSIX.1-2017, awk, "String Functions" (`sub`, `gsub`).
 #[cycle(evaluate)]
+#[inline(never)]
 pub(crate) fn replace<W: World>(
     context: Context<'_>,
     depth: u64,
@@ -162,7 +165,7 @@ pub(crate) fn replace<W: World>(
     let replacement = text(context, depth, parts.text, world, run)?;
     let target = place(context, depth, parts.place, world, run)?;
     let expression = Expression {
-        eres: context.eres,
+        eres: context.code.expressions.as_slice(),
         pattern: parts.pattern,
         text: &ere,
     };
@@ -173,6 +176,7 @@ pub(crate) fn replace<W: World>(
 ///
 /// POSIX.1-2017, awk, "String Functions" (`match`).
 #[cycle(evaluate)]
+#[inline(never)]
 pub(crate) fn find<W: World>(
     context: Context<'_>,
     depth: u64,
@@ -190,7 +194,7 @@ pub(crate) fn find<W: World>(
     let text = text(context, depth, e, world, run)?;
     let ere = operand(context, depth, pattern, world, run)?;
     let expression = Expression {
-        eres: context.eres,
+        eres: context.code.expressions.as_slice(),
         pattern,
         text: &ere,
     };

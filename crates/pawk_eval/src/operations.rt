@@ -73,6 +73,7 @@ pub fn array_parameter(table: Table) -> Parameter
 /// The place where one text first stands in another, in bytes counted from 1; 0 where it does not.
 ///
 /// POSIX.1-2017, awk, "String Functions" (`index`).
+#[inline(never)]
 pub fn place_in(text: &[u8], sought: &[u8]) -> i64
     ensures { result ≡ pos (builtins.index text.now sought.now) }
 {
@@ -112,6 +113,7 @@ pub fn set_key<W: World>(
 /// Fault `ere` where it is a text that is no expression.
 ///
 /// POSIX.1-2017, awk, "Regular Expressions".
+#[inline(never)]
 pub fn find_first<W: World>(
     expression: Expression<'_>,
     text: &[u8],
@@ -132,6 +134,7 @@ pub fn find_first<W: World>(
 /// Fault `ere` where it is a text that is no expression.
 ///
 /// POSIX.1-2017, awk, "Regular Expressions".
+#[inline(never)]
 pub fn find_in_field<W: World>(
     expression: Expression<'_>,
     n: usize,
@@ -153,6 +156,7 @@ pub fn find_in_field<W: World>(
 /// The text that a format makes of values, where the format that is a value has the text `text`.
 ///
 /// POSIX.1-2017, awk, "Output Statements" and "String Functions" (`sprintf`).
+#[inline(never)]
 pub fn fill_format<W: World>(
     format: &Format,
     text: &[u8],
@@ -171,6 +175,7 @@ pub fn fill_format<W: World>(
 /// Replaces matches in the text of a place, and gives how many.
 ///
 /// POSIX.1-2017, awk, "String Functions" (`sub`, `gsub`).
+#[inline(never)]
 pub fn substitute<W: World>(
     count: Count,
     expression: Expression<'_>,

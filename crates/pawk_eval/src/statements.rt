@@ -150,6 +150,7 @@ pub(crate) fn perform<W: World>(
 
 /// Assigns the value of an expression to a place.
 #[cycle(evaluate)]
+#[inline(never)]
 pub(crate) fn set<W: World>(
     context: Context<'_>,
     depth: u64,
@@ -174,6 +175,7 @@ pub(crate) fn set<W: World>(
 ///
 /// POSIX.1-2017, awk, "Output Statements" (`print`).
 #[cycle(evaluate)]
+#[inline(never)]
 pub(crate) fn print<W: World>(
     context: Context<'_>,
     depth: u64,
@@ -197,6 +199,7 @@ pub(crate) fn print<W: World>(
 ///
 /// POSIX.1-2017, awk, "Output Statements" (`printf`).
 #[cycle(evaluate)]
+#[inline(never)]
 pub(crate) fn printf<W: World>(
     context: Context<'_>,
     depth: u64,
@@ -220,6 +223,7 @@ pub(crate) fn printf<W: World>(
 ///
 /// POSIX.1-2017, awk, "Actions" and "User-Defined Functions".
 #[cycle(evaluate)]
+#[inline(never)]
 pub(crate) fn go_out<W: World>(
     context: Context<'_>,
     depth: u64,
@@ -250,6 +254,7 @@ pub(crate) fn go_out<W: World>(
 
 /// Runs statements where a test holds.
 #[cycle(evaluate)]
+#[inline(never)]
 pub(crate) fn guard<W: World>(
     context: Context<'_>,
     depth: u64,
@@ -275,6 +280,7 @@ pub(crate) fn guard<W: World>(
 
 /// Runs the statements that a test chooses.
 #[cycle(evaluate)]
+#[inline(never)]
 pub(crate) fn choose<W: World>(
     context: Context<'_>,
     depth: u64,

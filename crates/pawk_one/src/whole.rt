@@ -42,10 +42,7 @@ impl<'p> Job<'p> {
         ensures eres { eres_of result ≡ (code_view self.entry.code.now).expressions }
         ensures functions { functions_of result ≡ (code_view self.entry.code.now).functions }
     {
-        Context {
-            functions: self.code.functions.as_slice(),
-            eres: self.code.expressions.as_slice(),
-        }
+        Context { code: self.code }
     }
 
     /// Whether records are read: where there is a main rule or an action of END.

@@ -187,6 +187,7 @@ fn fill_array<W: World>(
 /// Faults `fs` and `ere` of the separator come when the array is empty already.
 ///
 /// POSIX.1-2017, awk, "String Functions" (`split`).
+#[inline(never)]
 pub fn split_into<W: World>(
     table: Table,
     separator: Separator<'_>,

@@ -35,6 +35,7 @@ pub fn tick<W: World>(world: &W, run: &mut Run<'_>) -> Result<(), Halt>
 /// Fault `length` where it is longer than a text may be.
 ///
 /// POSIX.1-2017, awk, "Variables and Special Variables" (`SUBSEP`).
+#[inline(never)]
 pub fn key_of_texts<W: World>(texts: &Texts, world: &W, run: &mut Run<'_>) -> Result<Vec<u8>, Halt>
     ensures left { run.new.left ≤ run.old.left }
     ensures outcome { Yields (λ key. key.items)
@@ -60,6 +61,7 @@ pub fn key_of_texts<W: World>(texts: &Texts, world: &W, run: &mut Run<'_>) -> Re
 /// Prints texts with OFS between them and ORS behind.
 ///
 /// POSIX.1-2017, awk, "Output Statements" (`print`).
+#[inline(never)]
 pub fn print_line<W: World>(texts: &Texts, world: &W, run: &mut Run<'_>) -> Result<(), Halt>
     ensures left { run.new.left ≤ run.old.left }
     ensures outcome { Yields (λ _. tt)
@@ -79,6 +81,7 @@ pub fn print_line<W: World>(texts: &Texts, world: &W, run: &mut Run<'_>) -> Resu
 }
 
 /// Prints a text as it is.
+#[inline(never)]
 pub fn print_bytes<W: World>(text: &[u8], world: &W, run: &mut Run<'_>) -> Result<(), Halt>
     ensures left { run.new.left ≤ run.old.left }
     ensures outcome { Yields (λ _. tt)

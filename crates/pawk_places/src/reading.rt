@@ -52,6 +52,7 @@ pub fn read_place<W: World>(
 }
 
 /// The number of the old value of an element that is assigned, which is created.
+#[inline(never)]
 fn old_element_number<W: World>(
     slot: usize,
     key: &[u8],

@@ -57,6 +57,7 @@ fn open_local(alloc: Global, kind: Kind, arrays: &mut Vec<Array>) -> Result<Para
 /// without a value, or an empty array that is opened.
 ///
 /// POSIX.1-2017, awk, "User-Defined Functions".
+#[inline(never)]
 pub fn parameters(
     alloc: Global,
     arguments: Vec<Parameter>,

@@ -22,6 +22,7 @@ use pawk_world::{Halt, World};
 use std::alloc::{AllocError, Global};
 
 /// Gives a parameter a value, in the room that it has for its text.
+#[inline(never)]
 fn assign_parameter(
     alloc: Global,
     parameter: &mut Parameter,
@@ -55,6 +56,7 @@ fn set_parameter(
 }
 
 /// Assigns a value to the record: its fields are those by FS as it is now.
+#[inline(never)]
 fn assign_record<W: World>(value: ValueRef<'_>, world: &W, run: &mut Run<'_>) -> Result<(), Halt>
     ensures left { run.new.left ≤ run.old.left }
     ensures outcome { Yields (λ _. tt)
@@ -71,6 +73,7 @@ fn assign_record<W: World>(value: ValueRef<'_>, world: &W, run: &mut Run<'_>) ->
 }
 
 /// Assigns a value to the field with index `n`; 0 is the record.
+#[inline(never)]
 fn assign_field<W: World>(
     n: usize,
     value: ValueRef<'_>,
@@ -126,6 +129,7 @@ pub fn write_place<W: World>(
 
 /// Changes a place by an operation with an amount, and gives the old number and the new one. The old
 /// value is converted first; then a fault of the amount's conversion comes, then one of the operation.
+#[inline(never)]
 pub fn change_place<W: World>(
     op: Op,
     target: &Target,
@@ -185,6 +189,7 @@ pub fn add_to_place<W: World>(
 /// Fault `length` where the text is longer than a text may be, and those of assigning.
 ///
 /// POSIX.1-2017, awk, "String Functions" (`sub`, `gsub`).
+#[inline(never)]
 pub fn put_text<W: World>(
     target: &Target,
     count: usize,
