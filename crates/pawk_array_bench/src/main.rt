@@ -59,7 +59,10 @@ fn measure(rt: &HostRuntime, text: &[u8]) -> io::Result<()> {
     let start = Instant::now(rt)?;
     let bytes = walk(rt.alloc(), &counts)?;
     let walked = start.elapsed(rt)?.as_millis();
-    println!(rt; "{} elements, {bytes} bytes, {counted} ms, {walked} ms", counts.len())
+    println!(rt;
+        "{} elements, {bytes} bytes, {counted} ms, {walked} ms",
+        counts.len()
+    )
 }
 
 fn main(rt: HostRuntime) -> io::Result<()> {
