@@ -61,7 +61,8 @@ fn array_roles(alloc: Global, table: &[Marks]) -> Result<Vec<Role>, AllocError>
 /// against it, or that memory was refused. There are at least as many roles as slots.
 pub fn admit(alloc: Global, code: &Code) -> Result<Roles, Reason>
     ensures admissible { IfOk result (λ roles. IsAdmissible (code_view code.now)) }
-    ensures roles { IfOk result (λ roles. AreRoles (Occurs (code_view code.now)) (roles_view roles)) }
+    ensures roles { IfOk result (λ roles.
+        AreRoles (Occurs (code_view code.now)) (roles_view roles)) }
     ensures scalars { IfOk result (λ roles. vec_len code.now.scalars ≤ vec_len roles.scalars) }
     ensures arrays { IfOk result (λ roles. vec_len code.now.arrays ≤ vec_len roles.arrays) }
     ensures reason { IfErr result (IsAnswer (Occurs (code_view code.now))) }
