@@ -1,0 +1,4 @@
+mod Lookups
+mod Normal
+mod Spelling
+mod Again

@@ -1,0 +1,5 @@
+pub mod Names
+pub mod Words
+pub mod Spelled
+pub mod Fits
+pub mod Proper

@@ -1,0 +1,5 @@
+//! The laws of resolved code: it is another writing of the tree, in a normal form, and the only
+//! one.
+#![tactic(auto)]
+
+pub mod expressions;
