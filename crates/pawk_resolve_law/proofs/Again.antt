@@ -394,7 +394,7 @@ module _ (s : Scope) (t : AreTables s) where
     again_fields (by_value a) h e y =
         ap (λ z. numeric (split (resolved s e) (array_of s y) z)) (fields_value s a (resolved s (spelled s a)) h ∙ ap by_value (again a h))
 
-    again_format : (f : Format) → FitsFormat s f → format_by (resolved s (spelled_format s f)) ≡ f
+    pub again_format : (f : Format) → FitsFormat s f → format_by (resolved s (spelled_format s f)) ≡ f
     again_format (fixed_format x) h = refl
     again_format (format_of a) h = ap format_by (again a h.1) ∙ format_again_of a h.0
 

@@ -2,3 +2,4 @@ mod Lookups
 mod Normal
 mod Spelling
 mod Again
+mod Bodies

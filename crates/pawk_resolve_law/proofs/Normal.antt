@@ -111,7 +111,7 @@ join_fits : (s : Scope) (a d : Expr) → Fits s a → Fits s d → Fits s (join_
 join_fits s (textual (join es)) d h k = (parts_more es d h.0, all_more s es d h.1 k)
 join_fits s _ d h k = (tt, (h, (k, tt)))
 
-format_fits : (s : Scope) (e : Expr) → Fits s e → FitsFormat s (format_by e)
+pub format_fits : (s : Scope) (e : Expr) → Fits s e → FitsFormat s (format_by e)
 format_fits s (leaf (text x)) h = tt
 format_fits s _ h = (tt, h)
 

@@ -74,7 +74,7 @@ join_back s (textual (join none)) d h = absurd h.0
 join_back s (textual (join (more a es))) d h = after_more s es d (spelled s a)
 join_back s _ d h = refl
 
-format_back : (s : Scope) (e : Expr) → spelled_format s (format_by e) ≡ spelled s e
+pub format_back : (s : Scope) (e : Expr) → spelled_format s (format_by e) ≡ spelled s e
 format_back s (leaf (text x)) = refl
 format_back s _ = refl
 

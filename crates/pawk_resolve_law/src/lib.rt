@@ -3,3 +3,4 @@
 #![tactic(auto)]
 
 pub mod expressions;
+pub mod statements;
