@@ -3,3 +3,4 @@ mod Normal
 mod Spelling
 mod Again
 mod Bodies
+mod Known
