@@ -4,3 +4,5 @@ mod Spelling
 mod Again
 mod Bodies
 mod Known
+mod KnownItems
+mod Entries
