@@ -1,6 +1,6 @@
 -- What stands in tables of names.
-use Rattle.std.proofs.Common.{◌≡◌, ℕ, suc, Bool, true, false, not, ◌&&◌, ◌||◌, List, [], ◌∷◌, ◌++◌, Option, Some, None, refl, sym, ap, subst, ◌∙◌, ◌⊎◌, inl, inr}
-use Rattle.std.specs.Prelude.{if◌then◌else◌, is_some, filter, cond}
+use Rattle.std.proofs.Common.{◌≡◌, ℕ, suc, Bool, true, false, ◌||◌, List, [], ◌∷◌, ◌++◌, Option, Some, None, refl, sym, ap, subst, ◌∙◌, ◌⊎◌, inl, inr}
+use Rattle.std.specs.Prelude.{if◌then◌else◌, is_some, filter}
 use Rattle.std.specs.Option.{option_map}
 use Rattle.std.specs.Str.{bytes_eq}
 use Rattle.std.proofs.lemmas.Bool.{cases_Bool}
@@ -55,7 +55,7 @@ not_in xs x e h =
 
 pub in_front : (xs ys : List Text) (x : Text) → In xs x → In (xs ++ ys) x
 in_front [] ys x h = absurd h
-in_front (y ∷ xs) ys x h = elim h [ | inl e ↦ inl e | inr f ↦ inr (in_front xs ys x f) ]
+in_front (y ∷ xs) ys x h = elim h [ inl e ↦ inl e | inr f ↦ inr (in_front xs ys x f) ]
 
 pub in_back : (xs ys : List Text) (x : Text) → In ys x → In (xs ++ ys) x
 in_back [] ys x h = h
@@ -65,13 +65,13 @@ pub in_either : (xs ys : List Text) (x : Text) → In (xs ++ ys) x → In xs x �
 in_either [] ys x h = inr h
 in_either (y ∷ xs) ys x h = elim h [
   | inl e ↦ inl (inl e)
-  | inr f ↦ elim (in_either xs ys x f) [ | inl g ↦ inl (inr g) | inr g ↦ inr g ]
+  | inr f ↦ elim (in_either xs ys x f) [ inl g ↦ inl (inr g) | inr g ↦ inr g ]
 ]
 
 pub in_filter : (f : Text → Bool) (xs : List Text) (x : Text) → In xs x → f x ≡ true → In (filter f xs) x
 in_filter f [] x h e = absurd h
 in_filter f (y ∷ xs) x h e = elim (cases_Bool (f y)) [
-  | inl g ↦ rw g (elim h [ | inl i ↦ inl i | inr i ↦ inr (in_filter f xs x i e) ])
+  | inl g ↦ rw g (elim h [ inl i ↦ inl i | inr i ↦ inr (in_filter f xs x i e) ])
   | inr g ↦ rw g (elim h [
     | inl i ↦ let no : false ≡ true = sym g ∙ ap f i ∙ e in cc
     | inr i ↦ in_filter f xs x i e
@@ -96,7 +96,7 @@ filter_in f (y ∷ xs) x h = elim (cases_Bool (f y)) [
 -- ---- tables
 
 in_one_more : (ys : List Text) (z x : Text) → In ys x → In (with_text ys z) x
-in_one_more ys z x h = elim (cases_Bool (is_some (place ys z))) [ | inl e ↦ rw e h | inr e ↦ rw e (in_front ys (z ∷ []) x h) ]
+in_one_more ys z x h = elim (cases_Bool (is_some (place ys z))) [ inl e ↦ rw e h | inr e ↦ rw e (in_front ys (z ∷ []) x h) ]
 
 in_this : (ys : List Text) (z : Text) → In (with_text ys z) z
 in_this ys z = elim (cases_Bool (is_some (place ys z))) [
@@ -120,23 +120,25 @@ one_of_more ys z x h = elim (cases_Bool (is_some (place ys z))) [
   | inl e ↦ let there : In ys x = rw e at h in inl there
   | inr e ↦
       let there : In (ys ++ z ∷ []) x = rw e at h in
-      elim (in_either ys (z ∷ []) x there) [ | inl f ↦ inl f | inr f ↦ elim f [ | inl g ↦ inr g | inr g ↦ absurd g ] ]
+      elim (in_either ys (z ∷ []) x there) [ inl f ↦ inl f | inr f ↦ elim f [ inl g ↦ inr g | inr g ↦ absurd g ] ]
 ]
 
 pub in_some : (ys zs : List Text) (x : Text) → In (with_texts ys zs) x → In ys x ⊎ In zs x
 in_some ys [] x h = inl h
 in_some ys (z ∷ zs) x h = elim (in_some (with_text ys z) zs x h) [
-  | inl f ↦ elim (one_of_more ys z x f) [ | inl g ↦ inl g | inr g ↦ inr (inl g) ]
+  | inl f ↦ elim (one_of_more ys z x f) [ inl g ↦ inl g | inr g ↦ inr (inl g) ]
   | inr f ↦ inr (inr f)
 ]
 
 different_after : (ys : List Text) (z : Text) → AreDifferent ys → (In ys z → ⊥) → AreDifferent (ys ++ z ∷ [])
 different_after [] z d h = (refl, tt)
-different_after (y ∷ ys) z d h =
-    (absent (ys ++ z ∷ []) y (λ i. elim (in_either ys (z ∷ []) y i) [
-      | inl f ↦ not_in ys y d.0 f
-      | inr f ↦ elim f [ | inl e ↦ h (inl (sym e)) | inr g ↦ absurd g ]
-    ]), different_after ys z d.1 (λ i. h (inr i)))
+different_after (y ∷ ys) z d h = (
+  absent (ys ++ z ∷ []) y (λ i. elim (in_either ys (z ∷ []) y i) [
+    | inl f ↦ not_in ys y d.0 f
+    | inr f ↦ elim f [ inl e ↦ h (inl (sym e)) | inr g ↦ absurd g ]
+  ]),
+  different_after ys z d.1 (λ i. h (inr i)),
+)
 
 one_more_different : (ys : List Text) (z : Text) → AreDifferent ys → AreDifferent (with_text ys z)
 one_more_different ys z d = elim (cases_Bool (is_some (place ys z))) [

@@ -1,6 +1,6 @@
 -- Expressions that are sound, and whose names are known, are proper.
-use Rattle.std.proofs.Common.{◌≡◌, ◌≤◌, ◌<◌, ℕ, zero, suc, Bool, true, false, ◌&&◌, ◌||◌, ◌==◌, List, [], ◌∷◌, ◌++◌, Option, Some, None, refl, arith, rules, ◌⊎◌, inl, inr}
-use Rattle.std.specs.Prelude.{is_some, nat_le}
+use Rattle.std.proofs.Common.{◌≡◌, ℕ, suc, Bool, true, false, ◌&&◌, ◌||◌, ◌==◌, List, [], ◌∷◌, ◌++◌, Option, Some, None, refl, arith, rules, ◌⊎◌, inl, inr}
+use Rattle.std.specs.Prelude.{nat_le}
 use Rattle.pawk_token.specs.Bytes.{Text}
 use Rattle.pawk_token.specs.declared.token.Builtin.{Builtin}
 use Rattle.pawk_token.specs.declared.token.Builtin.TheVariants as b
@@ -12,9 +12,8 @@ use Rattle.pawk_syntax_tree.specs.Tree.{Tree, number, string, ere, variable, ele
 use Rattle.pawk_syntax_tree.specs.Tree as tree
 use Rattle.pawk_syntax_tree.specs.Canonical.{IsLvalue, FitsSingle, FitsDouble, IsSound, AreSound}
 use Rattle.pawk_syntax_show.proofs.WritableTree.{IsWritableTree, AreWritableTrees}
-use Rattle.pawk_syntax_uses.specs.Mentions.{Mention, array, scalar, target, argument, call, builtin, Role, as_value, as_target, as_array, as_argument, role_under, role_left, Setting, plain, of_call, of_builtin, role_at, count, inside, inside_all, mentions}
-use Rattle.pawk_syntax_uses.specs.Mentions as mention
-use Rattle.pawk_syntax_check.specs.Calls.{is_lvalue, is_name, fits_builtin, has_targets, third, second, takes}
+use Rattle.pawk_syntax_uses.specs.Mentions.{Mention, array, scalar, target, argument, call, builtin, Role, as_value, as_target, as_array, as_argument, role_under, role_left, Setting, plain, of_call, of_builtin, role_at, count, inside_all, mentions}
+use Rattle.pawk_syntax_check.specs.Calls.{is_lvalue, is_name, fits_builtin, has_targets, takes}
 use Rattle.pawk_resolve.specs.Slots.{place}
 use Rattle.pawk_resolve.specs.Scopes.{Scope, is_array, special_of}
 use Rattle.pawk_resolve_program.specs.Texts.{of_tree, of_trees}
@@ -203,9 +202,11 @@ module _ (s : Scope) where
   split_two a d h = (h.0.0 (at0 b.Split a (more d none) h), array_at s d h.2 (at1 b.Split a d none h))
 
   split_three : (a d e : Tree) → Taken b.Split (more a (more d (more e none)))
-  split_three a d e h =
-      (h.0.0 (at0 b.Split a (more d (more e none)) h), array_at s d h.2 (at1 b.Split a d (more e none) h),
-      pattern_at s e (at2 b.Split a d e none h) h.0.1.1.0)
+  split_three a d e h = (
+    h.0.0 (at0 b.Split a (more d (more e none)) h),
+    array_at s d h.2 (at1 b.Split a d (more e none) h),
+    pattern_at s e (at2 b.Split a d e none h) h.0.1.1.0,
+  )
 
   taken : (f : Builtin) (ts : Trees) → takes f (count ts) ≡ true → Taken f ts
   taken b.Length ts n = one_of ts (number_is (count ts) 1 n) (Taken b.Length) (λ a h. h.0.0 (at0 b.Length a none h))
@@ -224,12 +225,16 @@ module _ (s : Scope) where
   ]
   taken b.Match ts n = two_of ts (number_is (count ts) 2 n) (Taken b.Match)
       (λ a d h. (h.0.0 (at0 b.Match a (more d none) h), pattern_at s d (at1 b.Match a d none h) h.0.1.0))
-  taken b.Sub ts n = three_of ts (number_is (count ts) 3 n) (Taken b.Sub) (λ a d e h.
-      (pattern_at s a (at0 b.Sub a (more d (more e none)) h) h.0.0, h.0.1.0 (at1 b.Sub a d (more e none) h),
-      target_at s e (lvalue_is e h.2) (at2 b.Sub a d e none h) h.0.1.1.0))
-  taken b.Gsub ts n = three_of ts (number_is (count ts) 3 n) (Taken b.Gsub) (λ a d e h.
-      (pattern_at s a (at0 b.Gsub a (more d (more e none)) h) h.0.0, h.0.1.0 (at1 b.Gsub a d (more e none) h),
-      target_at s e (lvalue_is e h.2) (at2 b.Gsub a d e none h) h.0.1.1.0))
+  taken b.Sub ts n = three_of ts (number_is (count ts) 3 n) (Taken b.Sub) (λ a d e h. (
+    pattern_at s a (at0 b.Sub a (more d (more e none)) h) h.0.0,
+    h.0.1.0 (at1 b.Sub a d (more e none) h),
+    target_at s e (lvalue_is e h.2) (at2 b.Sub a d e none h) h.0.1.1.0,
+  ))
+  taken b.Gsub ts n = three_of ts (number_is (count ts) 3 n) (Taken b.Gsub) (λ a d e h. (
+    pattern_at s a (at0 b.Gsub a (more d (more e none)) h) h.0.0,
+    h.0.1.0 (at1 b.Gsub a d (more e none) h),
+    target_at s e (lvalue_is e h.2) (at2 b.Gsub a d e none h) h.0.1.1.0,
+  ))
   taken b.Sprintf ts n = some_of ts n (Taken b.Sprintf) (λ a us h.
       (h.0.0 (at0 b.Sprintf a us h), shown s 1 us h.0.1 (rest s (of_builtin b.Sprintf) (Some b.Sprintf) 0 a us h.1)))
 
@@ -252,9 +257,11 @@ module _ (s : Scope) where
         let known = known_parts s (mentions as_value a ++ mentions as_value d) (mentions as_value e) h.3 in
         let others = known_parts s (mentions as_value a) (mentions as_value d) known.0 in
         let between = expression_parts s (of_tree a ++ of_tree d) (of_tree e) h.4 in
-        let before = expression_parts s (of_tree a) (of_tree d) between.0 in
-        (proper a (h.1.0.0, h.1.0.1, h.2.0, others.0, before.0), proper d (h.1.1.0, h.1.1.1, h.2.1, others.1, before.1),
-        proper e (h.1.2.0, h.1.2.1, h.2.2, known.1, between.1))
+        let before = expression_parts s (of_tree a) (of_tree d) between.0 in (
+          proper a (h.1.0.0, h.1.0.1, h.2.0, others.0, before.0),
+          proper d (h.1.1.0, h.1.1.1, h.2.1, others.1, before.1),
+          proper e (h.1.2.0, h.1.2.1, h.2.2, known.1, between.1),
+        )
     proper (member ts x) h = (h.3.0, listed s 0 ts (each ts) (h.1.1, h.2.0, h.3.1, h.4))
     proper (tree.call f ts) h = (h.3.0, passed s f 0 ts (each ts) (h.1, h.2.1, h.3.1, h.4))
     proper (tree.builtin f ts) h =

@@ -1,6 +1,5 @@
 -- Statements and items that are sound, and whose names are known, are proper.
-use Rattle.std.proofs.Common.{◌≡◌, Bool, true, false, List, [], ◌∷◌, ◌++◌, Option, Some, None, IfSome}
-use Rattle.pawk_token.specs.Bytes.{Text}
+use Rattle.std.proofs.Common.{Bool, true, false, ◌++◌, Option, Some, None, IfSome}
 use Rattle.pawk_syntax_tree.specs.Tree.{Tree, Trees, none, more}
 use Rattle.pawk_syntax_tree.specs.Canonical.{IsSome}
 use Rattle.pawk_syntax_program.specs.Statement.{Stmt, eval, print, printf, when, choose, repeat, do_while, loop, walk, go_out, exit_with, return_with, delete, clear, Stmts, done, next}
@@ -63,9 +62,12 @@ module _ (s : Scope) where
         let two = known_parts s (mention.of_option a) (mention.of_option d) three.0 in
         let found = expression_parts s (slashed.of_option a ++ slashed.of_option d ++ slashed.of_option e) (slashed.of_body body) x in
         let third = expression_parts s (slashed.of_option a ++ slashed.of_option d) (slashed.of_option e) found.0 in
-        let second = expression_parts s (slashed.of_option a) (slashed.of_option d) third.0 in
-        (option_proper a c.0 w.0 two.0 second.0, option_proper d c.1 w.1 two.1 second.1, option_proper e c.2 w.2 three.1 third.1,
-        body_proper body true c.3 w.3 known.1 found.1)
+        let second = expression_parts s (slashed.of_option a) (slashed.of_option d) third.0 in (
+          option_proper a c.0 w.0 two.0 second.0,
+          option_proper d c.1 w.1 two.1 second.1,
+          option_proper e c.2 w.2 three.1 third.1,
+          body_proper body true c.3 w.3 known.1 found.1,
+        )
     statement_proper (walk y z a) l c w k x = (k.0.1, k.0.0, k.1.0, body_proper a true c w.2 k.1.1 x)
     statement_proper (go_out word) l c w k x = tt
     statement_proper (exit_with e) l c w k x = option_proper e c w k x

@@ -6,3 +6,7 @@ mod Bodies
 mod Known
 mod KnownItems
 mod Entries
+mod KnownNames
+mod ScopeTables
+mod Items
+mod CheckedPrograms

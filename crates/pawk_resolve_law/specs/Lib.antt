@@ -6,3 +6,4 @@ pub mod Proper
 pub mod SpelledStatements
 pub mod FitsStatements
 pub mod ProperStatements
+pub mod Programs

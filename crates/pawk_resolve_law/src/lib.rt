@@ -3,4 +3,5 @@
 #![tactic(auto)]
 
 pub mod expressions;
+pub mod programs;
 pub mod statements;
