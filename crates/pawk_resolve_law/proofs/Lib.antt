@@ -10,3 +10,5 @@ mod KnownNames
 mod ScopeTables
 mod Items
 mod CheckedPrograms
+mod Holding
+mod Refusals

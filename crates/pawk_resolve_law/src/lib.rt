@@ -4,4 +4,6 @@
 
 pub mod expressions;
 pub mod programs;
+pub mod refused;
 pub mod statements;
+pub mod tables;
