@@ -1,4 +1,4 @@
-mod Between
+pub mod Between
 mod Among
 mod Choice
 mod First

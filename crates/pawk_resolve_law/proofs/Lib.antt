@@ -1,0 +1,14 @@
+mod Lookups
+mod Normal
+mod Spelling
+mod Again
+mod Bodies
+mod Known
+mod KnownItems
+mod Entries
+mod KnownNames
+mod ScopeTables
+mod Items
+mod CheckedPrograms
+mod Holding
+mod Refusals
