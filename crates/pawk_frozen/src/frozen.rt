@@ -75,10 +75,7 @@ impl<'a> Frozen<'a> {
             result self.new }
     {
         match self.role_of_array(array) {
-            Role::Reader => {
-                self.table.create_element(array, key)?;
-                Ok(())
-            }
+            Role::Reader => Ok(self.table.create_element(array, key)?),
             Role::Fixed | Role::Adder | Role::Setter => Err(Halt::Clash),
         }
     }
