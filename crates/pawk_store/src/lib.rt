@@ -7,6 +7,7 @@ pub mod laws;
 mod listing;
 mod openings;
 mod specials;
+mod reading;
 mod state;
 
 pub use globals::Globals;
