@@ -1,11 +1,11 @@
 -- Elements that are joined to what was noted of them.
-use Rattle.std.proofs.Common.{◌≡◌, ℕ, Bool, true, false, cond, List, [], ◌∷◌, map, Option, Some, None, refl, sym, ◌∙◌, ap, subst}
+use Rattle.std.proofs.Common.{◌≡◌, ℕ, suc, length, Bool, true, false, cond, List, [], ◌∷◌, map, Option, Some, None, refl, sym, ◌∙◌, ap, subst}
 use Rattle.std.specs.Prelude.{◌&&◌, ◌||◌, is_some}
 use Rattle.std.specs.List.{list_all, list_any}
 use Rattle.std.specs.Ordering.{eq_by_cmp, is_eq}
 use Rattle.std.specs.declared.cmp.Ordering.{Ordering}
 use Rattle.std.specs.declared.cmp.Ordering.TheVariants.{Less, Equal, Greater}
-use Rattle.std.specs.FinMap.Entries.{find, find-put, is_some-find}
+use Rattle.std.specs.FinMap.Entries.{by_order, find, find-put, is_some-find}
 use Rattle.std.proofs.lemmas.Cmp.{tied_itself}
 use Rattle.pawk_value.specs.Value.{Val}
 use Rattle.pawk_array.specs.Entries.{Entries, order, Rise, found, put, value_of}
@@ -211,3 +211,41 @@ module _ (k : List ℕ) (m : Mark) (marks : Marks) (es : Entries) (none : find o
         let parts = both_true _ _ h in
         let all = element_takes-array_takes marks after parts.1 in
         array_takes-element_takes (put_mark k m marks) es (λ q. at_marks q ∙ takes_each q (same_key q k) refl parts.0 (sym (at_values q) ∙ all q))
+
+-- ---- for the loops
+
+put_found : (k : List ℕ) (v : Val) (es : Entries) → Rise es → found k es ≡ Some v → es ≡ put k v es
+put_found k v es h e = same_found es (put k v es) h (rise-put k v es h) (λ q. by q (same_key q k) refl ∙ sym (find-put order total q k v es)) where
+  by : (q : List ℕ) (b : Bool) → same_key q k ≡ b → found q es ≡ cond b (Some v) (found q es)
+  by q true s = let same = same_is q k s in rw same e
+  by q false s = refl
+
+-- an element of which nothing was noted stays
+pub with_element_found : (k : List ℕ) (es : Entries) → Rise es → es ≡ with_element k (found k es) es
+with_element_found k es h = by (found k es) refl where
+  by : (o : Option Val) → found k es ≡ o → es ≡ with_element k o es
+  by None e = refl
+  by (Some v) e = put_found k v es h e
+
+pub length-put_mark : (k : List ℕ) (m : Mark) (marks : Marks) → find order k marks ≡ None → length (put_mark k m marks) ≡ suc (length marks)
+length-put_mark k m [] e = refl
+length-put_mark k m (x ∷ marks) e = by (order k x.0) refl (length-put_mark k m marks) where
+  by : (o : Ordering) → order k x.0 ≡ o → (find order k marks ≡ None → length (put_mark k m marks) ≡ suc (length marks)) →
+      length (by_order o ((k, m) ∷ x ∷ marks) ((x.0, m) ∷ marks) (x ∷ put_mark k m marks)) ≡ suc (suc (length marks))
+  by Less s rest = refl
+  by Equal s rest = let no : Some x.1 ≡ None = rw s at e in cc
+  by Greater s rest = let there : find order k marks ≡ None = rw s at e in ap suc (rest there)
+
+-- a key is taken out whose element takes what was noted of it
+pub one_taken : (k : List ℕ) (m : Mark) (before rest : Marks) (es new : Entries) → Rise es → before ≡ put_mark k m rest → find order k rest ≡ None →
+    takes m (value_of (found k es)) ≡ true → new ≡ with_element k (joined_element m (found k es)) es →
+    (array_takes rest new ≡ array_takes before es) × (join_array rest new ≡ join_array before es)
+one_taken k m before rest es new h is none t e =
+    (ap (array_takes rest) e ∙ sym (ap (λ b. b && array_takes rest (after k m rest es none)) t) ∙ sym (array_takes-put k m rest es none) ∙ ap (λ ms. array_takes ms es) (sym is),
+     ap (join_array rest) e ∙ join_array-put k m rest es none h ∙ ap (λ ms. join_array ms es) (sym is))
+
+-- a key is taken out whose element does not
+pub one_refused : (k : List ℕ) (m : Mark) (before rest : Marks) (es : Entries) → before ≡ put_mark k m rest → find order k rest ≡ None →
+    takes m (value_of (found k es)) ≡ false → array_takes before es ≡ false
+one_refused k m before rest es is none t =
+    ap (λ ms. array_takes ms es) is ∙ array_takes-put k m rest es none ∙ ap (λ b. b && array_takes rest (after k m rest es none)) t

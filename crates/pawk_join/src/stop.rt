@@ -1,0 +1,28 @@
+//! Why chunks cannot be joined.
+
+ghost use Rattle.std.specs.Prelude.{◌≡◌};
+
+use std::alloc::AllocError;
+
+/// Why what chunks noted cannot be joined to the globals.
+#[derive(Clone, Copy, PartialEq, Eq)]
+pub enum JoinStop {
+    /// The value of a cell has no number, or a sum on the way is none of the language.
+    Cell,
+    /// A chunk ended in a fault.
+    Fault,
+    /// A chunk did what its world does not allow.
+    Clash,
+    /// Memory was refused.
+    Memory,
+}
+
+impl From<AllocError> for JoinStop {
+    ghost use Rattle.pawk_join.specs.declared.stop.JoinStop.TheVariants.{Memory};
+
+    ghost from_gives = { λ _ stop. stop ≡ Memory };
+
+    fn from(_error: AllocError) -> JoinStop {
+        JoinStop::Memory
+    }
+}
