@@ -1,2 +1,3 @@
 pub mod ArrayLemmas
 pub mod StopLemmas
+pub mod SlotLemmas

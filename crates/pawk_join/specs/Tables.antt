@@ -5,7 +5,7 @@ use Rattle.pawk_value.specs.Value.{Val}
 use Rattle.pawk_array.specs.Entries.{Entries, found, put, value_of}
 use Rattle.pawk_world.specs.Worlds.{scalar}
 use Rattle.pawk_store.specs.Globals.{Globals, array_at, value_at}
-use Rattle.pawk_frozen.specs.Marks.{Mark, Marks, mark_found, Table, mark_at}
+use Rattle.pawk_frozen.specs.Marks.{Mark, blank, Marks, mark_found, Table}
 use Rattle.pawk_join.specs.Joins.{takes, joined_value, joined_element}
 
 abbrev pub with_element : List ℕ → Option Val → Entries → Entries
@@ -32,10 +32,6 @@ element_takes marks es key = takes (mark_found key marks) (value_of (found key e
 abbrev pub array_takes : Marks → Entries → Bool
 array_takes marks es = list_all (element_takes marks es) (keys_of marks)
 
--- what was noted of an array
-abbrev pub marks_at : Table → ℕ → Marks
-marks_at table n = slice_index_or table.arrays n []
-
 -- each of these, by its place; the first is at this one
 abbrev pub by_place : {X : Type 0} → (ℕ → X → X) → ℕ → List X → List X
 by_place f n [] = []
@@ -46,18 +42,29 @@ abbrev pub each_below : ℕ → (ℕ → Bool) → Bool
 each_below zero p = true
 each_below (suc n) p = each_below n p && p n
 
--- the globals, each cell of which is joined to what was noted of it
-abbrev pub join_table : Table → Globals → Globals
-join_table table g = record {
-  scalars = by_place (λ n v. joined_value (mark_at (scalar n) table) v) 0 g.scalars;
-  arrays = by_place (λ n es. join_array (marks_at table n) es) 0 g.arrays;
-}
+-- what was noted of a scalar, and of the elements of an array
+abbrev pub scalar_mark : List Mark → ℕ → Mark
+scalar_mark marks n = slice_index_or marks n blank
 
-abbrev pub scalar_takes : Table → Globals → ℕ → Bool
-scalar_takes table g n = takes (mark_at (scalar n) table) (value_at (scalar n) g)
+abbrev pub array_marks : List Marks → ℕ → Marks
+array_marks marks n = slice_index_or marks n []
+
+abbrev pub scalars_take : List Mark → Globals → Bool
+scalars_take marks g = each_below (length marks) (λ n. takes (scalar_mark marks n) (value_at (scalar n) g))
+
+abbrev pub arrays_take : List Marks → Globals → Bool
+arrays_take marks g = each_below (length marks) (λ n. array_takes (array_marks marks n) (array_at g n))
+
+abbrev pub join_scalars : List Mark → Globals → Globals
+join_scalars marks g = record g { scalars = by_place (λ n v. joined_value (scalar_mark marks n) v) 0 g.scalars }
+
+abbrev pub join_arrays : List Marks → Globals → Globals
+join_arrays marks g = record g { arrays = by_place (λ n es. join_array (array_marks marks n) es) 0 g.arrays }
 
 -- whether each cell takes what was noted of it
 abbrev pub all_take : Table → Globals → Bool
-all_take table g =
-    each_below (length table.scalars) (scalar_takes table g)
-    && each_below (length table.arrays) (λ n. array_takes (marks_at table n) (array_at g n))
+all_take table g = scalars_take table.scalars g && arrays_take table.arrays g
+
+-- the globals, each cell of which is joined to what was noted of it
+abbrev pub join_table : Table → Globals → Globals
+join_table table g = join_arrays table.arrays (join_scalars table.scalars g)

@@ -1,7 +1,8 @@
 //! All globals.
 
-ghost use Rattle.std.specs.Prelude.{◌≡◌, ◌&&◌};
-ghost use Rattle.pawk_join.specs.Tables.{all_take};
+ghost use Rattle.std.specs.Prelude.{◌≡◌, map};
+ghost use Rattle.pawk_frozen.specs.MarkViews.{mark_view};
+ghost use Rattle.pawk_join.specs.Tables.{all_take, arrays_take, scalars_take};
 ghost use Rattle.pawk_join.specs.Tables as spec;
 ghost use Rattle.pawk_join.specs.Stops.{Joins};
 
@@ -13,6 +14,8 @@ use pawk_store::Globals;
 
 /// Joins scalars to what was noted of them.
 fn join_scalars(globals: &mut Globals, marks: Vec<Mark>) -> Result<(), JoinStop>
+    ensures { Joins (scalars_take (map mark_view marks.items) globals.old)
+        (λ _. globals.new ≡ spec.join_scalars (map mark_view marks.items) globals.old) result }
 {
     let mut slot = 0;
     for mark in marks {
@@ -26,11 +29,13 @@ fn join_scalars(globals: &mut Globals, marks: Vec<Mark>) -> Result<(), JoinStop>
 
 /// Joins the elements of arrays to what was noted of them.
 fn join_arrays(globals: &mut Globals, marks: Vec<Marks>) -> Result<(), JoinStop>
+    ensures { Joins (arrays_take marks.items globals.old)
+        (λ _. globals.new ≡ spec.join_arrays marks.items globals.old) result }
 {
     let mut slot = 0;
-    for of_array in marks {
+    for of_elements in marks {
         let mut elements = globals.take_array(slot);
-        join_array(&mut elements, of_array)?;
+        join_array(&mut elements, of_elements)?;
         globals.put_array(slot, elements);
         slot += 1;
     }
