@@ -7,6 +7,30 @@ use Rattle.std.proofs.lemmas.Bool.{cases_lt}
 use Rattle.pawk_store.specs.Globals.{Globals}
 use Rattle.pawk_join.specs.Tables.{by_place, each_below}
 
+pub get_or-default : {X : Type 0} (xs : List X) (k : ℕ) (e e' : X) → k < length xs → get_or xs k e ≡ get_or xs k e'
+get_or-default [] k e e' h = absurd (omega (arith, h))
+get_or-default (x ∷ xs) zero e e' h = refl
+get_or-default (x ∷ xs) (suc k) e e' h = get_or-default xs k e e' (omega (arith, h))
+
+module _ {X : Type 0} (f : ℕ → X → X) where
+  pub get_or-by_place : (j k : ℕ) (xs : List X) (e : X) → k < length xs → get_or (by_place f j xs) k e ≡ f (j + k) (get_or xs k e)
+  get_or-by_place j k [] e h = absurd (omega (arith, h))
+  get_or-by_place j zero (x ∷ xs) e h = let same : j ≡ j + 0 = omega arith in ap (λ n. f n x) same
+  get_or-by_place j (suc k) (x ∷ xs) e h =
+      let same : suc j + k ≡ j + suc k = omega arith in
+      get_or-by_place (suc j) k xs e (omega (arith, h)) ∙ ap (λ n. f n (get_or xs k e)) same
+
+  pub length-by_place : (j : ℕ) (xs : List X) → length (by_place f j xs) ≡ length xs
+  length-by_place j [] = refl
+  length-by_place j (x ∷ xs) = ap suc (length-by_place (suc j) xs)
+
+  pub slice_get-by_place : (j k : ℕ) (xs : List X) → slice_get (by_place f j xs) k ≡ option_map (f (j + k)) (slice_get xs k)
+  slice_get-by_place j k [] = refl
+  slice_get-by_place j zero (x ∷ xs) = let same : j ≡ j + 0 = omega arith in ap (λ n. Some (f n x)) same
+  slice_get-by_place j (suc k) (x ∷ xs) =
+      let same : suc j + k ≡ j + suc k = omega arith in
+      slice_get-by_place (suc j) k xs ∙ ap (λ n. option_map (f n) (slice_get xs k)) same
+
 module _ {X : Type 0} (d : X) (f : ℕ → X → X) where
   -- the first so many slots are changed
   abbrev pub done : ℕ → List X → List X
@@ -23,11 +47,6 @@ module _ {X : Type 0} (d : X) (f : ℕ → X → X) where
       let apart : k ≢ i = λ same. absurd (omega (arith, h, same)) in
       get_or-set_other (done i xs) i k (f i (get_or xs i d)) e apart ∙ done_above i k xs e (omega (arith, h))
 
-  get_or-default : (xs : List X) (k : ℕ) (e e' : X) → k < length xs → get_or xs k e ≡ get_or xs k e'
-  get_or-default [] k e e' h = absurd (omega (arith, h))
-  get_or-default (x ∷ xs) zero e e' h = refl
-  get_or-default (x ∷ xs) (suc k) e e' h = get_or-default xs k e e' (omega (arith, h))
-
   done_below : (i k : ℕ) (xs : List X) (e : X) → k < i → k < length xs → get_or (done i xs) k e ≡ f k (get_or xs k e)
   done_below zero k xs e h within = absurd (omega (arith, h))
   done_below (suc i) k xs e h within = ⊎_elim (λ g. here g (done_below i k xs e g within)) there (cases_lt k i) where
@@ -42,33 +61,15 @@ module _ {X : Type 0} (d : X) (f : ℕ → X → X) where
         let apart : k ≢ i = λ same. absurd (omega (arith, g, same)) in
         get_or-set_other (done i xs) i k (f i (get_or xs i d)) e apart ∙ before
 
-  get_or-by_place : (j k : ℕ) (xs : List X) (e : X) → k < length xs → get_or (by_place f j xs) k e ≡ f (j + k) (get_or xs k e)
-  get_or-by_place j k [] e h = absurd (omega (arith, h))
-  get_or-by_place j zero (x ∷ xs) e h = let same : j ≡ j + 0 = omega arith in ap (λ n. f n x) same
-  get_or-by_place j (suc k) (x ∷ xs) e h =
-      let same : suc j + k ≡ j + suc k = omega arith in
-      get_or-by_place (suc j) k xs e (omega (arith, h)) ∙ ap (λ n. f n (get_or xs k e)) same
-
-  pub length-by_place : (j : ℕ) (xs : List X) → length (by_place f j xs) ≡ length xs
-  length-by_place j [] = refl
-  length-by_place j (x ∷ xs) = ap suc (length-by_place (suc j) xs)
-
   -- behind the last slot that is changed all stay
   pub done_all : (i : ℕ) (xs : List X) → ((k : ℕ) (x : X) → i ≤ k → f k x ≡ x) → done i xs ≡ by_place f 0 xs
-  done_all i xs stays = same_lists (done i xs) (by_place f 0 xs) (length-done i xs ∙ sym (length-by_place 0 xs)) each where
+  done_all i xs stays = same_lists (done i xs) (by_place f 0 xs) (length-done i xs ∙ sym (length-by_place f 0 xs)) each where
     each : (k : ℕ) (e : X) → k < length (done i xs) → get_or (done i xs) k e ≡ get_or (by_place f 0 xs) k e
     each k e h =
         let within : k < length xs = omega (arith, h, length-done i xs) in
         let same : 0 + k ≡ k = omega arith in
-        let there : get_or (by_place f 0 xs) k e ≡ f k (get_or xs k e) = get_or-by_place 0 k xs e within ∙ ap (λ n. f n (get_or xs k e)) same in
+        let there : get_or (by_place f 0 xs) k e ≡ f k (get_or xs k e) = get_or-by_place f 0 k xs e within ∙ ap (λ n. f n (get_or xs k e)) same in
         ⊎_elim (λ g. done_below i k xs e g within ∙ sym there) (λ g. done_above i k xs e g ∙ sym (stays k (get_or xs k e) g) ∙ sym there) (cases_lt k i)
-
-  pub slice_get-by_place : (j k : ℕ) (xs : List X) → slice_get (by_place f j xs) k ≡ option_map (f (j + k)) (slice_get xs k)
-  slice_get-by_place j k [] = refl
-  slice_get-by_place j zero (x ∷ xs) = let same : j ≡ j + 0 = omega arith in ap (λ n. Some (f n x)) same
-  slice_get-by_place j (suc k) (x ∷ xs) =
-      let same : suc j + k ≡ j + suc k = omega arith in
-      slice_get-by_place (suc j) k xs ∙ ap (λ n. option_map (f n) (slice_get xs k)) same
 
   -- one slot more
   pub done_more : (i : ℕ) (xs ys : List X) (v w : X) → ys ≡ done i xs → v ≡ get_or ys i d → w ≡ f i v → set (set ys i d) i w ≡ done (i + 1) xs
