@@ -1,18 +1,14 @@
-//! Why chunks cannot be joined.
+//! Why a join stops.
 
 ghost use Rattle.std.specs.Prelude.{◌≡◌};
 
 use std::alloc::AllocError;
 
-/// Why what chunks noted cannot be joined to the globals.
+/// Why what a chunk noted is not joined to the globals.
 #[derive(Clone, Copy, PartialEq, Eq)]
 pub enum JoinStop {
     /// The value of a cell has no number, or a sum on the way is none of the language.
     Cell,
-    /// A chunk ended in a fault.
-    Fault,
-    /// A chunk did what its world does not allow.
-    Clash,
     /// Memory was refused.
     Memory,
 }
