@@ -199,6 +199,13 @@ impl Array {
         Ok(sorted)
     }
 
+    /// The keys rise: each stands once, in the order of the bytes. It changes nothing and takes no time.
+    pub fn order_law(&self)
+        ensures { Rise self.now }
+    {
+        let _map = &self.map;
+    }
+
     /// All keys, in the order of their bytes.
     pub fn keys(&self, alloc: Global) -> Result<Texts, AllocError>
         ensures { IfOk result (λ all. all ≡ keys self.now) }

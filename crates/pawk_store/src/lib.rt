@@ -5,6 +5,7 @@ mod copies;
 mod globals;
 pub mod laws;
 mod listing;
+mod moving;
 mod openings;
 mod specials;
 mod reading;

@@ -1,0 +1,5 @@
+pub mod ArrayLemmas
+pub mod StopLemmas
+pub mod SlotLemmas
+pub mod LawLemmas
+pub mod MergeLemmas

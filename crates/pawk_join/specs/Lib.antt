@@ -1,0 +1,6 @@
+pub mod Joins
+pub mod Tables
+pub mod JoinLaws
+pub mod Stops
+pub mod Merges
+pub mod MergeViews
