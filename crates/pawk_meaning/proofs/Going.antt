@@ -12,7 +12,7 @@ use Rattle.pawk_store.specs.RecordStates.{RecordState}
 use Rattle.pawk_meaning.specs.Parts.{Hold, Moment, Outcome, gives, halts, Part, give, halt_with, settle, ask, then_do, bind, as_number, as_truth, as_text, tick, tick_at}
 use Rattle.pawk_meaning.specs.Places.{with_record, text_at}
 use Rattle.pawk_meaning.specs.Meaning.{decide}
-use Rattle.pawk_meaning.specs.Lockstep.{variable_slot, looks, access_of, global_of, Pair, AllHeld, refusal_of, state_of, SameAnswer, SameMoment, SameOutcome, AreInLockstep, InStep, EndsBy, FirstGoesOn, SecondGoesOn}
+use Rattle.pawk_meaning.specs.Lockstep.{variable_slot, looks, access_of, resource_of, Pair, AllHeld, refusal_of, state_of, SameAnswer, SameMoment, SameOutcome, AreInLockstep, InStep, EndsBy, FirstGoesOn, SecondGoesOn}
 use Rattle.pawk_meaning.proofs.Later.{Any, Near, near, nearby, Meets, meets_weak, Later, later_then, reaches_then, later_nearby, later_halt, later_tick, later_ask, reaches_ask}
 
 near_alike : {S T : Type 0} (R : S → T → Type 0) (m : Moment S) (n : Moment T) → SameMoment R m n → near m ≡ near n
@@ -189,7 +189,7 @@ module _ {S T : Type 0} {t : Track S T} where
   goes_spelled P slot k l may h = goes_looked P slot (λ v. k (text_of v)) (λ v. l (text_of v)) may (λ v. h (text_of v))
 
   -- a request to the world
-  pub goes_ask : (q : Request) → t.pair.permits (access_of q) (global_of q) → Goes t Any (λ m. ask (t.pair.first_calls.ask q m.world) m) (λ n. ask (t.pair.second_calls.ask q n.world) n)
+  pub goes_ask : (q : Request) → t.pair.permits (access_of q) (resource_of q) → Goes t Any (λ m. ask (t.pair.first_calls.ask q m.world) m) (λ n. ask (t.pair.second_calls.ask q n.world) n)
   goes_ask q may = record {
     first = λ m held. later_ask t.pair.permits t.pair.before t.pair.first_calls t.first (t.pair.first_calls.ask q m.world) m (t.first.ask q may m.world) (t.first.refuses q may m.world) held;
     second = λ n held. later_ask t.pair.permits t.pair.before_second t.pair.second_calls t.second (t.pair.second_calls.ask q n.world) n (t.second.ask q may n.world) (t.second.refuses q may n.world) held;

@@ -28,12 +28,12 @@ use Rattle.pawk_meaning.specs.Places.{Aim, parameter, cell, local_element, nowhe
 use Rattle.pawk_meaning.specs.Places as places
 use Rattle.pawk_meaning.specs.Builtins.{within_limit, joined_by, index, bytes_where, is_from, letters_in, Replaced, replaced_by, found_by, fixed_at, pieces_by, pieces_between, sign_of, side_of, related, same_truth, formatted_text, decimal}
 use Rattle.pawk_meaning.specs.Meaning.{one_or_zero, both_of, place_of_match, leaf_value, key_of, pattern_of, fill_from, pieces_of, split_into, put_replaced, set_match, eval, number_of, function_of, truth_of, text_of_textual, joined_texts, suffixed, texts_of, values_of, arguments_of, argument_of, aim_of, operand_of, format_of, separator_of}
-use Rattle.pawk_meaning.specs.Lockstep.{Global, variable_slot, array_slot, Access, reads, olds, writes, changes, tests, removes, clears, walks, IsHeld}
+use Rattle.pawk_meaning.specs.Lockstep.{Resource, variable_slot, array_slot, function_slot, Access, reads, olds, writes, changes, tests, removes, clears, walks, runs, IsHeld}
 use Rattle.pawk_meaning.specs.Allows.{scalar_access, LooksAt, TouchesArray, TouchesVariable, TouchesField, Touches, AllowsJoining, AllowsLeaf, Allows, AllowsEach, AllowsPlace, AllowsNumeric, AllowsFunction, AllowsTest, AllowsTextual, AllowsPattern, AllowsFieldsBy, AllowsFormat, AllowsArgument, AllowsArguments}
 use Rattle.pawk_meaning.proofs.Later.{Any, held_set, held_more, held_whole, Holding, holding_array}
 use Rattle.pawk_meaning.proofs.Going.{Track, Held, Goes, goes_bind, goes_as, goes_weak, goes_nearby, goes_give, goes_plain, goes_settle, goes_framed, goes_stated, goes_looked, goes_spelled, goes_ask, goes_as_number, goes_as_truth, goes_as_text, goes_dropped, goes_if, goes_decide, goes_with_record}
 
-module _ (permits : Access → Global → Type 0) where
+module _ (permits : Access → Resource → Type 0) where
   -- an aim that may be touched so
   abbrev pub Aims : Access → Aim → Type 0
   Aims access (cell (world.scalar n)) = permits (scalar_access access) (variable_slot n)
@@ -170,7 +170,7 @@ module _ {S T : Type 0} {t : Track S T} (eres : List (List ℕ)) where
   goes_set_match : (p : ℤ × ℤ) → Goes t Any (set_match p) (set_match p)
   goes_set_match p = goes_nearby Any (λ e. (p.0, record e { state = record e.state { rstart = p.0; rlength = p.1 } })) (λ e held. (tt, held))
 
-  module _ (enter : ℕ → List Hold → Part S Val) (enter' : ℕ → List Hold → Part T Val) (entered_too : (f : ℕ) (values : List Hold) → Held t values → Goes t Any (enter f values) (enter' f values)) where
+  module _ (enter : ℕ → List Hold → Part S Val) (enter' : ℕ → List Hold → Part T Val) (entered_too : (f : ℕ) → t.pair.permits runs (function_slot f) → (values : List Hold) → Held t values → Goes t Any (enter f values) (enter' f values)) where
     pub goes_subscripts : (ks : Exprs) → AllowsJoining t.pair.permits ks → Goes t (OneEach ks []) (texts_of t.pair.first_calls eres enter ks []) (texts_of t.pair.second_calls eres enter' ks []) → Goes t Any (bind (texts_of t.pair.first_calls eres enter ks []) (key_of t.pair.first_calls)) (bind (texts_of t.pair.second_calls eres enter' ks []) (key_of t.pair.second_calls))
     goes_subscripts ks may g = goes_bind g (λ ts is. goes_key_of ks may ts is)
 
@@ -183,7 +183,7 @@ module _ {S T : Type 0} {t : Track S T} (eres : List (List ℕ)) where
       goes_eval (read p) may = goes_bind (goes_aim p may.0) (λ aim aims. goes_read_at aim (aims reads may.1))
       goes_eval (choice c a b) may = goes_decide (goes_as_truth (goes_eval c may.0)) (λ h. goes_if h (goes_eval a may.1) (goes_eval b may.2))
       goes_eval (assign p e) may = goes_bind (goes_aim p may.0) (λ aim aims. goes_bind (goes_eval e may.1) (λ v _. goes_bind (goes_write_at aim v (aims writes may.2)) (λ _ _. goes_plain v)))
-      goes_eval (call f as') may = goes_bind (goes_arguments as' may [] tt) (λ values held. entered_too f values held)
+      goes_eval (call f as') may = goes_bind (goes_arguments as' may.1 [] tt) (λ values held. entered_too f may.0 values held)
 
       goes_number : (n : Numeric) → AllowsNumeric t.pair.permits n → Goes t Any (number_of t.pair.first_calls eres enter n) (number_of t.pair.second_calls eres enter' n)
       goes_number (arithmetic op a b) may = goes_bind (goes_as_number (goes_eval a may.0)) (λ x _. goes_bind (goes_as_number (goes_eval b may.1)) (λ y _. goes_settle (arith_by op x y)))

@@ -18,7 +18,7 @@ use Rattle.pawk_meaning.specs.Parts.{Moment, Outcome, gives, halts, Part, give}
 use Rattle.pawk_meaning.specs.Meaning.{call_at}
 use Rattle.pawk_meaning.specs.Records.{Left, through, next_file, exit, fault, clash, is_inside, End, end_of_halt, end_of, run_part, after_read, stays_inside, holds, does, reads, begins, in_range, selects, rules_from, one_record}
 use Rattle.pawk_meaning.specs.Runs.{is_skipped, behind, records_from}
-use Rattle.pawk_meaning.specs.Lockstep.{Access, Global, Pair, IsPrefix, refusal_of, state_of, world_of, output_of, Reaches, SameOutcome, InStep, GoesOn, EndsBy}
+use Rattle.pawk_meaning.specs.Lockstep.{Access, Resource, Pair, IsPrefix, refusal_of, state_of, world_of, output_of, Reaches, SameOutcome, InStep, GoesOn, EndsBy}
 use Rattle.pawk_meaning.specs.Allows.{LooksAt, Allows, AllowsStmts, AllowsFunctions, AllowsSelector, AllowsRules, AllowsMain}
 use Rattle.pawk_meaning.specs.Laws.{EndReaches, IsFinal, RefusalsAreFinal, LeftBy, SameEnd, EndsInStep}
 use Rattle.pawk_meaning.proofs.Later.{prefix_here, prefix_then, Any, Later}
@@ -98,7 +98,7 @@ halt_left ends halt.next s state out h = tt
 halt_left ends halt.next_file s state out h = tt
 halt_left ends (halt.exit n) s state out h = h
 
-end_left : {S X : Type 0} (permits : Access → Global → Type 0) (ends : Halt → Type 0) (before : S → S → Type 0) (P : X → Type 0) (s : S) (out : List ℕ) (o : Outcome S X) → Later permits ends before P s out o → LeftBy ends (end_of o).left
+end_left : {S X : Type 0} (permits : Access → Resource → Type 0) (ends : Halt → Type 0) (before : S → S → Type 0) (P : X → Type 0) (s : S) (out : List ℕ) (o : Outcome S X) → Later permits ends before P s out o → LeftBy ends (end_of o).left
 end_left permits ends before P s out (gives x m) l = tt
 end_left permits ends before P s out (halts i q state out') l = halt_left ends i q state out' l.meets
 
@@ -108,7 +108,7 @@ reaches_end before None s state out o e = end_onto before s out o e
 
 -- ---- one world
 
-module _ {S : Type 0} (permits : Access → Global → Type 0) (before : S → S → Type 0) (calls : Calls S) (on : GoesOn permits before calls) where
+module _ {S : Type 0} (permits : Access → Resource → Type 0) (before : S → S → Type 0) (calls : Calls S) (on : GoesOn permits before calls) where
   abbrev Onto : End S → End S → Type 0
   Onto e f = before e.world f.world × IsPrefix e.output f.output
 

@@ -19,8 +19,8 @@ use Rattle.pawk_meaning.specs.Parts.{Hold, Moment, gives, Part, halt_with, entry
 use Rattle.pawk_meaning.specs.Places.{Aim, array_at, text_at, variable_aim, remove_in, clear_of, keys_of}
 use Rattle.pawk_meaning.specs.Builtins.{joined_by, sign_of, formatted_text}
 use Rattle.pawk_meaning.specs.Meaning.{Way, on, by_break, by_continue, by_return, value_of_way, left_by, status_by, and_then, after_left, after_turn, turns, while_loop, print_text, eval, act, leaves, act_or_none, test_or_true, visit_keys, for_keys, exec, execs, run_function, run_function_at, call_at}
-use Rattle.pawk_meaning.specs.Lockstep.{Global, Access, writes, changes, removes, clears, walks, AllHeld}
-use Rattle.pawk_meaning.specs.Allows.{TouchesArray, TouchesVariable, Allows, AllowsSimple, AllowsLeave, AllowsSimpleIfAny, AllowsIfAny, AllowsStmt, AllowsStmts, AllowsFunctions}
+use Rattle.pawk_meaning.specs.Lockstep.{Resource, function_slot, Access, writes, changes, removes, clears, walks, runs, AllHeld}
+use Rattle.pawk_meaning.specs.Allows.{TouchesArray, TouchesVariable, Allows, AllowsSimple, AllowsLeave, AllowsSimpleIfAny, AllowsIfAny, AllowsStmt, AllowsStmts, AllowsBody, AllowsFunctions}
 use Rattle.pawk_meaning.proofs.Later.{prefix_here, Any, held_extended, holding_array, later_then}
 use Rattle.pawk_meaning.proofs.Going.{Track, Held, Goes, held_too, in_step_then, goes_bind, goes_plain, goes_halt, goes_fault, goes_settle, goes_tick, goes_framed, goes_stated, goes_left, goes_spelled, goes_as_number, goes_as_truth, goes_dropped, goes_if, goes_decide}
 use Rattle.pawk_meaning.proofs.InExpressions.{Aims, aims_variable, goes_write_at, goes_add_at, goes_remove_in, goes_clear_of, goes_keys_of, goes_subscripts, goes_eval, goes_texts, goes_values, goes_aim, goes_format}
@@ -59,7 +59,7 @@ module _ {S T : Type 0} {t : Track S T} (eres : List (List ℕ)) where
     alike = λ m n same held. inl (refl, record { worlds = same.worlds; states = same.states; frames = same.frames; arrays = same.arrays; outputs = ap (λ o. o ++ s) same.outputs; lefts = same.lefts });
   }
 
-  module _ (enter : ℕ → List Hold → Part S Val) (enter' : ℕ → List Hold → Part T Val) (entered_too : (f : ℕ) (values : List Hold) → Held t values → Goes t Any (enter f values) (enter' f values)) where
+  module _ (enter : ℕ → List Hold → Part S Val) (enter' : ℕ → List Hold → Part T Val) (entered_too : (f : ℕ) → t.pair.permits runs (function_slot f) → (values : List Hold) → Held t values → Goes t Any (enter f values) (enter' f values)) where
     evals : (e : Expr) → Allows t.pair.permits e → Goes t Any (eval t.pair.first_calls eres enter e) (eval t.pair.second_calls eres enter' e)
     evals e may = goes_eval eres enter enter' entered_too e may
 
@@ -128,18 +128,12 @@ inside kinds values m = let e = entry_of kinds values m.arrays in record m { fra
 abbrev back : {Q : Type 0} → Moment Q → Way → Part Q Val
 back m way after = gives (value_of_way way) (record after { frame = m.frame; arrays = take (length m.arrays) after.arrays })
 
-held_inside : {Q : Type 0} (permits : Access → Global → Type 0) (kinds : List Kind) (values : List Hold) (m : Moment Q) → AllHeld permits values → AllHeld permits (inside kinds values m).frame
+held_inside : {Q : Type 0} (permits : Access → Resource → Type 0) (kinds : List Kind) (values : List Hold) (m : Moment Q) → AllHeld permits values → AllHeld permits (inside kinds values m).frame
 held_inside permits kinds values m held = held_extended permits (drop (length values) kinds) (record { frame = values; arrays = m.arrays }) held
 
--- the body of a function that is there is permitted
-allowed_at : (permits : Access → Global → Type 0) (fs : List Function) → AllowsFunctions permits fs → (f : ℕ) → MatchOption (slice_get fs f) (Unit {0}) (λ g. AllowsStmts permits g.body)
-allowed_at permits [] may f = tt
-allowed_at permits (g ∷ fs) may zero = may.0
-allowed_at permits (g ∷ fs) may (suc f) = allowed_at permits fs may.1 f
-
-match_map : (o : Option Function) {P Q : Function → Type 0} → ((g : Function) → P g → Q g) → MatchOption o (Unit {0}) P → MatchOption o (Unit {0}) Q
-match_map None h m = tt
-match_map (Some g) h m = h g m
+body_map : (permits : Access → Resource → Type 0) (o : Option Function) {Q : Function → Type 0} → ((g : Function) → AllowsStmts permits g.body → Q g) → AllowsBody permits o → MatchOption o (Unit {0}) Q
+body_map permits None h may = tt
+body_map permits (Some g) h may = h g may
 
 module _ {S T : Type 0} {t : Track S T} where
   -- the caller's parameters and local arrays are put back
@@ -172,11 +166,11 @@ module _ {S T : Type 0} {t : Track S T} (eres : List (List ℕ)) where
   goes_called_at None run run' h values held = goes_plain Uninit
   goes_called_at (Some g) run run' h values held = goes_called g.kinds values held h
 
-  pub goes_call_at : (fs : List Function) → AllowsFunctions t.pair.permits fs → (depth f : ℕ) (values : List Hold) → Held t values → Goes t Any (call_at t.pair.first_calls eres fs depth f values) (call_at t.pair.second_calls eres fs depth f values)
+  pub goes_call_at : (fs : List Function) → AllowsFunctions t.pair.permits fs → (depth f : ℕ) → t.pair.permits runs (function_slot f) → (values : List Hold) → Held t values → Goes t Any (call_at t.pair.first_calls eres fs depth f values) (call_at t.pair.second_calls eres fs depth f values)
   unfolding call_at
-  goes_call_at fs may zero f values held = goes_bind goes_tick (λ _ _. goes_fault Any fault.Depth)
-  goes_call_at fs may (suc depth) f values held =
-      goes_bind goes_tick (λ _ _. goes_called_at (slice_get fs f) (execs t.pair.first_calls eres (call_at t.pair.first_calls eres fs depth)) (execs t.pair.second_calls eres (call_at t.pair.second_calls eres fs depth)) (match_map (slice_get fs f) (λ g h. goes_execs eres (call_at t.pair.first_calls eres fs depth) (call_at t.pair.second_calls eres fs depth) (goes_call_at fs may depth) g.body h) (allowed_at t.pair.permits fs may f)) values held)
+  goes_call_at fs may zero f runnable values held = goes_bind goes_tick (λ _ _. goes_fault Any fault.Depth)
+  goes_call_at fs may (suc depth) f runnable values held =
+      goes_bind goes_tick (λ _ _. goes_called_at (slice_get fs f) (execs t.pair.first_calls eres (call_at t.pair.first_calls eres fs depth)) (execs t.pair.second_calls eres (call_at t.pair.second_calls eres fs depth)) (body_map t.pair.permits (slice_get fs f) (λ g h. goes_execs eres (call_at t.pair.first_calls eres fs depth) (call_at t.pair.second_calls eres fs depth) (goes_call_at fs may depth) g.body h) (may f runnable)) values held)
 
   pub goes_program : (fs : List Function) (ss : Stmts) → AllowsFunctions t.pair.permits fs → AllowsStmts t.pair.permits ss → (depth : ℕ) → Goes t Any (execs t.pair.first_calls eres (call_at t.pair.first_calls eres fs depth) ss) (execs t.pair.second_calls eres (call_at t.pair.second_calls eres fs depth) ss)
   goes_program fs ss may may' depth = goes_execs eres (call_at t.pair.first_calls eres fs depth) (call_at t.pair.second_calls eres fs depth) (goes_call_at fs may depth) ss may'

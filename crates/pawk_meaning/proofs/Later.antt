@@ -16,7 +16,7 @@ use Rattle.pawk_code.specs.declared.program.Kind.{Kind}
 use Rattle.pawk_code.specs.declared.program.Kind.TheVariants as kind
 use Rattle.pawk_meaning.specs.Parts.{Hold, value, global_array, local_array, Moment, Outcome, gives, halts, Part, halt_with, ask, then_do, tick_at, hold_or_none, Entry, with_locals}
 use Rattle.pawk_meaning.specs.Places.{as_array, array_at}
-use Rattle.pawk_meaning.specs.Lockstep.{Global, array_slot, Access, IsPrefix, IsHeld, AllHeld, refusal_of, state_of, world_of, output_of, Reaches, RefusesIn, GoesOn, EndsBy}
+use Rattle.pawk_meaning.specs.Lockstep.{Resource, array_slot, Access, IsPrefix, IsHeld, AllHeld, refusal_of, state_of, world_of, output_of, Reaches, RefusesIn, GoesOn, EndsBy}
 use Rattle.pawk_meaning.specs.Allows.{TouchesArray, AllowsWhole}
 
 pub prefix_here : (a : List ℕ) → IsPrefix a a
@@ -47,7 +47,7 @@ abbrev pub nearby : {S X : Type 0} → X × Near → Part S X
 nearby e m = gives e.0 (record m { state = e.1.state; frame = e.1.frame; arrays = e.1.arrays })
 
 -- what the parameters hold
-module _ (permits : Access → Global → Type 0) where
+module _ (permits : Access → Resource → Type 0) where
   held_at : (hs : List Hold) (i : ℕ) → AllHeld permits hs → IsHeld permits (hold_or_none (slice_get hs i))
   held_at [] i h = tt
   held_at (x ∷ hs) zero h = h.0

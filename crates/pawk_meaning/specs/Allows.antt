@@ -1,6 +1,6 @@
--- What the text of a program may ask of the globals. A place is touched where it is read or changed, which its subscripts
+-- What the text of a program may do to the resources. A place is touched where it is read or changed, which its subscripts
 -- or its index do not say.
-use Rattle.std.specs.Prelude.{ℕ, List, [], ◌∷◌, Option, Some, None}
+use Rattle.std.specs.Prelude.{ℕ, List, [], ◌∷◌, Option, Some, None, slice_get}
 use Rattle.pawk_store.specs.Slots.{fs_slot, ofs_slot, ors_slot, subsep_slot}
 use Rattle.pawk_code.specs.declared.name.Array.{Array}
 use Rattle.pawk_code.specs.declared.name.Array.TheVariants as array
@@ -17,7 +17,8 @@ use Rattle.pawk_code.specs.Statements.{next_file, exit, return, Head, Stmt, simp
 use Rattle.pawk_code.specs.Statements.{Stmts, done, next}
 use Rattle.pawk_code.specs.Programs.{Selector, always, matching, between, Rule, Function}
 use Rattle.pawk_meaning.specs.Builtins.{sign_of}
-use Rattle.pawk_meaning.specs.Lockstep.{Global, variable_slot, array_slot, Access, looks, reads, olds, writes, changes, tests, removes, clears, walks}
+use Rattle.pawk_meaning.specs.Lockstep.{Resource, variable_slot, array_slot, function_slot, last_match, rule_ranges, rest_of_file, Access}
+use Rattle.pawk_meaning.specs.Lockstep.{looks, reads, olds, writes, changes, tests, removes, clears, walks, runs}
 
 -- what is asked of a scalar where an element would be asked so: its value is looked at
 abbrev pub scalar_access : Access → Access
@@ -30,8 +31,9 @@ scalar_access tests = tests
 scalar_access removes = removes
 scalar_access clears = clears
 scalar_access walks = walks
+scalar_access runs = runs
 
-module _ (permits : Access → Global → Type 0) where
+module _ (permits : Access → Resource → Type 0) where
   abbrev pub LooksAt : ℕ → Type 0
   LooksAt slot = permits looks (variable_slot slot)
 
@@ -55,6 +57,7 @@ module _ (permits : Access → Global → Type 0) where
   TouchesField removes = Unit {0}
   TouchesField clears = Unit {0}
   TouchesField walks = Unit {0}
+  TouchesField runs = Unit {0}
 
   abbrev pub Touches : Access → Place → Type 0
   Touches access (to_global n) = permits (scalar_access access) (variable_slot n)
@@ -82,7 +85,7 @@ module _ (permits : Access → Global → Type 0) where
   AllowsLeaf (field n) = Unit {0}
 
   abbrev mutual
-    -- each request that an expression makes is permitted
+    -- all that an expression does is permitted; of a call, that it is one of this function
     pub Allows : Expr → Type 0
     Allows (leaf l) = AllowsLeaf l
     Allows (numeric n) = AllowsNumeric n
@@ -91,7 +94,7 @@ module _ (permits : Access → Global → Type 0) where
     Allows (read p) = AllowsPlace p × Touches reads p
     Allows (choice c a b) = Allows c × Allows a × Allows b
     Allows (assign p e) = AllowsPlace p × Allows e × Touches writes p
-    Allows (call f as') = AllowsArguments as'
+    Allows (call f as') = permits runs (function_slot f) × AllowsArguments as'
 
     pub AllowsEach : Exprs → Type 0
     AllowsEach none = Unit {0}
@@ -112,7 +115,7 @@ module _ (permits : Access → Global → Type 0) where
     AllowsNumeric (function f) = AllowsFunction f
     AllowsNumeric (split e a by) = Allows e × AllowsFieldsBy by × TouchesArray clears a × TouchesArray writes a
     AllowsNumeric (replace c p r to) = AllowsPattern p × Allows r × AllowsPlace to × Touches reads to × Touches writes to
-    AllowsNumeric (find e p) = Allows e × AllowsPattern p
+    AllowsNumeric (find e p) = Allows e × AllowsPattern p × permits writes last_match
 
     pub AllowsFunction : NumericFunction → Type 0
     AllowsFunction (length_of e) = Allows e
@@ -169,7 +172,7 @@ module _ (permits : Access → Global → Type 0) where
   AllowsLeave break = Unit {0}
   AllowsLeave continue = Unit {0}
   AllowsLeave next_record = Unit {0}
-  AllowsLeave next_file = Unit {0}
+  AllowsLeave next_file = permits clears rest_of_file
   AllowsLeave (exit None) = Unit {0}
   AllowsLeave (exit (Some e)) = Allows e
   AllowsLeave (return None) = Unit {0}
@@ -201,19 +204,23 @@ module _ (permits : Access → Global → Type 0) where
     AllowsStmts done = Unit {0}
     AllowsStmts (next s rest) = AllowsStmt s × AllowsStmts rest
 
+  abbrev pub AllowsBody : Option Function → Type 0
+  AllowsBody None = Unit {0}
+  AllowsBody (Some f) = AllowsStmts f.body
+
+  -- the body of each function that may be called; a slot without a function calls nothing
   abbrev pub AllowsFunctions : List Function → Type 0
-  AllowsFunctions [] = Unit {0}
-  AllowsFunctions (f ∷ fs) = AllowsStmts f.body × AllowsFunctions fs
+  AllowsFunctions functions = (f : ℕ) → permits runs (function_slot f) → AllowsBody (slice_get functions f)
 
   abbrev pub AllowsSelector : Selector → Type 0
   AllowsSelector always = Unit {0}
   AllowsSelector (matching e) = Allows e
-  AllowsSelector (between p q) = Allows p × Allows q
+  AllowsSelector (between p q) = Allows p × Allows q × permits writes rule_ranges
 
   abbrev pub AllowsRules : List Rule → Type 0
   AllowsRules [] = Unit {0}
   AllowsRules (r ∷ rs) = AllowsSelector r.selector × AllowsStmts r.body × AllowsRules rs
 
-  -- functions and main rules; a record that is read looks at FS
+  -- the main rules and the functions that may be called; a record that is read looks at FS
   abbrev pub AllowsMain : List Function → List Rule → Type 0
   AllowsMain functions rules = LooksAt fs_slot × AllowsFunctions functions × AllowsRules rules

@@ -11,7 +11,7 @@ use Rattle.pawk_meaning.specs.Parts.{Moment}
 use Rattle.pawk_meaning.specs.Meaning.{execs, call_at}
 use Rattle.pawk_meaning.specs.Records.{Left, through, next_file, exit, fault, clash, End, end_of_halt, one_record}
 use Rattle.pawk_meaning.specs.Runs.{records_from}
-use Rattle.pawk_meaning.specs.Lockstep.{access_of, global_of, IsPrefix, Pair, AllHeld, refusal_of, state_of, SameMoment, InStep, AreInLockstep, EndsBy, FirstGoesOn, SecondGoesOn}
+use Rattle.pawk_meaning.specs.Lockstep.{access_of, resource_of, IsPrefix, Pair, AllHeld, refusal_of, state_of, SameMoment, InStep, AreInLockstep, EndsBy, FirstGoesOn, SecondGoesOn}
 use Rattle.pawk_meaning.specs.Allows.{AllowsStmts, AllowsFunctions, AllowsMain}
 
 -- statements: the same end, or a parting
@@ -70,7 +70,7 @@ module _ {S T : Type 0} (w : Pair S T) where
   -- both came in step to a request at which they part
   pub record EndParting (e : End S) (f : End T) : Type 0 where
     pub request : Request
-    pub permitted : w.permits (access_of request) (global_of request)
+    pub permitted : w.permits (access_of request) (resource_of request)
     pub first : S
     pub second : T
     pub state : RecordState

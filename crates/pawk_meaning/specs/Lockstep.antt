@@ -9,12 +9,19 @@ use Rattle.pawk_world.specs.Worlds as world
 use Rattle.pawk_store.specs.RecordStates.{RecordState}
 use Rattle.pawk_meaning.specs.Parts.{Hold, value, global_array, local_array, Moment, Outcome, gives, halts}
 
--- a global by its slot: scalars and arrays have slots of their own
-pub data Global : Type 0 where
-  variable_slot : ℕ → Global
-  array_slot : ℕ → Global
+-- What a text may be allowed to touch. Global scalars, global arrays and functions have slots of their own.
+pub data Resource : Type 0 where
+  variable_slot : ℕ → Resource
+  array_slot : ℕ → Resource
+  function_slot : ℕ → Resource
+  -- RSTART and RLENGTH
+  last_match : Resource
+  -- for each rule whether its range has begun and not ended
+  rule_ranges : Resource
+  -- the records of a file that are not read yet
+  rest_of_file : Resource
 
--- the kinds of what a run asks of a global
+-- the kinds of what a text does to a resource
 pub data Access : Type 0 where
   -- the value of a scalar, which no world refuses
   looks : Access
@@ -28,10 +35,12 @@ pub data Access : Type 0 where
   removes : Access
   clears : Access
   walks : Access
+  -- a function is called
+  runs : Access
 
-abbrev pub global_of_cell : Cell → Global
-global_of_cell (world.scalar n) = variable_slot n
-global_of_cell (world.element n key) = array_slot n
+abbrev pub resource_of_cell : Cell → Resource
+resource_of_cell (world.scalar n) = variable_slot n
+resource_of_cell (world.element n key) = array_slot n
 
 abbrev pub access_of : Request → Access
 access_of (world.read n key) = reads
@@ -43,15 +52,15 @@ access_of (world.remove n key) = removes
 access_of (world.clear n) = clears
 access_of (world.keys n) = walks
 
-abbrev pub global_of : Request → Global
-global_of (world.read n key) = array_slot n
-global_of (world.old n key) = array_slot n
-global_of (world.write c v) = global_of_cell c
-global_of (world.add sign c amount) = global_of_cell c
-global_of (world.test n key) = array_slot n
-global_of (world.remove n key) = array_slot n
-global_of (world.clear n) = array_slot n
-global_of (world.keys n) = array_slot n
+abbrev pub resource_of : Request → Resource
+resource_of (world.read n key) = array_slot n
+resource_of (world.old n key) = array_slot n
+resource_of (world.write c v) = resource_of_cell c
+resource_of (world.add sign c amount) = resource_of_cell c
+resource_of (world.test n key) = array_slot n
+resource_of (world.remove n key) = array_slot n
+resource_of (world.clear n) = array_slot n
+resource_of (world.keys n) = array_slot n
 
 -- one is a beginning of the other
 abbrev pub IsPrefix : List ℕ → List ℕ → Type 0
@@ -65,11 +74,11 @@ pub record Pair (S T : Type 0) : Type 1 where
   pub alike : S → T → Type 0
   pub before : S → S → Type 0
   pub before_second : T → T → Type 0
-  pub permits : Access → Global → Type 0
+  pub permits : Access → Resource → Type 0
   pub parts : Request → S → T → Type 0
 
 -- what a parameter may hold: a global array only where everything is permitted of it
-module _ (permits : Access → Global → Type 0) where
+module _ (permits : Access → Resource → Type 0) where
   abbrev pub IsHeld : Hold → Type 0
   IsHeld (value v) = Unit {0}
   IsHeld (global_array n) = (access : Access) → permits access (array_slot n)
@@ -131,13 +140,13 @@ module _ {S T : Type 0} (w : Pair S T) where
   pub record AreInLockstep : Type 0 where
     pub look : (n : ℕ) → w.permits looks (variable_slot n) → (s : S) (t : T) → w.alike s t →
         w.first_calls.look n s ≡ w.second_calls.look n t
-    pub ask : (q : Request) → w.permits (access_of q) (global_of q) → (s : S) (t : T) → w.alike s t →
+    pub ask : (q : Request) → w.permits (access_of q) (resource_of q) → (s : S) (t : T) → w.alike s t →
         SameAnswer w.alike (w.first_calls.ask q s) (w.second_calls.ask q t) ⊎ w.parts q s t
 
   -- both came in step to a request at which they part
   pub record Parting {X : Type 0} (o : Outcome S X) (p : Outcome T X) : Type 0 where
     pub request : Request
-    pub permitted : w.permits (access_of request) (global_of request)
+    pub permitted : w.permits (access_of request) (resource_of request)
     pub first : S
     pub second : T
     pub state : RecordState
@@ -162,20 +171,20 @@ RefusesIn ends (Some r) = ends r.0
 
 -- The order of states is one, and each permitted call goes on in it. `ends` is how runs over this world may halt: by each
 -- fault, `next`, `nextfile` and `exit`, and as permitted calls refuse.
-pub record GoesOn {S : Type 0} (permits : Access → Global → Type 0) (before : S → S → Type 0) (calls : Calls S) : Type 0 where
+pub record GoesOn {S : Type 0} (permits : Access → Resource → Type 0) (before : S → S → Type 0) (calls : Calls S) : Type 0 where
   pub here : (s : S) → before s s
   pub then : (s t u : S) → before s t → before t u → before s u
-  pub ask : (q : Request) → permits (access_of q) (global_of q) → (s : S) → before s (state_of (calls.ask q s))
+  pub ask : (q : Request) → permits (access_of q) (resource_of q) → (s : S) → before s (state_of (calls.ask q s))
   pub ends : Halt → Bool
   pub at_fault : (f : Fault) → ends (halt.fault f) ≡ true
   pub at_next : ends halt.next ≡ true
   pub at_next_file : ends halt.next_file ≡ true
   pub at_exit : (n : ℕ) → ends (halt.exit n) ≡ true
-  pub refuses : (q : Request) → permits (access_of q) (global_of q) → (s : S) →
+  pub refuses : (q : Request) → permits (access_of q) (resource_of q) → (s : S) →
       RefusesIn (λ h. ends h ≡ true) (refusal_of (calls.ask q s))
 
 abbrev pub EndsBy :
-    {S : Type 0} {permits : Access → Global → Type 0} {before : S → S → Type 0} {calls : Calls S} →
+    {S : Type 0} {permits : Access → Resource → Type 0} {before : S → S → Type 0} {calls : Calls S} →
     GoesOn permits before calls → Halt → Type 0
 EndsBy on h = on.ends h ≡ true
 
