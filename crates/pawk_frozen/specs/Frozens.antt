@@ -1,5 +1,5 @@
 -- The globals as BEGIN left them, which a chunk does not change, and the table of what it notes.
-use Rattle.std.specs.Prelude.{ℕ, ℤ, pos, ◌-◌, ◌^◌, ◌&&◌, Bool, if◌then◌else◌, List, Option, Some, None, Result, Ok, Err, is_some, int_le}
+use Rattle.std.specs.Prelude.{ℕ, ℤ, pos, ◌-ℤ◌, ◌^◌, ◌&&◌, Bool, if◌then◌else◌, List, length, Option, Some, None, Result, Ok, Err, is_some, int_le}
 use Rattle.pawk_value.specs.Fault.{Fault}
 use Rattle.pawk_value.specs.Fault.TheVariants as fault
 use Rattle.pawk_value.specs.Value.{Val, Uninit}
@@ -13,12 +13,17 @@ use Rattle.pawk_store.specs.Globals.{Globals, array_at, value_at}
 use Rattle.pawk_admit.specs.declared.role.Role.{Role}
 use Rattle.pawk_admit.specs.declared.role.Role.TheVariants.{Fixed, Adder, Setter, Reader}
 use Rattle.pawk_admit.specs.Roles.{Roles, role_of_array}
-use Rattle.pawk_frozen.specs.Marks.{Mark, created, summed, blank, last_put, Table, mark_at, with_mark, with_amount}
+use Rattle.pawk_frozen.specs.Marks.{Mark, created, summed, blank, last_put, Table, blank_table, mark_at, with_mark, with_amount}
 
 pub record Frozen : Type 0 where
   pub fixed : Globals
   pub roles : Roles
   pub table : Table
+
+-- the globals that BEGIN left, of which nothing is noted
+abbrev pub begun : Globals → Roles → Frozen
+begun fixed roles =
+    record { fixed = fixed; roles = roles; table = blank_table (length fixed.scalars) (length fixed.arrays) }
 
 abbrev pub noted : Cell → Mark → Frozen → Frozen
 noted c mark s = record s { table = with_mark c mark s.table }
@@ -26,14 +31,14 @@ noted c mark s = record s { table = with_mark c mark s.table }
 -- the amount that is added by a sign
 abbrev pub signed_amount : Sign → ℤ → ℤ
 signed_amount Plus y = y
-signed_amount Minus y = pos 0 - y
+signed_amount Minus y = pos 0 -ℤ y
 
 -- the greatest size of a sum of a chunk's amounts; behind a greater one no value of the cell leaves a number
 abbrev pub greatest_sum : ℤ
 greatest_sum = pos (2 ^ 64)
 
 abbrev pub is_sum : ℤ → Bool
-is_sum z = int_le (pos 0 - greatest_sum) z && int_le z greatest_sum
+is_sum z = int_le (pos 0 -ℤ greatest_sum) z && int_le z greatest_sum
 
 -- a mark is kept where its sum may still be one
 abbrev pub kept_mark : Cell → Mark → Frozen → Answer Frozen (Unit {0})

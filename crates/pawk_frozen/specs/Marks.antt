@@ -1,5 +1,6 @@
 -- What a chunk notes of the cells that it adds to, sets or creates, in place of changing them.
-use Rattle.std.specs.Prelude.{ℕ, ℤ, ◌+◌, List, [], Option, Some, None, slice_set, slice_index_or, int_min, int_max}
+use Rattle.std.specs.Prelude.{ℕ, ℤ, ◌+ℤ◌, List, [], Option, Some, None, replicate, slice_set, slice_index_or}
+use Rattle.std.specs.Int.{int_min, int_max}
 use Rattle.std.specs.FinMap.Entries.{find, put as put_by}
 use Rattle.pawk_value.specs.Value.{Val}
 use Rattle.pawk_array.specs.Entries.{order}
@@ -19,7 +20,7 @@ pub data Mark : Type 0 where
 abbrev pub with_amount : ℤ → Mark → Mark
 with_amount y blank = summed y y y
 with_amount y (summed total least greatest) =
-    summed (total + y) (int_min least (total + y)) (int_max greatest (total + y))
+    summed (total +ℤ y) (int_min least (total +ℤ y)) (int_max greatest (total +ℤ y))
 with_amount y (last_put v) = summed y y y
 with_amount y created = summed y y y
 
@@ -41,6 +42,10 @@ put_mark key mark marks = put_by order key mark marks
 pub record Table : Type 0 where
   pub scalars : List Mark
   pub arrays : List Marks
+
+-- nothing noted of so many scalars and so many arrays
+abbrev pub blank_table : ℕ → ℕ → Table
+blank_table scalars arrays = record { scalars = replicate scalars blank; arrays = replicate arrays [] }
 
 abbrev pub mark_at : Cell → Table → Mark
 mark_at (scalar n) table = slice_index_or table.scalars n blank
