@@ -1,0 +1,5 @@
+pub mod Traces
+pub mod Settings
+pub mod Agreement
+pub mod Commutation
+pub mod Merging
