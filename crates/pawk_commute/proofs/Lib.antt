@@ -1,0 +1,4 @@
+pub mod CellLaws
+pub mod SumLemmas
+pub mod AgreementLemmas
+pub mod AnswerLemmas
