@@ -2,3 +2,4 @@ pub mod CellLaws
 pub mod SumLemmas
 pub mod AgreementLemmas
 pub mod AnswerLemmas
+pub mod OrderLemmas
