@@ -3,3 +3,4 @@ pub mod SumLemmas
 pub mod AgreementLemmas
 pub mod AnswerLemmas
 pub mod OrderLemmas
+pub mod EndLemmas
