@@ -1,5 +1,5 @@
 -- How the agreement of a store and a chunk begins, and how it is kept.
-use Rattle.std.proofs.Common.{◌≡◌, ℕ, zero, suc, List, [], ◌∷◌, ◌++◌, Option, Some, None, Bool, true, false, if◌then◌else◌, refl, ap, sym, ◌∙◌, subst, length}
+use Rattle.std.proofs.Common.{◌≡◌, ℕ, zero, suc, List, [], ◌∷◌, ◌++◌, Some, Bool, true, false, if◌then◌else◌, refl, ap, sym, ◌∙◌, subst, length}
 use Rattle.std.specs.Prelude.{slice_index_or, replicate}
 use Rattle.std.proofs.lemmas.List.{length-replicate}
 use Rattle.std.specs.FinMap.Entries.{find}
@@ -11,7 +11,7 @@ use Rattle.pawk_store.specs.Globals.{Globals, value_at, with_value}
 use Rattle.pawk_admit.specs.declared.role.Role.{Role}
 use Rattle.pawk_admit.specs.declared.role.Role.TheVariants.{Fixed, Adder, Setter, Reader}
 use Rattle.pawk_admit.specs.Roles.{Roles}
-use Rattle.pawk_frozen.specs.Marks.{Mark, blank, summed, last_put, created, mark_or_blank, blank_table, mark_at, with_mark}
+use Rattle.pawk_frozen.specs.Marks.{Mark, blank, created, mark_or_blank, blank_table, mark_at, with_mark}
 use Rattle.pawk_frozen.specs.Frozens.{Frozen, begun, noted}
 use Rattle.pawk_meaning.specs.Lockstep.{resource_of_cell}
 use Rattle.pawk_commute.specs.Traces.{Event, Traced, same_cell, mark_after, mark_from}

@@ -1,5 +1,5 @@
 -- What a store and a chunk answer where they agree.
-use Rattle.std.proofs.Common.{◌≡◌, ◌<◌, ℕ, ℤ, pos, ◌+ℤ◌, List, [], ◌∷◌, ◌++◌, Option, Some, None, Bool, true, false, if◌then◌else◌, Result, Ok, Err, refl, ap, ap₂, sym, ◌∙◌, subst, inl, inr, ⊎_elim, map, length, arith}
+use Rattle.std.proofs.Common.{◌≡◌, ◌<◌, ℕ, ℤ, pos, ◌+ℤ◌, List, [], ◌∷◌, ◌++◌, Option, Some, None, true, false, if◌then◌else◌, Result, Ok, Err, refl, ap, ap₂, sym, ◌∙◌, subst, inl, inr, ⊎_elim, length, arith}
 use Rattle.std.proofs.lemmas.List.{append-nil}
 use Rattle.std.proofs.lemmas.Int.{ints}
 use Rattle.std.specs.Prelude.{◌⊎◌, ◌-ℤ◌, is_some}
@@ -8,7 +8,7 @@ use Rattle.pawk_value.specs.Range.{FitsWord, in_range_or_fault}
 use Rattle.pawk_value.specs.Arithmetic.{arith as result_of}
 use Rattle.pawk_value.specs.Value.{Val, Uninit, Num}
 use Rattle.pawk_value.specs.Conversion.{num_of}
-use Rattle.pawk_array.specs.Entries.{Entries, found, keys, value_of}
+use Rattle.pawk_array.specs.Entries.{found, keys, value_of}
 use Rattle.pawk_code.specs.declared.word.Sign.{Sign}
 use Rattle.pawk_code.specs.declared.word.Sign.TheVariants.{Plus, Minus}
 use Rattle.pawk_value.specs.Fault.TheVariants as fault
@@ -32,7 +32,7 @@ use Rattle.pawk_commute.specs.Agreement.{Suits, Becomes, IsChanged, Alike}
 use Rattle.pawk_commute.specs.Commutation.{Parts, pair_of, has_sum}
 use Rattle.pawk_commute.proofs.CellLaws.{cell_itself, same_found, looked_for}
 use Rattle.pawk_commute.proofs.SumLemmas.{in_range_ok, one_more}
-use Rattle.pawk_commute.proofs.AgreementLemmas.{adder_changed, setter_changed, value_entry, changed}
+use Rattle.pawk_commute.proofs.AgreementLemmas.{adder_changed, value_entry, changed}
 
 -- a value that may be there is the same after a mark of a reader array
 reader_value : (before now : Option Val) (m : Mark) → Suits m Reader → Becomes before m now → value_of now ≡ value_of before
@@ -94,15 +94,15 @@ module _ (i : Setting) where
   absent s t n key o role there h e none lacks = (
     none,
     changed i s t (element n key) (value_of o) created (creations n key o)
-    (λ k. absurd (cc))
-    there h
-    (λ _. subst (λ f. Extends f (Some (value_of o))) (sym lacks) (inr (ap Some none)))
-    role
-    (ap Some (sym (ap value_of e) ∙ reader_value (entry_at (element n key) i.start) (entry_at (element n key) s.globals) (mark_at (element n key) t.table) (subst (Suits (mark_at (element n key) t.table)) role (h.suits (element n key))) (h.becomes (element n key))))
-    (λ k. absurd (subst IsChanged role k))
-    (λ _. refl)
-    (apart n key o)
-    (lawful n key o role),
+        (λ k. absurd (cc))
+        there h
+        (λ _. subst (λ f. Extends f (Some (value_of o))) (sym lacks) (inr (ap Some none)))
+        role
+        (ap Some (sym (ap value_of e) ∙ reader_value (entry_at (element n key) i.start) (entry_at (element n key) s.globals) (mark_at (element n key) t.table) (subst (Suits (mark_at (element n key) t.table)) role (h.suits (element n key))) (h.becomes (element n key))))
+        (λ k. absurd (subst IsChanged role k))
+        (λ _. refl)
+        (apart n key o)
+        (lawful n key o role),
   )
 
   read_fixed : (s : Traced) (t : Frozen) (n : ℕ) (key : List ℕ) (o p : Option Val) → role_of_array i.roles n ≡ Fixed → Alike i s t → found key (array_at s.globals n) ≡ o → found key (array_at i.fixed n) ≡ p → o ≡ p →
@@ -146,11 +146,11 @@ module _ (i : Setting) where
   put_value s t c v role there h = inl (
     refl,
     changed i s t c v (last_put v) (event.put c v ∷ [])
-    (λ k. absurd (cc)) there h (λ k. absurd (cc)) role refl
-    (λ _. sym (ap (λ b. if b then last_put v else mark_from blank c s.trace) (cell_itself c)))
-    (λ k. sym (ap (λ b. if b then last_put v else mark_from blank c s.trace) (cell_itself c)) ∙ k)
-    (λ other m e. ap (λ b. if b then last_put v else m) e)
-    (role, tt),
+        (λ k. absurd (cc)) there h (λ k. absurd (cc)) role refl
+        (λ _. sym (ap (λ b. if b then last_put v else mark_from blank c s.trace) (cell_itself c)))
+        (λ k. sym (ap (λ b. if b then last_put v else mark_from blank c s.trace) (cell_itself c)) ∙ k)
+        (λ other m e. ap (λ b. if b then last_put v else m) e)
+        (role, tt),
   )
 
   -- ---- an add
@@ -168,13 +168,13 @@ module _ (i : Setting) where
         subst (SameAnswer (Alike i) (gives tt (record { globals = with_value c (Num (a +ℤ w)) s.globals; trace = s.trace ++ event.added c w ∷ [] }))) (sym (kept c (with_amount w mark) t more.0)) (
           refl,
           changed i s t c (Num (a +ℤ w)) (with_amount w mark) (event.added c w ∷ [])
-          (λ k. absurd (cc)) there h (λ k. absurd (cc))
-          (suits w mark)
-          more.1
-          (λ _. told)
-          (λ k. told ∙ k)
-          (λ other m e. ap (λ b. if b then with_amount w m else m) e)
-          (role, tt),
+              (λ k. absurd (cc)) there h (λ k. absurd (cc))
+              (suits w mark)
+              more.1
+              (λ _. told)
+              (λ k. told ∙ k)
+              (λ other m e. ap (λ b. if b then with_amount w m else m) e)
+              (role, tt),
         )
       where
         suits : (w : ℤ) (m : Mark) → Suits (with_amount w m) (role_of_cell i.roles c)

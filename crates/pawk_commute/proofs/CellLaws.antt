@@ -1,5 +1,5 @@
 -- What a change of one cell leaves at each cell.
-use Rattle.std.proofs.Common.{◌≡◌, ◌≢◌, ◌<◌, ℕ, zero, suc, List, [], ◌∷◌, Option, Some, None, Bool, true, false, T, refl, ap, sym, ◌∙◌, subst, length, arith, rules, tests}
+use Rattle.std.proofs.Common.{◌≡◌, ◌≢◌, ◌<◌, ℕ, zero, suc, List, [], ◌∷◌, Option, Some, Bool, true, false, T, refl, ap, sym, ◌∙◌, subst, length, arith, rules, tests}
 use Rattle.std.specs.Prelude.{slice_set, slice_index_or, nat_eq, ◌&&◌, if◌then◌else◌}
 use Rattle.std.specs.Str.{bytes_eq}
 use Rattle.std.specs.Cmp.{IsTotalOrder}
@@ -9,9 +9,9 @@ use Rattle.std.specs.FinMap.Entries.{find, put as put_by, find-put, is_sorted-pu
 use Rattle.std.proofs.lemmas.List.{length-set, set-get_or}
 use Rattle.std.proofs.lemmas.Slice.Eq.{bytes_eq-Decides}
 use Rattle.pawk_value.specs.Value.{Val, Uninit}
-use Rattle.pawk_array.specs.Entries.{Entries, order, Rise, found, put, value_of}
+use Rattle.pawk_array.specs.Entries.{Entries, order, Rise, found, put}
 use Rattle.pawk_world.specs.Worlds.{Cell, scalar, element}
-use Rattle.pawk_store.specs.Globals.{Globals, array_at, value_at, with_array, with_value, with_cell}
+use Rattle.pawk_store.specs.Globals.{Globals, array_at, value_at, with_array, with_value}
 use Rattle.pawk_frozen.specs.Marks.{Mark, blank, mark_or_blank, Table, mark_at, with_mark}
 use Rattle.pawk_meaning.specs.Lockstep.{resource_of_cell}
 use Rattle.pawk_commute.specs.Traces.{same_cell}

@@ -1,9 +1,8 @@
 -- From a parting to the event.
-use Rattle.std.proofs.Common.{◌≡◌, ℕ, ℤ, List, [], ◌∷◌, ◌++◌, Option, Some, None, Bool, true, false, if◌then◌else◌, Result, Ok, Err, refl, ap, sym, ◌∙◌, subst, inl, inr, ⊎_elim}
+use Rattle.std.proofs.Common.{◌≡◌, ℕ, ℤ, List, [], None, Bool, true, false, if◌then◌else◌, Result, Ok, Err, refl, ap, sym, ◌∙◌, subst, inl, inr, ⊎_elim}
 use Rattle.std.specs.Prelude.{◌⊎◌}
 use Rattle.pawk_value.specs.Fault.{Fault}
 use Rattle.pawk_value.specs.Fault.TheVariants as fault
-use Rattle.pawk_value.specs.Value.{Val}
 use Rattle.pawk_value.specs.Conversion.{num_of}
 use Rattle.pawk_array.specs.Entries.{found, value_of}
 use Rattle.pawk_code.specs.declared.word.Sign.{Sign}
@@ -19,11 +18,10 @@ use Rattle.pawk_admit.specs.Roles.{role_of_array}
 use Rattle.pawk_frozen.specs.Marks.{Mark, blank, summed, last_put, created, with_amount, mark_at}
 use Rattle.pawk_frozen.specs.Frozens.{Frozen, noted, signed_amount, kept_mark, found_or_missing, missing}
 use Rattle.pawk_frozen.specs.Frozens as frozen
-use Rattle.pawk_meaning.specs.Records.{Left, through, clash, End}
+use Rattle.pawk_meaning.specs.Records.{Left, clash, End}
 use Rattle.pawk_meaning.specs.Lockstep.{access_of, resource_of, resource_of_cell, refusal_of, state_of}
 use Rattle.pawk_meaning.specs.Laws.{SameEnd, EndReaches, EndsInStep, LeftBy}
 use Rattle.pawk_commute.specs.Traces.{Traced, creations, additions, traced_answer, traced, mark_from}
-use Rattle.pawk_commute.specs.Traces as event
 use Rattle.pawk_commute.specs.Settings.{Setting, role_of_cell, IsThere, Permits, MayBegin}
 use Rattle.pawk_commute.specs.Agreement.{Alike}
 use Rattle.pawk_commute.specs.Commutation.{TraceBefore, TableBefore, Parts, pair_of, store_opening, chunk_opening, IsOwnFault, has_sum, MissedKey, FaultsToo, GoesPast, Commuted, no_event, amount_fault, missed_key, add_fault}

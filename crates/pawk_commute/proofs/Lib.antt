@@ -4,3 +4,4 @@ pub mod AgreementLemmas
 pub mod AnswerLemmas
 pub mod OrderLemmas
 pub mod EndLemmas
+pub mod MergeLemmas

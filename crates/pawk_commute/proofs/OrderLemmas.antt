@@ -1,5 +1,5 @@
 -- How a store's trace and a chunk's table go on, and how the two refuse.
-use Rattle.std.proofs.Common.{◌≡◌, ◌<◌, ℕ, ℤ, List, [], ◌∷◌, ◌++◌, Option, Some, None, Bool, true, false, if◌then◌else◌, Result, Ok, Err, refl, ap, sym, ◌∙◌, subst, length, append_assoc}
+use Rattle.std.proofs.Common.{◌≡◌, ◌<◌, ℕ, ℤ, List, [], ◌∷◌, ◌++◌, Option, Some, None, Bool, true, false, if◌then◌else◌, Result, Ok, Err, refl, ap, sym, ◌∙◌, length, append_assoc}
 use Rattle.std.proofs.lemmas.List.{append-nil}
 use Rattle.pawk_value.specs.Fault.{Fault}
 use Rattle.pawk_value.specs.Fault.TheVariants as fault
@@ -26,7 +26,7 @@ use Rattle.pawk_commute.specs.Traces.{Event, Traced, events_of, traced_answer, t
 use Rattle.pawk_commute.specs.Traces as event
 use Rattle.pawk_commute.specs.Settings.{Setting, role_of_cell, IsThere, MayRead, Permits}
 use Rattle.pawk_commute.specs.Agreement.{IsLawful}
-use Rattle.pawk_commute.specs.Commutation.{TraceBefore, IsOf, TableFollows, TableBefore, pair_of}
+use Rattle.pawk_commute.specs.Commutation.{TraceBefore, TableBefore, pair_of}
 use Rattle.pawk_commute.proofs.CellLaws.{cell_same, mark_with, table_with, in_table}
 use Rattle.pawk_commute.proofs.AgreementLemmas.{marks_more, lawful_more}
 

@@ -1,5 +1,5 @@
 -- An add whose sum is in range: the chunk does not stop, and the total of the mark is the change of the cell.
-use Rattle.std.proofs.Common.{◌≡◌, ◌<◌, ◌≤◌, ◌^◌, ◌&&◌, ℤ, pos, negsuc, ◌+ℤ◌, Bool, true, false, if◌then◌else◌, Option, Some, Result, Ok, Err, refl, ap, sym, ◌∙◌, subst, arith, rules, tests}
+use Rattle.std.proofs.Common.{◌≡◌, ◌<◌, ◌^◌, ◌&&◌, ℤ, pos, negsuc, ◌+ℤ◌, Bool, true, false, if◌then◌else◌, Option, Some, Result, Ok, Err, refl, ap, sym, ◌∙◌, subst, arith, rules, tests}
 use Rattle.std.proofs.lemmas.Int.{ints}
 use Rattle.std.specs.Prelude.{◌≤ℤ◌, ◌-ℤ◌, int_lt, int_le, cond}
 use Rattle.std.specs.Int.{int_min, int_max}
@@ -13,7 +13,7 @@ use Rattle.pawk_admit.specs.declared.role.Role.TheVariants.{Adder}
 use Rattle.pawk_frozen.specs.Marks.{Mark, blank, summed, last_put, created, with_amount}
 use Rattle.pawk_frozen.specs.Frozens.{greatest_sum, is_sum}
 use Rattle.pawk_commute.specs.Settings.{FitsIfOk}
-use Rattle.pawk_commute.specs.Agreement.{Suits, IsSum, Becomes}
+use Rattle.pawk_commute.specs.Agreement.{Suits, Becomes}
 use Rattle.pawk_commute.specs.Commutation.{has_sum}
 
 fits_from : (z : ℤ) → in_range z ≡ true → FitsWord z

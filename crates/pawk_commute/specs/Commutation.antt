@@ -1,5 +1,5 @@
 -- A chunk of records over the globals that BEGIN left, and the same records in order over the globals as they are then.
-use Rattle.std.specs.Prelude.{◌≡◌, ◌⊎◌, ℕ, ℤ, List, [], ◌∷◌, ◌++◌, length, Bool, false, Option, Some, None, Result, Ok, Err}
+use Rattle.std.specs.Prelude.{◌≡◌, ◌⊎◌, ℕ, ℤ, List, [], ◌∷◌, ◌++◌, Bool, false, Option, None, Result, Ok, Err}
 use Rattle.pawk_value.specs.Fault.{Fault}
 use Rattle.pawk_value.specs.Arithmetic.{arith}
 use Rattle.pawk_value.specs.Conversion.{num_of}
@@ -18,7 +18,7 @@ use Rattle.pawk_admit.specs.Roles.{role_of_array}
 use Rattle.pawk_frozen.specs.Marks.{Mark, blank, summed, last_put, created, with_amount, mark_at}
 use Rattle.pawk_frozen.specs.Frozens.{Frozen, begun, signed_amount, is_sum}
 use Rattle.pawk_frozen.specs.Frozens as frozen
-use Rattle.pawk_meaning.specs.Records.{Left, through, fault, clash, End}
+use Rattle.pawk_meaning.specs.Records.{through, fault, clash, End}
 use Rattle.pawk_meaning.specs.Runs.{records_from}
 use Rattle.pawk_meaning.specs.Lockstep.{Pair, IsPrefix}
 use Rattle.pawk_meaning.specs.Laws.{SameEnd}

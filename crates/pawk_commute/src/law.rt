@@ -1,6 +1,9 @@
 // The laws.
 
-use pawk_meaning::law::Pairing;
+ghost use Rattle.pawk_commute.specs.Commutation.{Commutation, StartsAgain};
+ghost use Rattle.pawk_commute.specs.Merging.{MergeTells};
+
+use pawk_meaning::law::{Pairing, lockstep_records};
 
 /// The globals that keep a trace, and those of a chunk.
 pub struct StoreAndChunk;
@@ -19,3 +22,23 @@ impl Pairing for StoreAndChunk {
 
     ghost pair = { pair_of };
 }
+
+/// A chunk of records over the globals that BEGIN left ends as the same records over the globals as
+/// they are then: the same record state, output and way of ending, and the table is what the trace
+/// says; or up to the first event, which is named. A law, which takes and leaves nothing.
+pub fn commutes()
+    ensures { Commutation }
+{
+    lockstep_records::<StoreAndChunk>();
+}
+
+/// Where there was no event, the next chunk may begin with the globals as they are.
+pub fn starts_again()
+    ensures { StartsAgain }
+{}
+
+/// A chunk that is left well and whose cells all pass the test of the merge ends as the same records
+/// in order, and no other does.
+pub fn merge_tells()
+    ensures { MergeTells }
+{}
