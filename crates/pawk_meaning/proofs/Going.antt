@@ -13,7 +13,7 @@ use Rattle.pawk_meaning.specs.Parts.{Hold, Moment, Outcome, gives, halts, Part, 
 use Rattle.pawk_meaning.specs.Places.{with_record, text_at}
 use Rattle.pawk_meaning.specs.Meaning.{decide}
 use Rattle.pawk_meaning.specs.Lockstep.{variable_slot, looks, access_of, resource_of, Pair, AllHeld, refusal_of, state_of, SameAnswer, SameMoment, SameOutcome, AreInLockstep, InStep, EndsBy, FirstGoesOn, SecondGoesOn}
-use Rattle.pawk_meaning.proofs.Later.{Any, Near, near, nearby, Meets, meets_weak, Later, later_then, reaches_then, later_nearby, later_halt, later_tick, later_ask, reaches_ask}
+use Rattle.pawk_meaning.proofs.Later.{Any, Near, near, nearby, Meets, Order, any_order, meets_weak, Later, later_then, reaches_then, later_nearby, later_halt, later_tick, later_ask, reaches_ask}
 
 near_alike : {S T : Type 0} (R : S → T → Type 0) (m : Moment S) (n : Moment T) → SameMoment R m n → near m ≡ near n
 near_alike R m n same =
@@ -21,22 +21,27 @@ near_alike R m n same =
     ∙ ap (λ x. record { state = n.state; frame = x; arrays = m.arrays }) same.frames
     ∙ ap (λ x. record { state = n.state; frame = n.frame; arrays = x }) same.arrays
 
--- two worlds in lockstep, each of which goes on
+-- two worlds in lockstep, each of which goes on, and an order of record states
 pub record Track (S T : Type 0) : Type 1 where
   pub pair : Pair S T
   pub lockstep : AreInLockstep pair
   pub first : FirstGoesOn pair
   pub second : SecondGoesOn pair
+  pub order : Order pair.permits
 
 module _ {S T : Type 0} where
+  -- in any order of record states
+  abbrev pub track : (w : Pair S T) → AreInLockstep w → FirstGoesOn w → SecondGoesOn w → Track S T
+  track w step on on' = record { pair = w; lockstep = step; first = on; second = on'; order = any_order w.permits }
+
   abbrev pub Held : Track S T → List Hold → Type 0
   Held t frame = AllHeld t.pair.permits frame
 
   abbrev pub FirstLater : {X : Type 0} (t : Track S T) (P : X → Type 0) → Moment S → Outcome S X → Type 0
-  FirstLater t P m o = Later t.pair.permits (EndsBy t.first) t.pair.before P m.world m.output o
+  FirstLater t P m o = Later t.pair.permits (EndsBy t.first) t.pair.before t.order P m o
 
   abbrev pub SecondLater : {X : Type 0} (t : Track S T) (P : X → Type 0) → Moment T → Outcome T X → Type 0
-  SecondLater t P m o = Later t.pair.permits (EndsBy t.second) t.pair.before_second P m.world m.output o
+  SecondLater t P m o = Later t.pair.permits (EndsBy t.second) t.pair.before_second t.order P m o
 
   -- two parts go together, and give values of which P holds
   pub record Goes (t : Track S T) {X : Type 0} (P : X → Type 0) (p : Part S X) (q : Part T X) : Type 0 where
@@ -92,14 +97,14 @@ module _ {S T : Type 0} {t : Track S T} where
         output = e.output;
         related = e.related;
         parts_there = e.parts_there;
-        first_then = reaches_then t.pair.permits t.pair.before t.pair.first_calls t.first P Q (refusal_of a) (state_of a) e.state e.output o k meets (λ x m px held. (h x px).first m held) e.first_then;
-        second_then = reaches_then t.pair.permits t.pair.before_second t.pair.second_calls t.second P Q (refusal_of b) (state_of b) e.state e.output p l meets' (λ x m px held. (h x px).second m held) e.second_then;
+        first_then = reaches_then t.pair.permits t.pair.before t.pair.first_calls t.first t.order P Q (refusal_of a) (state_of a) e.state e.output o k meets (λ x m px held. (h x px).first m held) e.first_then;
+        second_then = reaches_then t.pair.permits t.pair.before_second t.pair.second_calls t.second t.order P Q (refusal_of b) (state_of b) e.state e.output p l meets' (λ x m px held. (h x px).second m held) e.second_then;
       }))
 
   pub goes_bind : {X Y : Type 0} {P : X → Type 0} {Q : Y → Type 0} {p : Part S X} {q : Part T X} {k : X → Part S Y} {l : X → Part T Y} → Goes t P p q → ((x : X) → P x → Goes t Q (k x) (l x)) → Goes t Q (bind p k) (bind q l)
   goes_bind {P = P} {Q = Q} {p = p} {q = q} {k = k} {l = l} g h = record {
-    first = λ m held. later_then t.pair.permits t.pair.before t.pair.first_calls t.first P Q m.world m.output (p m) k (g.first m held) (λ x n px held'. (h x px).first n held');
-    second = λ m held. later_then t.pair.permits t.pair.before_second t.pair.second_calls t.second P Q m.world m.output (q m) l (g.second m held) (λ x n px held'. (h x px).second n held');
+    first = λ m held. later_then t.pair.permits t.pair.before t.pair.first_calls t.first t.order P Q m (p m) k (g.first m held) (λ x n px held'. (h x px).first n held');
+    second = λ m held. later_then t.pair.permits t.pair.before_second t.pair.second_calls t.second t.order P Q m (q m) l (g.second m held) (λ x n px held'. (h x px).second n held');
     alike = λ m n same held. in_step_then P Q (p m) (q n) k l (g.first m held).meets (g.second n (held_too t.pair m n same held)).meets h (g.alike m n same held);
   }
 
@@ -111,32 +116,32 @@ module _ {S T : Type 0} {t : Track S T} where
     alike = λ m n same held. subst (λ o. InStep t.pair o (q' n)) (e m) (subst (λ o. InStep t.pair (p m) o) (f n) (g.alike m n same held));
   }
 
-  -- a part that sees and changes only the record state, the parameters and the local arrays
   -- parts that go together, with less said of what they give
   pub goes_weak : {X : Type 0} (P Q : X → Type 0) {p : Part S X} {q : Part T X} → ((x : X) → P x → Q x) → Goes t P p q → Goes t Q p q
   goes_weak P Q {p = p} {q = q} h g = record {
-    first = λ m held. let l = g.first m held in record { world = l.world; output = l.output; meets = meets_weak t.pair.permits P Q (EndsBy t.first) h (p m) l.meets };
-    second = λ n held. let l = g.second n held in record { world = l.world; output = l.output; meets = meets_weak t.pair.permits P Q (EndsBy t.second) h (q n) l.meets };
+    first = λ m held. let l = g.first m held in record { world = l.world; output = l.output; state = l.state; meets = meets_weak t.pair.permits P Q (EndsBy t.first) h (p m) l.meets };
+    second = λ n held. let l = g.second n held in record { world = l.world; output = l.output; state = l.state; meets = meets_weak t.pair.permits P Q (EndsBy t.second) h (q n) l.meets };
     alike = g.alike;
   }
 
-  pub goes_nearby : {X : Type 0} (P : X → Type 0) (f : Near → X × Near) → ((e : Near) → Held t e.frame → P (f e).0 × Held t (f e).1.frame) → Goes t P (λ m. nearby (f (near m)) m) (λ n. nearby (f (near n)) n)
+  -- a part that sees and changes only the record state, the parameters and the local arrays
+  pub goes_nearby : {X : Type 0} (P : X → Type 0) (f : Near → X × Near) → ((e : Near) → Held t e.frame → P (f e).0 × Held t (f e).1.frame × t.order.keeps e.state (f e).1.state) → Goes t P (λ m. nearby (f (near m)) m) (λ n. nearby (f (near n)) n)
   goes_nearby P f h = record {
-    first = λ m held. let k = h (near m) held in later_nearby t.pair.permits t.pair.before t.pair.first_calls t.first P (f (near m)) m k.0 k.1;
-    second = λ n held. let k = h (near n) held in later_nearby t.pair.permits t.pair.before_second t.pair.second_calls t.second P (f (near n)) n k.0 k.1;
+    first = λ m held. let k = h (near m) held in later_nearby t.pair.permits t.pair.before t.pair.first_calls t.first t.order P (f (near m)) m k.0 k.1 k.2;
+    second = λ n held. let k = h (near n) held in later_nearby t.pair.permits t.pair.before_second t.pair.second_calls t.second t.order P (f (near n)) n k.0 k.1 k.2;
     alike = λ m n same held. nearby_alike t.pair (f (near m)) (f (near n)) m n (ap f (near_alike t.pair.alike m n same)) same;
   }
 
   pub goes_give : {X : Type 0} (P : X → Type 0) (x : X) → P x → Goes t P (give x) (give x)
-  goes_give P x h = goes_nearby P (λ e. (x, e)) (λ e held. (h, held))
+  goes_give P x h = goes_nearby P (λ e. (x, e)) (λ e held. (h, held, t.order.here e.state))
 
   pub goes_plain : {X : Type 0} (x : X) → Goes t Any (give x) (give x)
   goes_plain x = goes_give Any x tt
 
   pub goes_halt : {X : Type 0} (P : X → Type 0) (h : Halt) → EndsBy t.first h → EndsBy t.second h → Goes t P (halt_with h) (halt_with h)
   goes_halt P h end end' = record {
-    first = λ m held. later_halt t.pair.permits t.pair.before t.pair.first_calls t.first P h end m;
-    second = λ n held. later_halt t.pair.permits t.pair.before_second t.pair.second_calls t.second P h end' n;
+    first = λ m held. later_halt t.pair.permits t.pair.before t.pair.first_calls t.first t.order P h end m;
+    second = λ n held. later_halt t.pair.permits t.pair.before_second t.pair.second_calls t.second t.order P h end' n;
     alike = λ m n same held. inl (refl, same.worlds, same.states, same.outputs);
   }
 
@@ -149,8 +154,8 @@ module _ {S T : Type 0} {t : Track S T} where
 
   pub goes_tick : Goes t Any tick tick
   goes_tick = record {
-    first = λ m held. later_tick t.pair.permits t.pair.before t.pair.first_calls t.first m.left m held;
-    second = λ n held. later_tick t.pair.permits t.pair.before_second t.pair.second_calls t.second n.left n held;
+    first = λ m held. later_tick t.pair.permits t.pair.before t.pair.first_calls t.first t.order m.left m held;
+    second = λ n held. later_tick t.pair.permits t.pair.before_second t.pair.second_calls t.second t.order n.left n held;
     alike = λ m n same held. subst (λ k. InStep t.pair (tick_at m.left m) (tick_at k n)) same.lefts (tick_alike t.pair m.left m n same);
   }
 
@@ -191,8 +196,8 @@ module _ {S T : Type 0} {t : Track S T} where
   -- a request to the world
   pub goes_ask : (q : Request) → t.pair.permits (access_of q) (resource_of q) → Goes t Any (λ m. ask (t.pair.first_calls.ask q m.world) m) (λ n. ask (t.pair.second_calls.ask q n.world) n)
   goes_ask q may = record {
-    first = λ m held. later_ask t.pair.permits t.pair.before t.pair.first_calls t.first (t.pair.first_calls.ask q m.world) m (t.first.ask q may m.world) (t.first.refuses q may m.world) held;
-    second = λ n held. later_ask t.pair.permits t.pair.before_second t.pair.second_calls t.second (t.pair.second_calls.ask q n.world) n (t.second.ask q may n.world) (t.second.refuses q may n.world) held;
+    first = λ m held. later_ask t.pair.permits t.pair.before t.pair.first_calls t.first t.order (t.pair.first_calls.ask q m.world) m (t.first.ask q may m.world) (t.first.refuses q may m.world) held;
+    second = λ n held. later_ask t.pair.permits t.pair.before_second t.pair.second_calls t.second t.order (t.pair.second_calls.ask q n.world) n (t.second.ask q may n.world) (t.second.refuses q may n.world) held;
     alike = λ m n same held. ⊎_elim
         (λ e. inl (same_ask t.pair (t.pair.first_calls.ask q m.world) (t.pair.second_calls.ask q n.world) m n same e))
         (λ e. inr (record {
@@ -204,8 +209,8 @@ module _ {S T : Type 0} {t : Track S T} where
           output = m.output;
           related = same.worlds;
           parts_there = e;
-          first_then = reaches_ask t.pair.permits t.pair.before t.pair.first_calls t.first (t.pair.first_calls.ask q m.world) m m.state m.output refl refl;
-          second_then = reaches_ask t.pair.permits t.pair.before_second t.pair.second_calls t.second (t.pair.second_calls.ask q n.world) n m.state m.output same.states same.outputs;
+          first_then = reaches_ask t.pair.permits t.pair.before t.pair.first_calls t.first t.order (t.pair.first_calls.ask q m.world) m m.state m.output refl refl;
+          second_then = reaches_ask t.pair.permits t.pair.before_second t.pair.second_calls t.second t.order (t.pair.second_calls.ask q n.world) n m.state m.output same.states same.outputs;
         }))
         (t.lockstep.ask q may m.world n.world same.worlds);
   }
@@ -231,5 +236,5 @@ module _ {S T : Type 0} {t : Track S T} where
 
   -- the record, or a fault
   pub goes_with_record : (r : Result Record Fault) → Goes t Any (with_record r) (with_record r)
-  goes_with_record (Ok r) = goes_nearby Any (λ e. (tt {0}, record e { state = record e.state { line = r } })) (λ e held. (tt, held))
+  goes_with_record (Ok r) = goes_nearby Any (λ e. (tt {0}, record e { state = record e.state { line = r } })) (λ e held. (tt, held, t.order.line e.state r))
   goes_with_record (Err f) = goes_fault Any f

@@ -1,12 +1,11 @@
 -- Expressions that ask what is permitted go in step.
-use Rattle.std.proofs.Common.{◌≡◌, ℕ, ℤ, pos, zero, suc, List, [], ◌∷◌, ◌++◌, Some, None, refl, subst, true, false, not, Result, Ok, length}
+use Rattle.std.proofs.Common.{◌≡◌, ℕ, ℤ, pos, zero, suc, List, [], ◌∷◌, ◌++◌, refl, subst, true, false, not, Result, Ok, length}
 use Rattle.std.specs.Prelude.{◌==◌, slice_set, is_some, int_le}
 use Rattle.pawk_value.specs.Fault.{Fault}
 use Rattle.pawk_value.specs.Value.{Val, Uninit, Num, Text, Maybe}
 use Rattle.pawk_value.specs.Conversion.{text_of}
 use Rattle.pawk_scalar.specs.declared.arithmetic.Op.{Op}
 use Rattle.pawk_record.specs.Records.{field_at, with_field, with_text}
-use Rattle.pawk_search.specs.Search as search
 use Rattle.pawk_array.specs.Entries.{found, put, without, keys}
 use Rattle.pawk_world.specs.Sums.{arith_by, op_of}
 use Rattle.pawk_world.specs.Worlds as world
@@ -23,15 +22,15 @@ use Rattle.pawk_code.specs.Expressions.{compare, both, either, negation, matches
 use Rattle.pawk_code.specs.Expressions.{formatted, Pattern, fixed_pattern, spelled_by, FieldsBy, by_fs, by_fixed, by_value, Format}
 use Rattle.pawk_code.specs.Expressions.{fixed_format, Argument, pass, pass_array, Arguments, no_arguments, more_arguments}
 use Rattle.pawk_code.specs.Expressions as code
-use Rattle.pawk_meaning.specs.Parts.{Hold, value, global_array, local_array, Outcome, gives, halts, Part, give, settle, then_do, bind, as_text, local_at}
+use Rattle.pawk_meaning.specs.Parts.{Hold, value, global_array, local_array, Outcome, gives, halts, Part, give, settle, then_do, bind, local_at}
 use Rattle.pawk_meaning.specs.Places.{Aim, parameter, cell, local_element, nowhere, array_at, element_of, variable_aim, index_by, table_at, read_in, field_value, read_at, old_at, write_at, change_at, add_at, holds_in, remove_in, clear_of, keys_of}
 use Rattle.pawk_meaning.specs.Places as places
 use Rattle.pawk_meaning.specs.Builtins.{within_limit, joined_by, index, bytes_where, is_from, letters_in, Replaced, replaced_by, found_by, fixed_at, pieces_by, pieces_between, sign_of, side_of, related, same_truth, formatted_text, decimal}
 use Rattle.pawk_meaning.specs.Meaning.{one_or_zero, both_of, place_of_match, leaf_value, key_of, pattern_of, fill_from, pieces_of, split_into, put_replaced, set_match, eval, number_of, function_of, truth_of, text_of_textual, joined_texts, suffixed, texts_of, values_of, arguments_of, argument_of, aim_of, operand_of, format_of, separator_of}
-use Rattle.pawk_meaning.specs.Lockstep.{Resource, variable_slot, array_slot, function_slot, Access, reads, olds, writes, changes, tests, removes, clears, walks, runs, IsHeld}
+use Rattle.pawk_meaning.specs.Lockstep.{Resource, variable_slot, array_slot, function_slot, last_match, Access, reads, olds, writes, changes, tests, removes, clears, walks, runs, IsHeld}
 use Rattle.pawk_meaning.specs.Allows.{scalar_access, LooksAt, TouchesArray, TouchesVariable, TouchesField, Touches, AllowsJoining, AllowsLeaf, Allows, AllowsEach, AllowsPlace, AllowsNumeric, AllowsFunction, AllowsTest, AllowsTextual, AllowsPattern, AllowsFieldsBy, AllowsFormat, AllowsArgument, AllowsArguments}
 use Rattle.pawk_meaning.proofs.Later.{Any, held_set, held_more, held_whole, Holding, holding_array}
-use Rattle.pawk_meaning.proofs.Going.{Track, Held, Goes, goes_bind, goes_as, goes_weak, goes_nearby, goes_give, goes_plain, goes_settle, goes_framed, goes_stated, goes_looked, goes_spelled, goes_ask, goes_as_number, goes_as_truth, goes_as_text, goes_dropped, goes_if, goes_decide, goes_with_record}
+use Rattle.pawk_meaning.proofs.Going.{Track, Held, Goes, goes_bind, goes_weak, goes_nearby, goes_give, goes_plain, goes_settle, goes_framed, goes_stated, goes_looked, goes_spelled, goes_ask, goes_as_number, goes_as_truth, goes_as_text, goes_dropped, goes_if, goes_decide, goes_with_record}
 
 module _ (permits : Access → Resource → Type 0) where
   -- an aim that may be touched so
@@ -71,11 +70,11 @@ module _ {S T : Type 0} {t : Track S T} where
   goes_field_value (suc n) v may = goes_spelled Any ofs_slot _ _ may.1 (λ ofs. goes_stated Any (λ s. places.with_record (with_field (suc n) v ofs s.line)) (λ s. places.with_record (with_field (suc n) v ofs s.line)) (λ s. goes_with_record (with_field (suc n) v ofs s.line)))
 
   pub goes_read_at : (aim : Aim) → Aims t.pair.permits reads aim → Goes t Any (read_at t.pair.first_calls aim) (read_at t.pair.second_calls aim)
-  goes_read_at (parameter i) may = goes_nearby Any (λ e. (local_at e.frame i, e)) (λ e held. (tt, held))
+  goes_read_at (parameter i) may = goes_nearby Any (λ e. (local_at e.frame i, e)) (λ e held. (tt, held, t.order.here e.state))
   goes_read_at (cell (world.scalar n)) may = goes_looked Any n give give may (λ v. goes_plain v)
   goes_read_at (cell (world.element n key)) may = goes_ask (world.read n key) may
-  goes_read_at (local_element n key) may = goes_nearby Any (λ e. let r = read_in key (table_at e.arrays n) in (r.0, record e { arrays = slice_set e.arrays n r.1 })) (λ e held. (tt, held))
-  goes_read_at (places.field n) may = goes_nearby Any (λ e. (field_at e.state.line n, e)) (λ e held. (tt, held))
+  goes_read_at (local_element n key) may = goes_nearby Any (λ e. let r = read_in key (table_at e.arrays n) in (r.0, record e { arrays = slice_set e.arrays n r.1 })) (λ e held. (tt, held, t.order.here e.state))
+  goes_read_at (places.field n) may = goes_nearby Any (λ e. (field_at e.state.line n, e)) (λ e held. (tt, held, t.order.here e.state))
   goes_read_at nowhere may = goes_plain Uninit
 
   pub goes_old_at : (aim : Aim) → Aims t.pair.permits olds aim → Goes t Any (old_at t.pair.first_calls aim) (old_at t.pair.second_calls aim)
@@ -87,10 +86,10 @@ module _ {S T : Type 0} {t : Track S T} where
   goes_old_at nowhere may = goes_read_at nowhere tt
 
   pub goes_write_at : (aim : Aim) (v : Val) → Aims t.pair.permits writes aim → Goes t Any (write_at t.pair.first_calls aim v) (write_at t.pair.second_calls aim v)
-  goes_write_at (parameter i) v may = goes_nearby Any (λ e. (tt {0}, record e { frame = slice_set e.frame i (value v) })) (λ e held. (tt, held_set t.pair.permits e.frame i v held))
+  goes_write_at (parameter i) v may = goes_nearby Any (λ e. (tt {0}, record e { frame = slice_set e.frame i (value v) })) (λ e held. (tt, held_set t.pair.permits e.frame i v held, t.order.here e.state))
   goes_write_at (cell (world.scalar n)) v may = goes_ask (world.write (world.scalar n) v) may
   goes_write_at (cell (world.element n key)) v may = goes_ask (world.write (world.element n key) v) may
-  goes_write_at (local_element n key) v may = goes_nearby Any (λ e. (tt {0}, record e { arrays = slice_set e.arrays n (put key v (table_at e.arrays n)) })) (λ e held. (tt, held))
+  goes_write_at (local_element n key) v may = goes_nearby Any (λ e. (tt {0}, record e { arrays = slice_set e.arrays n (put key v (table_at e.arrays n)) })) (λ e held. (tt, held, t.order.here e.state))
   goes_write_at (places.field n) v may = goes_field_value n v may
   goes_write_at nowhere v may = goes_plain (tt {0})
 
@@ -109,31 +108,31 @@ module _ {S T : Type 0} {t : Track S T} where
   pub goes_holds_in : (x : Hold) (key : List ℕ) → Holding t.pair.permits tests x → Goes t Any (holds_in t.pair.first_calls x key) (holds_in t.pair.second_calls x key)
   goes_holds_in (value v) key may = goes_plain false
   goes_holds_in (global_array n) key may = goes_ask (world.test n key) may
-  goes_holds_in (local_array n) key may = goes_nearby Any (λ e. (is_some (found key (table_at e.arrays n)), e)) (λ e held. (tt, held))
+  goes_holds_in (local_array n) key may = goes_nearby Any (λ e. (is_some (found key (table_at e.arrays n)), e)) (λ e held. (tt, held, t.order.here e.state))
 
   pub goes_remove_in : (x : Hold) (key : List ℕ) → Holding t.pair.permits removes x → Goes t Any (remove_in t.pair.first_calls x key) (remove_in t.pair.second_calls x key)
   goes_remove_in (value v) key may = goes_plain (tt {0})
   goes_remove_in (global_array n) key may = goes_ask (world.remove n key) may
-  goes_remove_in (local_array n) key may = goes_nearby Any (λ e. (tt {0}, record e { arrays = slice_set e.arrays n (without key (table_at e.arrays n)) })) (λ e held. (tt, held))
+  goes_remove_in (local_array n) key may = goes_nearby Any (λ e. (tt {0}, record e { arrays = slice_set e.arrays n (without key (table_at e.arrays n)) })) (λ e held. (tt, held, t.order.here e.state))
 
   pub goes_clear_of : (x : Hold) → Holding t.pair.permits clears x → Goes t Any (clear_of t.pair.first_calls x) (clear_of t.pair.second_calls x)
   goes_clear_of (value v) may = goes_plain (tt {0})
   goes_clear_of (global_array n) may = goes_ask (world.clear n) may
-  goes_clear_of (local_array n) may = goes_nearby Any (λ e. (tt {0}, record e { arrays = slice_set e.arrays n [] })) (λ e held. (tt, held))
+  goes_clear_of (local_array n) may = goes_nearby Any (λ e. (tt {0}, record e { arrays = slice_set e.arrays n [] })) (λ e held. (tt, held, t.order.here e.state))
 
   pub goes_keys_of : (x : Hold) → Holding t.pair.permits walks x → Goes t Any (keys_of t.pair.first_calls x) (keys_of t.pair.second_calls x)
   goes_keys_of (value v) may = goes_plain []
   goes_keys_of (global_array n) may = goes_ask (world.keys n) may
-  goes_keys_of (local_array n) may = goes_nearby Any (λ e. (keys (table_at e.arrays n), e)) (λ e held. (tt, held))
+  goes_keys_of (local_array n) may = goes_nearby Any (λ e. (keys (table_at e.arrays n), e)) (λ e held. (tt, held, t.order.here e.state))
 
 module _ {S T : Type 0} {t : Track S T} (eres : List (List ℕ)) where
   goes_leaf : (l : Leaf) → AllowsLeaf t.pair.permits l → Goes t Any (λ m. give (leaf_value t.pair.first_calls l m) m) (λ n. give (leaf_value t.pair.second_calls l n) n)
   goes_leaf (number z) may = goes_plain (Num z)
   goes_leaf (text s) may = goes_plain (Text s)
   goes_leaf (global n) may = goes_looked Any n give give may (λ v. goes_plain v)
-  goes_leaf (local i) may = goes_nearby Any (λ e. (local_at e.frame i, e)) (λ e held. (tt, held))
-  goes_leaf (code.special x) may = goes_nearby Any (λ e. (special_value x e.state, e)) (λ e held. (tt, held))
-  goes_leaf (code.field n) may = goes_nearby Any (λ e. (field_at e.state.line n, e)) (λ e held. (tt, held))
+  goes_leaf (local i) may = goes_nearby Any (λ e. (local_at e.frame i, e)) (λ e held. (tt, held, t.order.here e.state))
+  goes_leaf (code.special x) may = goes_nearby Any (λ e. (special_value x e.state, e)) (λ e held. (tt, held, t.order.here e.state))
+  goes_leaf (code.field n) may = goes_nearby Any (λ e. (field_at e.state.line n, e)) (λ e held. (tt, held, t.order.here e.state))
 
   goes_joining : (ks : List (List ℕ)) → LooksAt t.pair.permits subsep_slot → Goes t Any (key_of t.pair.first_calls ks) (key_of t.pair.second_calls ks)
   goes_joining [] may = goes_plain []
@@ -167,8 +166,8 @@ module _ {S T : Type 0} {t : Track S T} (eres : List (List ℕ)) where
   goes_put_replaced aim may r =
       goes_if (r.count == 0) (goes_plain (pos 0)) (goes_bind (goes_settle (within_limit r.text)) (λ s _. goes_bind (goes_write_at aim (Text s) may) (λ _ _. goes_plain (pos r.count))))
 
-  goes_set_match : (p : ℤ × ℤ) → Goes t Any (set_match p) (set_match p)
-  goes_set_match p = goes_nearby Any (λ e. (p.0, record e { state = record e.state { rstart = p.0; rlength = p.1 } })) (λ e held. (tt, held))
+  goes_set_match : t.pair.permits writes last_match → (p : ℤ × ℤ) → Goes t Any (set_match p) (set_match p)
+  goes_set_match may p = goes_nearby Any (λ e. (p.0, record e { state = record e.state { rstart = p.0; rlength = p.1 } })) (λ e held. (tt, held, t.order.match may e.state p.0 p.1))
 
   module _ (enter : ℕ → List Hold → Part S Val) (enter' : ℕ → List Hold → Part T Val) (entered_too : (f : ℕ) → t.pair.permits runs (function_slot f) → (values : List Hold) → Held t values → Goes t Any (enter f values) (enter' f values)) where
     pub goes_subscripts : (ks : Exprs) → AllowsJoining t.pair.permits ks → Goes t (OneEach ks []) (texts_of t.pair.first_calls eres enter ks []) (texts_of t.pair.second_calls eres enter' ks []) → Goes t Any (bind (texts_of t.pair.first_calls eres enter ks []) (key_of t.pair.first_calls)) (bind (texts_of t.pair.second_calls eres enter' ks []) (key_of t.pair.second_calls))
@@ -198,7 +197,7 @@ module _ {S T : Type 0} {t : Track S T} (eres : List (List ℕ)) where
           goes_bind (goes_settle (replaced_by c (pattern_of eres p u) r s)) (λ x _. goes_put_replaced aim (aims writes may.4) x)))))
       goes_number (find e p) may =
           goes_bind (goes_as_text [] (goes_eval e may.0)) (λ s _. goes_bind (goes_operand p may.1) (λ u _.
-          goes_bind (goes_settle (found_by (pattern_of eres p u) s)) (λ found _. goes_set_match (place_of_match found))))
+          goes_bind (goes_settle (found_by (pattern_of eres p u) s)) (λ found _. goes_set_match may.2 (place_of_match found))))
 
       goes_function : (f : NumericFunction) → AllowsFunction t.pair.permits f → Goes t Any (function_of t.pair.first_calls eres enter f) (function_of t.pair.second_calls eres enter' f)
       goes_function (length_of e) may = goes_bind (goes_as_text [] (goes_eval e may)) (λ s _. goes_plain (pos (length s)))
@@ -247,12 +246,12 @@ module _ {S T : Type 0} {t : Track S T} (eres : List (List ℕ)) where
 
       goes_argument : (a : Argument) → AllowsArgument t.pair.permits a → Goes t (IsHeld t.pair.permits) (argument_of t.pair.first_calls eres enter a) (argument_of t.pair.second_calls eres enter' a)
       goes_argument (pass e) may = goes_bind (goes_eval e may) (λ v _. goes_give (IsHeld t.pair.permits) (value v) tt)
-      goes_argument (pass_array a) may = goes_nearby (IsHeld t.pair.permits) (λ e. (array_at e.frame a, e)) (λ e held. (held_whole t.pair.permits e.frame a held may, held))
+      goes_argument (pass_array a) may = goes_nearby (IsHeld t.pair.permits) (λ e. (array_at e.frame a, e)) (λ e held. (held_whole t.pair.permits e.frame a held may, held, t.order.here e.state))
 
       pub goes_aim : (p : Place) → AllowsPlace t.pair.permits p → Goes t (AimOf t.pair.permits p) (aim_of t.pair.first_calls eres enter p) (aim_of t.pair.second_calls eres enter' p)
       goes_aim (to_global n) may = goes_give (AimOf t.pair.permits (to_global n)) (cell (world.scalar n)) (λ access h. h)
       goes_aim (to_local i) may = goes_give (AimOf t.pair.permits (to_local i)) (parameter i) (λ access h. tt)
-      goes_aim (to_element a ks) may = goes_bind (goes_subscripts ks may.1 (goes_texts ks may.0 [])) (λ key _. goes_nearby (AimOf t.pair.permits (to_element a ks)) (λ e. (element_of (array_at e.frame a) key, e)) (λ e held. (λ access h. aims_element t.pair.permits access (array_at e.frame a) key (holding_array t.pair.permits access e.frame a held h), held)))
+      goes_aim (to_element a ks) may = goes_bind (goes_subscripts ks may.1 (goes_texts ks may.0 [])) (λ key _. goes_nearby (AimOf t.pair.permits (to_element a ks)) (λ e. (element_of (array_at e.frame a) key, e)) (λ e held. (λ access h. aims_element t.pair.permits access (array_at e.frame a) key (holding_array t.pair.permits access e.frame a held h), held, t.order.here e.state)))
       goes_aim (to_field e) may = goes_bind (goes_as_number (goes_eval e may)) (λ x _. goes_bind (goes_settle (index_by x)) (λ n _. goes_give (AimOf t.pair.permits (to_field e)) (places.field n) (λ access h. h)))
 
       goes_operand : (p : Pattern) → AllowsPattern t.pair.permits p → Goes t Any (operand_of t.pair.first_calls eres enter p) (operand_of t.pair.second_calls eres enter' p)

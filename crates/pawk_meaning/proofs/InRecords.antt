@@ -7,7 +7,7 @@ use Rattle.pawk_record.specs.Records.{read}
 use Rattle.pawk_world.specs.Halts.{Halt}
 use Rattle.pawk_world.specs.Halts as halt
 use Rattle.pawk_world.specs.Worlds.{Calls}
-use Rattle.pawk_store.specs.RecordStates.{RecordState, is_paragraph}
+use Rattle.pawk_store.specs.RecordStates.{RecordState, is_paragraph, with_item}
 use Rattle.pawk_store.specs.Slots.{fs_slot}
 use Rattle.pawk_code.specs.Expressions.{Expr}
 use Rattle.pawk_code.specs.Statements.{Stmts}
@@ -16,23 +16,27 @@ use Rattle.pawk_input.specs.Input.{Item}
 use Rattle.pawk_meaning.specs.Limits.{greatest_calls}
 use Rattle.pawk_meaning.specs.Parts.{Moment, Outcome, gives, halts, Part, give}
 use Rattle.pawk_meaning.specs.Meaning.{call_at}
-use Rattle.pawk_meaning.specs.Records.{Left, through, next_file, exit, fault, clash, is_inside, End, end_of_halt, end_of, run_part, after_read, stays_inside, holds, does, reads, begins, in_range, selects, rules_from, one_record}
+use Rattle.pawk_meaning.specs.Records.{Left, through, next_file, exit, fault, clash, is_inside, End, end_of_halt, end_of, opening_moment, run_part, after_read, stays_inside, holds, does, reads, begins, in_range, selects, rules_from, one_record, actions}
 use Rattle.pawk_meaning.specs.Runs.{is_skipped, behind, records_from}
-use Rattle.pawk_meaning.specs.Lockstep.{Access, Resource, Pair, IsPrefix, refusal_of, state_of, world_of, output_of, Reaches, SameOutcome, InStep, GoesOn, EndsBy}
-use Rattle.pawk_meaning.specs.Allows.{LooksAt, Allows, AllowsStmts, AllowsFunctions, AllowsSelector, AllowsRules, AllowsMain}
+use Rattle.pawk_meaning.specs.Lockstep.{Access, writes, Resource, rule_ranges, Pair, IsPrefix, refusal_of, state_of, world_of, output_of, Reaches, SameOutcome, InStep, GoesOn, EndsBy}
+use Rattle.pawk_meaning.specs.Allows.{LooksAt, Allows, AllowsStmts, AllowsFunctions, AllowsSelector, AllowsRules, AllowsMain, AllowsActions}
 use Rattle.pawk_meaning.specs.Laws.{EndReaches, IsFinal, RefusalsAreFinal, LeftBy, SameEnd, EndsInStep}
-use Rattle.pawk_meaning.proofs.Later.{prefix_here, prefix_then, Any, Later}
+use Rattle.pawk_meaning.proofs.Later.{prefix_here, prefix_then, Any, Order, Later}
 use Rattle.pawk_meaning.proofs.Going.{Track, Goes, goes_bind, goes_nearby, goes_plain, goes_settle, goes_fault, goes_stated, goes_spelled, goes_as_truth, goes_if}
 use Rattle.pawk_meaning.proofs.InExpressions.{goes_eval}
 use Rattle.pawk_meaning.proofs.InStatements.{goes_call_at, goes_program}
 
+-- the order of record states goes on where a record is read
+abbrev pub KeepsItems : {S T : Type 0} → Track S T → Type 0
+KeepsItems t = (fs : List ℕ) (s : RecordState) (i : Item) → t.order.keeps s (with_item fs i s)
+
 module _ {S T : Type 0} {t : Track S T} where
-  goes_after_read : (f : Option Fault) → Goes t Any (after_read f) (after_read f)
+  pub goes_after_read : (f : Option Fault) → Goes t Any (after_read f) (after_read f)
   goes_after_read None = goes_plain (tt {0})
   goes_after_read (Some f) = goes_fault Any f
 
-  goes_stays : (n : ℕ) (inside : Bool) → Goes t Any (stays_inside n inside) (stays_inside n inside)
-  goes_stays n inside = goes_nearby Any (λ e. (true, record e { state = record e.state { ranges = slice_set e.state.ranges n inside } })) (λ e held. (tt, held))
+  goes_stays : t.pair.permits writes rule_ranges → (n : ℕ) (inside : Bool) → Goes t Any (stays_inside n inside) (stays_inside n inside)
+  goes_stays may n inside = goes_nearby Any (λ e. (true, record e { state = record e.state { ranges = slice_set e.state.ranges n inside } })) (λ e held. (tt, held, t.order.ranges may e.state (slice_set e.state.ranges n inside)))
 
   goes_if_at : {X : Type 0} {P : X → Type 0} (b : Bool) {p p' : Part S X} {q q' : Part T X} → Goes t P p q → Goes t P p' q' → Goes t P (λ m. if b then p m else p' m) (λ n. if b then q n else q' n)
   goes_if_at true g h = g
@@ -45,13 +49,13 @@ module _ {S T : Type 0} {t : Track S T} (eres : List (List ℕ)) (functions : Li
   goes_does : (body : Stmts) → AllowsStmts t.pair.permits body → Goes t Any (does t.pair.first_calls eres functions body) (does t.pair.second_calls eres functions body)
   goes_does body may' = goes_bind (goes_program eres functions body may may' greatest_calls) (λ _ _. goes_plain (tt {0}))
 
-  goes_reads : LooksAt t.pair.permits fs_slot → (i : Item) → Goes t Any (reads t.pair.first_calls eres functions i) (reads t.pair.second_calls eres functions i)
-  goes_reads may' i = goes_spelled Any fs_slot
+  goes_reads : LooksAt t.pair.permits fs_slot → KeepsItems t → (i : Item) → Goes t Any (reads t.pair.first_calls eres functions i) (reads t.pair.second_calls eres functions i)
+  goes_reads may' keeps i = goes_spelled Any fs_slot
       (λ fs m. let r = read fs (is_paragraph m.state) i.bytes in after_read r.1 (record m { state = record m.state { line = r.0; nr = suc m.state.nr; fnr = i.fnr; name = Maybe i.name } }))
       (λ fs m. let r = read fs (is_paragraph m.state) i.bytes in after_read r.1 (record m { state = record m.state { line = r.0; nr = suc m.state.nr; fnr = i.fnr; name = Maybe i.name } }))
       may'
       (λ fs. goes_bind
-      (goes_nearby Any (λ e. let r = read fs (is_paragraph e.state) i.bytes in (r.1, record e { state = record e.state { line = r.0; nr = suc e.state.nr; fnr = i.fnr; name = Maybe i.name } })) (λ e held. (tt, held)))
+      (goes_nearby Any (λ e. let r = read fs (is_paragraph e.state) i.bytes in (r.1, record e { state = record e.state { line = r.0; nr = suc e.state.nr; fnr = i.fnr; name = Maybe i.name } })) (λ e held. (tt, held, keeps fs e.state i)))
       (λ f _. goes_after_read f))
 
   goes_begins : (n : ℕ) (p : Expr) → Allows t.pair.permits p → Goes t Any (begins t.pair.first_calls eres functions n p) (begins t.pair.second_calls eres functions n p)
@@ -60,23 +64,27 @@ module _ {S T : Type 0} {t : Track S T} (eres : List (List ℕ)) (functions : Li
       (λ s m. if is_inside n s then give true m else holds t.pair.second_calls eres functions p m)
       (λ s. goes_if_at (is_inside n s) (goes_plain true) (goes_holds p may'))
 
-  goes_in_range : (n : ℕ) (q : Expr) → Allows t.pair.permits q → (b : Bool) → Goes t Any (in_range t.pair.first_calls eres functions n q b) (in_range t.pair.second_calls eres functions n q b)
-  goes_in_range n q may' true = goes_bind (goes_holds q may') (λ ends _. goes_stays n (not ends))
-  goes_in_range n q may' false = goes_plain false
+  goes_in_range : (n : ℕ) (q : Expr) → Allows t.pair.permits q → t.pair.permits writes rule_ranges → (b : Bool) → Goes t Any (in_range t.pair.first_calls eres functions n q b) (in_range t.pair.second_calls eres functions n q b)
+  goes_in_range n q may' may'' true = goes_bind (goes_holds q may') (λ ends _. goes_stays may'' n (not ends))
+  goes_in_range n q may' may'' false = goes_plain false
 
   goes_selects : (n : ℕ) (s : Selector) → AllowsSelector t.pair.permits s → Goes t Any (selects t.pair.first_calls eres functions n s) (selects t.pair.second_calls eres functions n s)
   goes_selects n always may' = goes_plain true
   goes_selects n (matching e) may' = goes_holds e may'
-  goes_selects n (between p q) may' = goes_bind (goes_begins n p may'.0) (λ b _. goes_in_range n q may'.1 b)
+  goes_selects n (between p q) may' = goes_bind (goes_begins n p may'.0) (λ b _. goes_in_range n q may'.1 may'.2 b)
 
-  goes_rules : (n : ℕ) (rules : List Rule) → AllowsRules t.pair.permits rules → Goes t Any (rules_from t.pair.first_calls eres functions n rules) (rules_from t.pair.second_calls eres functions n rules)
+  pub goes_rules : (n : ℕ) (rules : List Rule) → AllowsRules t.pair.permits rules → Goes t Any (rules_from t.pair.first_calls eres functions n rules) (rules_from t.pair.second_calls eres functions n rules)
   goes_rules n [] may' = goes_plain (tt {0})
   goes_rules n (r ∷ rs) may' =
       goes_bind (goes_bind (goes_selects n r.selector may'.0) (λ h _. goes_if h (goes_does r.body may'.1) (goes_plain (tt {0})))) (λ _ _. goes_rules (suc n) rs may'.2)
 
+  pub goes_actions : (bodies : List Stmts) → AllowsActions t.pair.permits bodies → Goes t Any (actions t.pair.first_calls eres functions bodies) (actions t.pair.second_calls eres functions bodies)
+  goes_actions [] may' = goes_plain (tt {0})
+  goes_actions (a ∷ rest) may' = goes_bind (goes_does a may'.0) (λ _ _. goes_actions rest may'.1)
+
 module _ {S T : Type 0} {t : Track S T} (eres : List (List ℕ)) (functions : List Function) (rules : List Rule) (may : AllowsMain t.pair.permits functions rules) where
-  pub goes_record : (i : Item) → Goes t Any (one_record t.pair.first_calls eres functions rules i) (one_record t.pair.second_calls eres functions rules i)
-  goes_record i = goes_bind (goes_reads eres functions may.1 may.0 i) (λ _ _. goes_rules eres functions may.1 0 rules may.2)
+  pub goes_record : KeepsItems t → (i : Item) → Goes t Any (one_record t.pair.first_calls eres functions rules i) (one_record t.pair.second_calls eres functions rules i)
+  goes_record keeps i = goes_bind (goes_reads eres functions may.1 may.0 keeps i) (λ _ _. goes_rules eres functions may.1 0 rules may.2)
 
 -- ---- the end of a part
 
@@ -95,12 +103,12 @@ halt_left : {S : Type 0} (ends : Halt → Type 0) (h : Halt) (s : S) (state : Re
 halt_left ends (halt.fault f) s state out h = h
 halt_left ends halt.clash s state out h = h
 halt_left ends halt.next s state out h = tt
-halt_left ends halt.next_file s state out h = tt
+halt_left ends halt.next_file s state out h = h
 halt_left ends (halt.exit n) s state out h = h
 
-end_left : {S X : Type 0} (permits : Access → Resource → Type 0) (ends : Halt → Type 0) (before : S → S → Type 0) (P : X → Type 0) (s : S) (out : List ℕ) (o : Outcome S X) → Later permits ends before P s out o → LeftBy ends (end_of o).left
-end_left permits ends before P s out (gives x m) l = tt
-end_left permits ends before P s out (halts i q state out') l = halt_left ends i q state out' l.meets
+end_left : {S X : Type 0} (permits : Access → Resource → Type 0) (ends : Halt → Type 0) (before : S → S → Type 0) (order : Order permits) (P : X → Type 0) (m : Moment S) (o : Outcome S X) → Later permits ends before order P m o → LeftBy ends (end_of o).left
+end_left permits ends before order P m (gives x n) l = tt
+end_left permits ends before order P m (halts i q state out') l = halt_left ends i q state out' l.meets
 
 reaches_end : {S X : Type 0} (before : S → S → Type 0) (r : Option (Halt × S)) (s : S) (state : RecordState) (out : List ℕ) (o : Outcome S X) → Reaches before r s state out o → EndReaches before r s state out (end_of o)
 reaches_end before (Some r) s state out o e = ap end_of e
@@ -109,13 +117,13 @@ reaches_end before None s state out o e = end_onto before s out o e
 -- ---- one world
 
 module _ {S : Type 0} (permits : Access → Resource → Type 0) (before : S → S → Type 0) (calls : Calls S) (on : GoesOn permits before calls) where
-  abbrev Onto : End S → End S → Type 0
+  abbrev pub Onto : End S → End S → Type 0
   Onto e f = before e.world f.world × IsPrefix e.output f.output
 
-  onto_here : (e : End S) → Onto e e
+  pub onto_here : (e : End S) → Onto e e
   onto_here e = (on.here e.world, prefix_here e.output)
 
-  onto_then : (e f g : End S) → Onto e f → Onto f g → Onto e g
+  pub onto_then : (e f g : End S) → Onto e f → Onto f g → Onto e g
   onto_then e f g h k = (on.then e.world f.world g.world h.0 k.0, prefix_then e.output f.output g.output h.1 k.1)
 
   onto_if : (b : Bool) (e f g : End S) → Onto e f → Onto e g → Onto e (if b then f else g)
@@ -159,7 +167,7 @@ module _ {S : Type 0} (permits : Access → Resource → Type 0) (before : S →
     record_end i e = run_part (one_record calls eres code.functions code.rules i) budget e.world e.state e.output
 
     module _ (goes : (i : Item) (e : End S) → Onto e (record_end i e) × LeftBy (EndsBy on) (record_end i e).left) where
-      records_onto : (items : List Item) (skip : Option ℕ) (e : End S) → Onto e (records_from calls eres code budget skip e items)
+      pub records_onto : (items : List Item) (skip : Option ℕ) (e : End S) → Onto e (records_from calls eres code budget skip e items)
       records_onto [] skip e = onto_here e
       records_onto (i ∷ is') skip e =
           let r = record_end i e in
@@ -168,7 +176,7 @@ module _ {S : Type 0} (permits : Access → Resource → Type 0) (before : S →
           (records_onto is' skip e)
           (onto_then e r (behind go i.file r.left r) (goes i e).0 (behind_onto go i.file r.left r (λ s. records_onto is' s r)))
 
-      records_left : (items : List Item) (skip : Option ℕ) (e : End S) → LeftBy (EndsBy on) e.left → LeftBy (EndsBy on) (records_from calls eres code budget skip e items).left
+      pub records_left : (items : List Item) (skip : Option ℕ) (e : End S) → LeftBy (EndsBy on) e.left → LeftBy (EndsBy on) (records_from calls eres code budget skip e items).left
       records_left [] skip e h = h
       records_left (i ∷ is') skip e h =
           let r = record_end i e in
@@ -221,35 +229,44 @@ module _ {S T : Type 0} (w : Pair S T) where
   same_behind go go' file (fault x) e f same h = inl same
   same_behind go go' file clash e f same h = inl same
 
-module _ {S T : Type 0} (t : Track S T) (final : RefusalsAreFinal t.pair.first_calls) (final' : RefusalsAreFinal t.pair.second_calls) (eres : List (List ℕ)) (code : Code) (may : AllowsMain t.pair.permits code.functions code.rules) (budget : ℕ) where
+-- a part from an end of what came before
+module _ {S T : Type 0} {t : Track S T} (budget : ℕ) {X : Type 0} {P : X → Type 0} {p : Part S X} {q : Part T X} (goes : Goes t P p q) where
+  abbrev opening_of : {Q : Type 0} → End Q → Moment Q
+  opening_of e = opening_moment budget e.world e.state e.output
+
+  pub first_part : (e : End S) → Onto t.pair.permits t.pair.before t.pair.first_calls t.first e (run_part p budget e.world e.state e.output) × LeftBy (EndsBy t.first) (run_part p budget e.world e.state e.output).left
+  first_part e =
+      let l = goes.first (opening_of e) tt in
+      let o = p (opening_of e) in
+      (end_onto t.pair.before e.world e.output o (l.world, l.output), end_left t.pair.permits (EndsBy t.first) t.pair.before t.order P (opening_of e) o l)
+
+  pub second_part : (f : End T) → Onto t.pair.permits t.pair.before_second t.pair.second_calls t.second f (run_part q budget f.world f.state f.output) × LeftBy (EndsBy t.second) (run_part q budget f.world f.state f.output).left
+  second_part f =
+      let l = goes.second (opening_of f) tt in
+      let o = q (opening_of f) in
+      (end_onto t.pair.before_second f.world f.output o (l.world, l.output), end_left t.pair.permits (EndsBy t.second) t.pair.before_second t.order P (opening_of f) o l)
+
+  pub part_in_step : (e : End S) (f : End T) → SameEnd t.pair e f → EndsInStep t.pair (run_part p budget e.world e.state e.output) (run_part q budget f.world f.state f.output)
+  part_in_step e f same =
+      in_step_ends t.pair (p (opening_of e)) (q (opening_of f))
+      (goes.alike (opening_of e) (opening_of f)
+      (record { worlds = same.worlds; states = same.states; frames = refl; arrays = refl; outputs = same.outputs; lefts = refl }) tt)
+
+module _ {S T : Type 0} (t : Track S T) (keeps : KeepsItems t) (final : RefusalsAreFinal t.pair.first_calls) (final' : RefusalsAreFinal t.pair.second_calls) (eres : List (List ℕ)) (code : Code) (may : AllowsMain t.pair.permits code.functions code.rules) (budget : ℕ) where
   abbrev first_record_end : Item → End S → End S
   first_record_end i e = record_end t.pair.permits t.pair.before t.pair.first_calls t.first eres code budget i e
 
   abbrev second_record_end : Item → End T → End T
   second_record_end i f = record_end t.pair.permits t.pair.before_second t.pair.second_calls t.second eres code budget i f
 
-  abbrev moment_of : {Q : Type 0} → End Q → Moment Q
-  moment_of e = record { world = e.world; state = e.state; frame = []; arrays = []; output = e.output; left = budget }
-
   first_goes : (i : Item) (e : End S) → Onto t.pair.permits t.pair.before t.pair.first_calls t.first e (first_record_end i e) × LeftBy (EndsBy t.first) (first_record_end i e).left
-  first_goes i e =
-      let l = (goes_record {t = t} eres code.functions code.rules may i).first (moment_of e) tt in
-      let o = one_record t.pair.first_calls eres code.functions code.rules i (moment_of e) in
-      (end_onto t.pair.before e.world e.output o (l.world, l.output), end_left t.pair.permits (EndsBy t.first) t.pair.before Any e.world e.output o l)
+  first_goes i e = first_part budget (goes_record {t = t} eres code.functions code.rules may keeps i) e
 
   second_goes : (i : Item) (f : End T) → Onto t.pair.permits t.pair.before_second t.pair.second_calls t.second f (second_record_end i f) × LeftBy (EndsBy t.second) (second_record_end i f).left
-  second_goes i f =
-      let l = (goes_record {t = t} eres code.functions code.rules may i).second (moment_of f) tt in
-      let o = one_record t.pair.second_calls eres code.functions code.rules i (moment_of f) in
-      (end_onto t.pair.before_second f.world f.output o (l.world, l.output), end_left t.pair.permits (EndsBy t.second) t.pair.before_second Any f.world f.output o l)
+  second_goes i f = second_part budget (goes_record {t = t} eres code.functions code.rules may keeps i) f
 
   record_in_step : (i : Item) (e : End S) (f : End T) → SameEnd t.pair e f → EndsInStep t.pair (first_record_end i e) (second_record_end i f)
-  record_in_step i e f same =
-      in_step_ends t.pair
-      (one_record t.pair.first_calls eres code.functions code.rules i (moment_of e))
-      (one_record t.pair.second_calls eres code.functions code.rules i (moment_of f))
-      ((goes_record {t = t} eres code.functions code.rules may i).alike (moment_of e) (moment_of f)
-      (record { worlds = same.worlds; states = same.states; frames = refl; arrays = refl; outputs = same.outputs; lefts = refl }) tt)
+  record_in_step i e f same = part_in_step budget (goes_record {t = t} eres code.functions code.rules may keeps i) e f same
 
   -- how both go on behind a record
   behind_in_step : (go : Option ℕ → End S → End S) (go' : Option ℕ → End T → End T) (file : ℕ) (e : End S) (f : End T) → ((skip : Option ℕ) → Onto t.pair.permits t.pair.before t.pair.first_calls t.first e (go skip e)) → ((skip : Option ℕ) → Onto t.pair.permits t.pair.before_second t.pair.second_calls t.second f (go' skip f)) → ((skip : Option ℕ) → SameEnd t.pair e f → EndsInStep t.pair (go skip e) (go' skip f)) → EndsInStep t.pair e f → EndsInStep t.pair (behind go file e.left e) (behind go' file f.left f)

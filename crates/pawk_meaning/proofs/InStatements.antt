@@ -4,6 +4,7 @@ use Rattle.std.specs.Prelude.{slice_get, MatchOption}
 use Rattle.pawk_value.specs.Fault.{Fault}
 use Rattle.pawk_value.specs.Fault.TheVariants as fault
 use Rattle.pawk_value.specs.Value.{Val, Uninit, Text}
+use Rattle.pawk_world.specs.Halts.{Halt}
 use Rattle.pawk_world.specs.Halts as halt
 use Rattle.pawk_store.specs.Slots.{ofs_slot, ors_slot}
 use Rattle.pawk_code.specs.declared.name.Array.{Array}
@@ -15,13 +16,13 @@ use Rattle.pawk_code.specs.Statements.{next_file, exit, return, Stmt, simple, le
 use Rattle.pawk_code.specs.Statements.{Stmts, done, next}
 use Rattle.pawk_code.specs.Statements as code
 use Rattle.pawk_code.specs.Programs.{Function}
-use Rattle.pawk_meaning.specs.Parts.{Hold, Moment, gives, Part, halt_with, entry_of}
+use Rattle.pawk_meaning.specs.Parts.{Hold, Moment, Outcome, gives, Part, halt_with, then_do, entry_of}
 use Rattle.pawk_meaning.specs.Places.{Aim, array_at, text_at, variable_aim, remove_in, clear_of, keys_of}
 use Rattle.pawk_meaning.specs.Builtins.{joined_by, sign_of, formatted_text}
 use Rattle.pawk_meaning.specs.Meaning.{Way, on, by_break, by_continue, by_return, value_of_way, left_by, status_by, and_then, after_left, after_turn, turns, while_loop, print_text, eval, act, leaves, act_or_none, test_or_true, visit_keys, for_keys, exec, execs, run_function, run_function_at, call_at}
-use Rattle.pawk_meaning.specs.Lockstep.{Resource, function_slot, Access, writes, changes, removes, clears, walks, runs, AllHeld}
+use Rattle.pawk_meaning.specs.Lockstep.{Resource, function_slot, Access, writes, changes, removes, clears, walks, runs, AllHeld, EndsBy}
 use Rattle.pawk_meaning.specs.Allows.{TouchesArray, TouchesVariable, Allows, AllowsSimple, AllowsLeave, AllowsSimpleIfAny, AllowsIfAny, AllowsStmt, AllowsStmts, AllowsBody, AllowsFunctions}
-use Rattle.pawk_meaning.proofs.Later.{prefix_here, Any, held_extended, holding_array, later_then}
+use Rattle.pawk_meaning.proofs.Later.{prefix_here, Any, Order, held_extended, holding_array, Later, later_then}
 use Rattle.pawk_meaning.proofs.Going.{Track, Held, Goes, held_too, in_step_then, goes_bind, goes_plain, goes_halt, goes_fault, goes_settle, goes_tick, goes_framed, goes_stated, goes_left, goes_spelled, goes_as_number, goes_as_truth, goes_dropped, goes_if, goes_decide}
 use Rattle.pawk_meaning.proofs.InExpressions.{Aims, aims_variable, goes_write_at, goes_add_at, goes_remove_in, goes_clear_of, goes_keys_of, goes_subscripts, goes_eval, goes_texts, goes_values, goes_aim, goes_format}
 
@@ -54,8 +55,8 @@ module _ {S T : Type 0} {t : Track S T} where
 module _ {S T : Type 0} {t : Track S T} (eres : List (List ℕ)) where
   goes_print_text : (s : List ℕ) → Goes t Any (print_text s) (print_text s)
   goes_print_text s = record {
-    first = λ m held. record { world = t.first.here m.world; output = (s, refl); meets = (tt, held) };
-    second = λ n held. record { world = t.second.here n.world; output = (s, refl); meets = (tt, held) };
+    first = λ m held. record { world = t.first.here m.world; output = (s, refl); state = t.order.here m.state; meets = (tt, held) };
+    second = λ n held. record { world = t.second.here n.world; output = (s, refl); state = t.order.here n.state; meets = (tt, held) };
     alike = λ m n same held. inl (refl, record { worlds = same.worlds; states = same.states; frames = same.frames; arrays = same.arrays; outputs = ap (λ o. o ++ s) same.outputs; lefts = same.lefts });
   }
 
@@ -82,7 +83,7 @@ module _ {S T : Type 0} {t : Track S T} (eres : List (List ℕ)) where
     goes_leaves break may = goes_plain by_break
     goes_leaves continue may = goes_plain by_continue
     goes_leaves next_record may = goes_halt Any halt.next t.first.at_next t.second.at_next
-    goes_leaves next_file may = goes_halt Any halt.next_file t.first.at_next_file t.second.at_next_file
+    goes_leaves next_file may = goes_halt Any halt.next_file (t.first.at_next_file may) (t.second.at_next_file may)
     goes_leaves (exit None) may = goes_stated Any (λ s. halt_with (halt.exit s.status)) (λ s. halt_with (halt.exit s.status)) (λ s. goes_exit s.status)
     goes_leaves (exit (Some e)) may = goes_bind (goes_as_number (evals e may)) (λ x _. goes_bind (goes_settle (status_by x)) (λ n _. goes_exit n))
     goes_leaves (return None) may = goes_plain (by_return Uninit)
@@ -128,6 +129,9 @@ inside kinds values m = let e = entry_of kinds values m.arrays in record m { fra
 abbrev back : {Q : Type 0} → Moment Q → Way → Part Q Val
 back m way after = gives (value_of_way way) (record after { frame = m.frame; arrays = take (length m.arrays) after.arrays })
 
+later_outside : {Q X : Type 0} (permits : Access → Resource → Type 0) (ends : Halt → Type 0) (before : Q → Q → Type 0) (order : Order permits) (P : X → Type 0) (kinds : List Kind) (values : List Hold) (m : Moment Q) (o : Outcome Q X) → Later permits ends before order P (inside kinds values m) o → Later permits ends before order P m o
+later_outside permits ends before order P kinds values m o l = record { world = l.world; output = l.output; state = l.state; meets = l.meets }
+
 held_inside : {Q : Type 0} (permits : Access → Resource → Type 0) (kinds : List Kind) (values : List Hold) (m : Moment Q) → AllHeld permits values → AllHeld permits (inside kinds values m).frame
 held_inside permits kinds values m held = held_extended permits (drop (length values) kinds) (record { frame = values; arrays = m.arrays }) held
 
@@ -139,16 +143,16 @@ module _ {S T : Type 0} {t : Track S T} where
   -- the caller's parameters and local arrays are put back
   goes_back : (f f' : List Hold) (k k' : ℕ) → f ≡ f' → k ≡ k' → Held t f → Held t f' → (v : Val) → Goes t Any (λ after. gives v (record after { frame = f; arrays = take k after.arrays })) (λ after. gives v (record after { frame = f'; arrays = take k' after.arrays }))
   goes_back f f' k k' e d held held' v = record {
-    first = λ m _. record { world = t.first.here m.world; output = prefix_here m.output; meets = (tt, held) };
-    second = λ n _. record { world = t.second.here n.world; output = prefix_here n.output; meets = (tt, held') };
+    first = λ m _. record { world = t.first.here m.world; output = prefix_here m.output; state = t.order.here m.state; meets = (tt, held) };
+    second = λ n _. record { world = t.second.here n.world; output = prefix_here n.output; state = t.order.here n.state; meets = (tt, held') };
     alike = λ m n same _. inl (refl, record { worlds = same.worlds; states = same.states; frames = e; arrays = ap (λ j. take j m.arrays) d ∙ ap (take k') same.arrays; outputs = same.outputs; lefts = same.lefts });
   }
 
 module _ {S T : Type 0} {t : Track S T} (eres : List (List ℕ)) where
   goes_called : (kinds : List Kind) (values : List Hold) → Held t values → {body : Part S Way} {body' : Part T Way} → Goes t Any body body' → Goes t Any (run_function t.pair.first_calls eres kinds body values) (run_function t.pair.second_calls eres kinds body' values)
   goes_called kinds values held {body = body} {body' = body'} h = record {
-    first = λ m mine. later_then t.pair.permits t.pair.before t.pair.first_calls t.first Any Any m.world m.output (body (inside kinds values m)) (back m) (h.first (inside kinds values m) (held_inside t.pair.permits kinds values m held)) (λ way n _ _. record { world = t.first.here n.world; output = prefix_here n.output; meets = (tt, mine) });
-    second = λ m mine. later_then t.pair.permits t.pair.before_second t.pair.second_calls t.second Any Any m.world m.output (body' (inside kinds values m)) (back m) (h.second (inside kinds values m) (held_inside t.pair.permits kinds values m held)) (λ way n _ _. record { world = t.second.here n.world; output = prefix_here n.output; meets = (tt, mine) });
+    first = λ m mine. later_outside t.pair.permits (EndsBy t.first) t.pair.before t.order Any kinds values m (then_do (body (inside kinds values m)) (back m)) (later_then t.pair.permits t.pair.before t.pair.first_calls t.first t.order Any Any (inside kinds values m) (body (inside kinds values m)) (back m) (h.first (inside kinds values m) (held_inside t.pair.permits kinds values m held)) (λ way n _ _. record { world = t.first.here n.world; output = prefix_here n.output; state = t.order.here n.state; meets = (tt, mine) }));
+    second = λ m mine. later_outside t.pair.permits (EndsBy t.second) t.pair.before_second t.order Any kinds values m (then_do (body' (inside kinds values m)) (back m)) (later_then t.pair.permits t.pair.before_second t.pair.second_calls t.second t.order Any Any (inside kinds values m) (body' (inside kinds values m)) (back m) (h.second (inside kinds values m) (held_inside t.pair.permits kinds values m held)) (λ way n _ _. record { world = t.second.here n.world; output = prefix_here n.output; state = t.order.here n.state; meets = (tt, mine) }));
     alike = λ m n same mine. in_step_then {t = t} Any Any
         (body (inside kinds values m))
         (body' (inside kinds values n))

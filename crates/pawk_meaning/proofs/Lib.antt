@@ -3,3 +3,5 @@ pub mod Going
 pub mod InExpressions
 pub mod InStatements
 pub mod InRecords
+pub mod InRuns
+pub mod Alone

@@ -1,7 +1,7 @@
 -- What the text of a program may do to the resources. A place is touched where it is read or changed, which its subscripts
 -- or its index do not say.
 use Rattle.std.specs.Prelude.{ℕ, List, [], ◌∷◌, Option, Some, None, slice_get}
-use Rattle.pawk_store.specs.Slots.{fs_slot, ofs_slot, ors_slot, subsep_slot}
+use Rattle.pawk_store.specs.Slots.{fs_slot, ofs_slot, ors_slot, rs_slot, subsep_slot}
 use Rattle.pawk_code.specs.declared.name.Array.{Array}
 use Rattle.pawk_code.specs.declared.name.Array.TheVariants as array
 use Rattle.pawk_code.specs.declared.name.Variable.{Variable}
@@ -15,7 +15,7 @@ use Rattle.pawk_code.specs.Expressions.{fixed_format, format_of, Argument, pass,
 use Rattle.pawk_code.specs.Statements.{Simple, drop, set, add, count, print, printf, delete, clear, Leave, break, continue, next_record}
 use Rattle.pawk_code.specs.Statements.{next_file, exit, return, Head, Stmt, simple, leave, when, choose, repeat, do_while, loop, walk}
 use Rattle.pawk_code.specs.Statements.{Stmts, done, next}
-use Rattle.pawk_code.specs.Programs.{Selector, always, matching, between, Rule, Function}
+use Rattle.pawk_code.specs.Programs.{Selector, always, matching, between, Rule, Function, Code}
 use Rattle.pawk_meaning.specs.Builtins.{sign_of}
 use Rattle.pawk_meaning.specs.Lockstep.{Resource, variable_slot, array_slot, function_slot, last_match, rule_ranges, rest_of_file, Access}
 use Rattle.pawk_meaning.specs.Lockstep.{looks, reads, olds, writes, changes, tests, removes, clears, walks, runs}
@@ -224,3 +224,13 @@ module _ (permits : Access → Resource → Type 0) where
   -- the main rules and the functions that may be called; a record that is read looks at FS
   abbrev pub AllowsMain : List Function → List Rule → Type 0
   AllowsMain functions rules = LooksAt fs_slot × AllowsFunctions functions × AllowsRules rules
+
+  -- actions of BEGIN or of END
+  abbrev pub AllowsActions : List Stmts → Type 0
+  AllowsActions [] = Unit {0}
+  AllowsActions (a ∷ rest) = AllowsStmts a × AllowsActions rest
+
+  -- the whole text; RS is looked at behind BEGIN
+  abbrev pub AllowsCode : Code → Type 0
+  AllowsCode code =
+      AllowsActions code.begins × LooksAt rs_slot × AllowsMain code.functions code.rules × AllowsActions code.ends

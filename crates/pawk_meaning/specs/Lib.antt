@@ -8,3 +8,4 @@ pub mod Runs
 pub mod Lockstep
 pub mod Allows
 pub mod Laws
+pub mod Steady

@@ -106,6 +106,10 @@ module _ {S X : Type 0} where
   output_of (gives x m) = m.output
   output_of (halts h s state out) = out
 
+  abbrev pub record_state_of : Outcome S X → RecordState
+  record_state_of (gives x m) = m.state
+  record_state_of (halts h s state out) = state
+
 -- where one run is after a request that may have been refused: halted there, or somewhere later
 abbrev pub Reaches :
     {S X : Type 0} → (S → S → Type 0) → Option (Halt × S) → S → RecordState → List ℕ → Outcome S X → Type 0
@@ -170,7 +174,7 @@ RefusesIn ends None = Unit {0}
 RefusesIn ends (Some r) = ends r.0
 
 -- The order of states is one, and each permitted call goes on in it. `ends` is how runs over this world may halt: by each
--- fault, `next`, `nextfile` and `exit`, and as permitted calls refuse.
+-- fault, `next` and `exit`, by `nextfile` where it is permitted, and as permitted calls refuse.
 pub record GoesOn {S : Type 0} (permits : Access → Resource → Type 0) (before : S → S → Type 0) (calls : Calls S) : Type 0 where
   pub here : (s : S) → before s s
   pub then : (s t u : S) → before s t → before t u → before s u
@@ -178,7 +182,7 @@ pub record GoesOn {S : Type 0} (permits : Access → Resource → Type 0) (befor
   pub ends : Halt → Bool
   pub at_fault : (f : Fault) → ends (halt.fault f) ≡ true
   pub at_next : ends halt.next ≡ true
-  pub at_next_file : ends halt.next_file ≡ true
+  pub at_next_file : permits clears rest_of_file → ends halt.next_file ≡ true
   pub at_exit : (n : ℕ) → ends (halt.exit n) ≡ true
   pub refuses : (q : Request) → permits (access_of q) (resource_of q) → (s : S) →
       RefusesIn (λ h. ends h ≡ true) (refusal_of (calls.ask q s))

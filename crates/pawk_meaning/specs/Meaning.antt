@@ -6,7 +6,6 @@ use Rattle.std.specs.Prelude.{is_some, int_le}
 use Rattle.pawk_value.specs.Fault.{Fault}
 use Rattle.pawk_value.specs.Fault.TheVariants as fault
 use Rattle.pawk_value.specs.Value.{Val, Uninit, Num, Text, Maybe}
-use Rattle.pawk_value.specs.Conversion.{text_of}
 use Rattle.pawk_pattern.specs.Pattern.{Pattern as Regular}
 use Rattle.pawk_record.specs.Records.{field_at}
 use Rattle.pawk_world.specs.Halts as halt

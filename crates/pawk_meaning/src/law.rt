@@ -1,7 +1,9 @@
-// The lockstep law.
+// The laws over whole runs: of two worlds in lockstep, and of one.
 
-ghost use Rattle.pawk_meaning.specs.Lockstep.{Pair};
-ghost use Rattle.pawk_meaning.specs.Laws.{StatementsLaw, RecordLaw, RecordsLaw};
+ghost use Rattle.pawk_world.specs.Worlds.{Calls};
+ghost use Rattle.pawk_meaning.specs.Lockstep.{Access, Resource, Pair};
+ghost use Rattle.pawk_meaning.specs.Laws.{StatementsLaw, RecordLaw, ActionsLaw, RecordsLaw, RunLaw};
+ghost use Rattle.pawk_meaning.specs.Steady.{RecordKeepsLaw, RecordsKeepLaw, RecordsFollowLaw, ReadsAnewLaw};
 
 /// Two worlds for each setting, as their definitions have them: the meaning of each one's calls, a
 /// relation of their states, an order of each one's states in which its calls go on, what a program
@@ -37,4 +39,56 @@ pub fn lockstep_record<P: Pairing>()
 /// The same for a list of records, and how the run over each world may be left.
 pub fn lockstep_records<P: Pairing>()
     ensures { (i : P.Setting) → RecordsLaw (P.pair i) }
+{}
+
+/// The same for the actions of BEGIN or of END, one after the other.
+pub fn lockstep_actions<P: Pairing>()
+    ensures { (i : P.Setting) → ActionsLaw (P.pair i) }
+{}
+
+/// The same for a whole run: BEGIN, the records of files by RS as it is then, and END; and how the run
+/// over each world may end (POSIX.1-2017, awk, "Overall Program Structure").
+pub fn lockstep_run<P: Pairing>()
+    ensures { (i : P.Setting) → RunLaw (P.pair i) }
+{}
+
+/// One world for each setting, as its definitions have it, and what a program may do there to which
+/// resource.
+pub trait Policy {
+    ghost use Rattle.pawk_world.specs.Worlds.{Calls};
+    ghost use Rattle.pawk_meaning.specs.Lockstep.{Access, Resource};
+
+    /// What the rest depends on.
+    ghost Setting: { Type 0 };
+
+    /// The states of the world.
+    ghost State: { Type 0 };
+
+    /// What each call answers in a state.
+    ghost calls: { Setting → Calls State };
+
+    /// What is permitted.
+    ghost permits: { Setting → Access → Resource → Type 0 };
+}
+
+/// What one record leaves of the record state, where `match`, ranges and `nextfile` are not
+/// permitted: of all but the record, `NR`, `FNR` and `FILENAME` it leaves what was there, and it does
+/// not leave its file. A law, which takes and leaves nothing.
+pub fn record_keeps<P: Policy>()
+    ensures { (i : P.Setting) → RecordKeepsLaw (P.permits i) (P.calls i) }
+{}
+
+/// The same for a list of records: they are read up to one that ends the run, and `NR` counts them.
+pub fn records_keep<P: Policy>()
+    ensures { (i : P.Setting) → RecordsKeepLaw (P.permits i) (P.calls i) }
+{}
+
+/// Records in two parts: the second part is read from where the first one came through.
+pub fn records_follow<P: Policy>()
+    ensures { (i : P.Setting) → RecordsFollowLaw (P.permits i) (P.calls i) }
+{}
+
+/// A record does not look at the record, `FNR` and `FILENAME` of before, of any program.
+pub fn reads_anew<P: Policy>()
+    ensures { (i : P.Setting) → ReadsAnewLaw (P.calls i) }
 {}
