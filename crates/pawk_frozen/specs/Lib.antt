@@ -1,2 +1,4 @@
 pub mod Marks
 pub mod Frozens
+pub mod MarkViews
+pub mod MarkLending

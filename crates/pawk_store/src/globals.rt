@@ -18,9 +18,9 @@ use std::marker::Model;
 /// written to it is lost.
 #[derive(Drop)]
 pub struct Globals {
-    alloc: Global,
-    scalars: Vec<Value>,
-    arrays: Vec<Array>,
+    pub(crate) alloc: Global,
+    pub(crate) scalars: Vec<Value>,
+    pub(crate) arrays: Vec<Array>,
     /// The names of scalars that are assigned and are not of the program, whose slots come last.
     extras: Vec<Vec<u8>>,
 }

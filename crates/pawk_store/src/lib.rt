@@ -4,6 +4,7 @@
 mod copies;
 mod globals;
 mod openings;
+mod reading;
 mod state;
 
 pub use globals::Globals;

@@ -1,0 +1,138 @@
+//! What a chunk notes of the elements of an array.
+
+ghost use Rattle.std.specs.Prelude.{◌≡◌, [], length, None, IfOk, MatchOption, OnErr, OnOk};
+ghost use Rattle.std.specs.Option.{option_map};
+ghost use Rattle.std.specs.Borrow.{sem};
+ghost use Rattle.std.specs.FinMap.Entries.{find};
+ghost use Rattle.pawk_value.specs.Value.{lent_value};
+ghost use Rattle.pawk_array.specs.Entries.{order};
+ghost use Rattle.pawk_world.specs.Answers.{Answers};
+ghost use Rattle.pawk_frozen.specs.Marks.{created, last_put, mark_found, put_mark, with_amount};
+ghost use Rattle.pawk_frozen.specs.Frozens.{signed_amount};
+ghost use Rattle.pawk_frozen.specs.MarkViews.{HasKeyAt, kept, mark_view, marks_of};
+ghost use Rattle.pawk_frozen.specs.MarkLending.{LendsMark};
+
+use crate::mark::Mark;
+use indexmap::IndexMap;
+use pawk_code::word::Sign;
+use pawk_value::ValueRef;
+use pawk_world::Halt;
+use std::alloc::{AllocError, Global};
+use std::marker::Model;
+
+/// What a chunk notes of the elements of an array, by their keys. Contracts see the marks in the order
+/// of the bytes of the keys.
+#[derive(Drop)]
+pub struct Marks {
+    alloc: Global,
+    map: IndexMap<Vec<u8>, Mark>,
+}
+
+impl Model for Marks {
+    ghost use Rattle.pawk_frozen.specs.Marks as spec;
+    ghost use Rattle.pawk_frozen.specs.MarkViews.{marks_of};
+
+    ghost Value = { spec.Marks };
+
+    ghost view = { λ m. marks_of m.map.entries };
+}
+
+/// The place of a key among the pairs; a key that is missing is added, with nothing noted.
+fn place_of(
+    alloc: Global,
+    map: &mut IndexMap<Vec<u8>, Mark>,
+    key: &[u8],
+) -> Result<usize, AllocError>
+    ensures place { IfOk result (λ place. HasKeyAt map.new.entries place key.now) }
+    ensures named { OnOk result (marks_of map.new.entries
+        ≡ put_mark key.now (mark_found key.now (marks_of map.old.entries)) (marks_of map.old.entries)) }
+    ensures err { OnErr result (map.new.entries ≡ map.old.entries) }
+{
+    match map.get_index_of(key) {
+        Some(place) => Ok(place),
+        None => {
+            let key = Vec::from_slice(alloc, key)?;
+            let (place, _) = map.insert_full(key, Mark::Blank)?;
+            Ok(place)
+        }
+    }
+}
+
+impl Marks {
+    /// Nothing noted. Takes no memory.
+    pub(crate) fn new(alloc: Global) -> Marks
+        ensures { result ≡ [] }
+    {
+        Marks {
+            alloc,
+            map: IndexMap::new(alloc),
+        }
+    }
+
+    /// How many elements have a mark.
+    #[allow(clippy::len_without_is_empty)]
+    pub fn len(&self) -> usize
+        ensures { result ≡ length self.now }
+    {
+        self.map.len()
+    }
+
+    /// The mark of an element, if it has one.
+    pub fn get(&self, key: &[u8]) -> Option<&Mark>
+        ensures { option_map (λ mark. mark_view mark.now) result ≡ find order key.now self.now }
+    {
+        self.map.get(key)
+    }
+
+    /// Takes out an element's key and mark; each that is left has another key. None where there is none.
+    pub fn pop(&mut self) -> Option<(Vec<u8>, Mark)>
+        ensures { MatchOption result ((self.old ≡ []) × (self.new ≡ [])) (λ pair.
+            (self.old ≡ put_mark pair.0.items (mark_view pair.1) self.new)
+            × (find order pair.0.items self.new ≡ None)) }
+    {
+        self.map.pop()
+    }
+
+    /// The mark of an element, lent for a change. One that is missing is made blank; memory is refused
+    /// only then, and the marks are as before.
+    fn entry(&mut self, key: &[u8]) -> Result<&mut Mark, AllocError>
+        ensures* writes_back { sem 𝓛 (LendsMark self.entry key.now result) }
+        ensures value { IfOk result (λ mark. mark_view mark.now ≡ mark_found key.now self.old) }
+    {
+        let place = place_of(self.alloc, &mut self.map, key)?;
+        Ok(self.map.get_index_mut(place).unwrap())
+    }
+
+    /// Notes an amount that is added to an element, or taken away.
+    ///
+    /// Fault `overflow` where the total passes 2^64 in size; then the marks are as before.
+    #[inline]
+    pub(crate) fn add(&mut self, key: &[u8], sign: Sign, amount: i64) -> Result<(), Halt>
+        ensures { let mark = with_amount (signed_amount sign amount) (mark_found key.now self.old) in
+            Answers (λ _. tt) (kept mark (put_mark key.now mark self.old) self.old) result self.new }
+    {
+        let mark = self.entry(key)?;
+        let sums = mark.with_amount(sign, amount)?;
+        *mark = Mark::Summed(sums);
+        Ok(())
+    }
+
+    /// Notes that an element is set, in the room that the value before has for its text.
+    pub(crate) fn put(&mut self, key: &[u8], value: ValueRef<'_>) -> Result<(), AllocError>
+        ensures { OnOk result
+            (self.new ≡ put_mark key.now (last_put (lent_value value.entry)) self.old) }
+    {
+        let alloc = self.alloc;
+        let mark = self.entry(key)?;
+        mark.put(alloc, value)
+    }
+
+    /// Notes that an element is created.
+    pub(crate) fn create(&mut self, key: &[u8]) -> Result<(), AllocError>
+        ensures { OnOk result (self.new ≡ put_mark key.now created self.old) }
+    {
+        let mark = self.entry(key)?;
+        *mark = Mark::Created;
+        Ok(())
+    }
+}

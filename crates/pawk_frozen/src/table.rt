@@ -1,0 +1,168 @@
+//! The table of what a chunk notes.
+
+ghost use Rattle.std.specs.Prelude.{◌≡◌, map, replicate, [], IfOk, OnOk};
+ghost use Rattle.pawk_value.specs.Value.{lent_value};
+ghost use Rattle.pawk_world.specs.Answers.{Answers};
+ghost use Rattle.pawk_world.specs.Worlds.{element, scalar};
+ghost use Rattle.pawk_frozen.specs.Marks.{blank, blank_table, created, last_put, mark_at, with_amount, with_mark};
+ghost use Rattle.pawk_frozen.specs.Frozens.{signed_amount};
+ghost use Rattle.pawk_frozen.specs.MarkViews.{kept, mark_view};
+
+use crate::mark::Mark;
+use crate::marks::Marks;
+use pawk_code::word::Sign;
+use pawk_value::ValueRef;
+use pawk_world::Halt;
+use std::alloc::{AllocError, Global};
+use std::marker::Model;
+
+/// What a chunk notes of scalars and of the elements of arrays, by their slots.
+#[derive(Drop)]
+pub struct Table {
+    alloc: Global,
+    scalars: Vec<Mark>,
+    arrays: Vec<Marks>,
+}
+
+impl Model for Table {
+    ghost use Rattle.std.specs.Prelude.{map};
+    ghost use Rattle.pawk_frozen.specs.Marks as spec;
+    ghost use Rattle.pawk_frozen.specs.MarkViews.{mark_view};
+
+    ghost Value = { spec.Table };
+
+    ghost view = { λ t. record {
+      scalars = map mark_view t.scalars.items;
+      arrays = t.arrays.items;
+    } };
+}
+
+/// So many blank marks.
+fn blank_marks(alloc: Global, count: usize) -> Result<Vec<Mark>, AllocError>
+    ensures { IfOk result (λ marks. map mark_view marks.items ≡ replicate count blank) }
+{
+    let mut marks = Vec::with_capacity(alloc, count)?;
+    for _ in 0..count {
+        marks.push(Mark::Blank)?;
+    }
+    Ok(marks)
+}
+
+/// Of so many arrays nothing noted.
+fn empty_marks(alloc: Global, count: usize) -> Result<Vec<Marks>, AllocError>
+    ensures { IfOk result (λ marks. marks.items ≡ replicate count []) }
+{
+    let mut marks = Vec::with_capacity(alloc, count)?;
+    for _ in 0..count {
+        marks.push(Marks::new(alloc))?;
+    }
+    Ok(marks)
+}
+
+impl Table {
+    /// Nothing noted of so many scalars and so many arrays.
+    pub(crate) fn blank(alloc: Global, scalars: usize, arrays: usize) -> Result<Table, AllocError>
+        ensures { IfOk result (λ table. table ≡ blank_table scalars arrays) }
+    {
+        Ok(Table {
+            alloc,
+            scalars: blank_marks(alloc, scalars)?,
+            arrays: empty_marks(alloc, arrays)?,
+        })
+    }
+
+    /// The marks of the scalars by their slots.
+    pub fn scalars(&self) -> &[Mark]
+        ensures { map mark_view result.now ≡ self.now.scalars }
+    {
+        self.scalars.as_slice()
+    }
+
+    /// The marks of the elements of each array, by the arrays' slots.
+    pub fn arrays(&self) -> &[Marks]
+        ensures { result.now ≡ self.now.arrays }
+    {
+        self.arrays.as_slice()
+    }
+
+    /// The marks of the scalars, and those of the elements of each array, by their slots.
+    pub fn into_marks(self) -> (Vec<Mark>, Vec<Marks>)
+        ensures scalars { map mark_view result.0.items ≡ self.scalars }
+        ensures arrays { result.1.items ≡ self.arrays }
+    {
+        (self.scalars, self.arrays)
+    }
+
+    /// Notes an amount that is added to a scalar, or taken away.
+    ///
+    /// Fault `overflow` where the total passes 2^64 in size; then the table is as before.
+    #[inline]
+    pub(crate) fn add_scalar(&mut self, slot: usize, sign: Sign, amount: i64) -> Result<(), Halt>
+        ensures { let mark = with_amount (signed_amount sign amount) (mark_at (scalar slot) self.old) in
+            Answers (λ _. tt) (kept mark (with_mark (scalar slot) mark self.old) self.old)
+            result self.new }
+    {
+        if slot < self.scalars.len() {
+            let sums = self.scalars[slot].with_amount(sign, amount)?;
+            self.scalars[slot] = Mark::Summed(sums);
+        }
+        Ok(())
+    }
+
+    /// Notes an amount that is added to an element, or taken away, as [`Table::add_scalar`] does.
+    #[inline]
+    pub(crate) fn add_element(
+        &mut self,
+        array: usize,
+        key: &[u8],
+        sign: Sign,
+        amount: i64,
+    ) -> Result<(), Halt>
+        ensures { let mark
+            = with_amount (signed_amount sign amount) (mark_at (element array key.now) self.old) in
+            Answers (λ _. tt) (kept mark (with_mark (element array key.now) mark self.old) self.old)
+            result self.new }
+    {
+        if array < self.arrays.len() {
+            return self.arrays[array].add(key, sign, amount);
+        }
+        Ok(())
+    }
+
+    /// Notes that a scalar is set.
+    pub(crate) fn put_scalar(&mut self, slot: usize, value: ValueRef<'_>) -> Result<(), AllocError>
+        ensures { OnOk result
+            (self.new ≡ with_mark (scalar slot) (last_put (lent_value value.entry)) self.old) }
+    {
+        if slot < self.scalars.len() {
+            self.scalars[slot].put(self.alloc, value)?;
+        }
+        Ok(())
+    }
+
+    /// Notes that an element is set.
+    pub(crate) fn put_element(
+        &mut self,
+        array: usize,
+        key: &[u8],
+        value: ValueRef<'_>,
+    ) -> Result<(), AllocError>
+        ensures { OnOk result (self.new
+            ≡ with_mark (element array key.now) (last_put (lent_value value.entry)) self.old) }
+    {
+        if array < self.arrays.len() {
+            self.arrays[array].put(key, value)?;
+        }
+        Ok(())
+    }
+
+    /// Notes that an element is created.
+    pub(crate) fn create_element(&mut self, array: usize, key: &[u8]) -> Result<(), AllocError>
+        ensures { OnOk result (self.new ≡ with_mark (element array key.now) created self.old) }
+    {
+        if array < self.arrays.len() {
+            self.arrays[array].create(key)?;
+        }
+        Ok(())
+    }
+}
