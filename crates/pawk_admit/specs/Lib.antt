@@ -1,1 +1,6 @@
 pub mod Roles
+pub mod Occurrences
+pub mod Reaches
+pub mod Admission
+pub mod Marks
+pub mod Decisions

@@ -1,0 +1,4 @@
+mod Appends
+mod Closures
+mod MarkTables
+mod Shapes

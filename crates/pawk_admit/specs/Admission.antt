@@ -1,0 +1,122 @@
+-- Which programs may run in chunks, and why not: what the records do with each global must be the same whichever chunk comes
+-- first, but for assignments, of which the last counts.
+use Rattle.std.specs.Prelude.{◌≡◌, ℕ, ◌<◌, ◌⊎◌}
+use Rattle.pawk_code.specs.FirstSlots.{fs_slot, ofs_slot, ors_slot, subsep_slot}
+use Rattle.pawk_code.specs.Programs.{Code}
+use Rattle.pawk_admit.specs.declared.occurrence.Touch.{Touch}
+use Rattle.pawk_admit.specs.declared.occurrence.Touch.TheVariants.{Look, Set, Assign, Add, AddAndLook, Test, Walk, Split, Pass, Delete}
+use Rattle.pawk_admit.specs.declared.occurrence.Name.{Name}
+use Rattle.pawk_admit.specs.declared.occurrence.Name.TheVariants.{Scalar, Array}
+use Rattle.pawk_admit.specs.declared.occurrence.Occurrence.{Occurrence}
+use Rattle.pawk_admit.specs.declared.occurrence.Occurrence.TheVariants as occurrence
+use Rattle.pawk_admit.specs.declared.reason.Reason.{Reason}
+use Rattle.pawk_admit.specs.declared.reason.Reason.TheVariants as reason
+use Rattle.pawk_admit.specs.declared.role.Role.{Role}
+use Rattle.pawk_admit.specs.declared.role.Role.TheVariants.{Fixed, Adder, Setter, Reader}
+use Rattle.pawk_admit.specs.Reaches.{Occurs}
+use Rattle.pawk_admit.specs.Roles.{Roles, role_of_scalar, role_of_array}
+
+abbrev pub number : Reason → ℕ
+number reason.Assignment = 1
+number reason.Addition = 2
+number reason.Range = 3
+number reason.Match = 4
+number reason.Split = 5
+number reason.Passing = 6
+number reason.Value = 7
+number reason.Memory = 8
+number reason.NextFile = 9
+
+-- FS, OFS, ORS, SUBSEP: the run itself looks at them while it reads, prints and subscripts
+abbrev pub IsSeparator : Name → Type 0
+IsSeparator (Scalar n) = (n ≡ fs_slot) ⊎ (n ≡ ofs_slot) ⊎ (n ≡ ors_slot) ⊎ (n ≡ subsep_slot)
+IsSeparator (Array n) = ⊥
+
+abbrev pub IsArray : Name → Type 0
+IsArray (Scalar n) = ⊥
+IsArray (Array n) = Unit {0}
+
+abbrev pub IsAddition : Touch → Type 0
+IsAddition Add = Unit {0}
+IsAddition AddAndLook = Unit {0}
+IsAddition Look = ⊥
+IsAddition Set = ⊥
+IsAddition Assign = ⊥
+IsAddition Test = ⊥
+IsAddition Walk = ⊥
+IsAddition Split = ⊥
+IsAddition Pass = ⊥
+IsAddition Delete = ⊥
+
+-- what stands in the text that the records come to
+module _ (Stands : Occurrence → Type 0) where
+  -- this is done with the name
+  abbrev pub Touches : Touch → Name → Type 0
+  Touches touch name = Stands (occurrence.Touch touch name)
+
+  -- this and nothing else is done with the name
+  abbrev pub OnlyTouches : Touch → Name → Type 0
+  OnlyTouches touch name = Touches touch name × ((other : Touch) → Touches other name → other ≡ touch)
+
+  -- only assigned, by `=` whose value is dropped
+  abbrev pub IsSetter : Name → Type 0
+  IsSetter name = OnlyTouches Set name × ¬ IsSeparator name
+
+  -- only added to, and the value is dropped
+  abbrev pub IsAdder : Name → Type 0
+  IsAdder name = OnlyTouches Add name
+
+  -- an array that is only subscripted for its values
+  abbrev pub IsReader : Name → Type 0
+  IsReader name = IsArray name × OnlyTouches Look name
+
+  abbrev pub IsRole : Role → Name → Type 0
+  IsRole Fixed name = ¬ IsAdder name × ¬ IsSetter name × ¬ IsReader name
+  IsRole Adder name = IsAdder name
+  IsRole Setter name = IsSetter name
+  IsRole Reader name = IsReader name
+
+  -- assigned, and no setter
+  abbrev pub IsAssigned : Name → Type 0
+  IsAssigned name = Touches Assign name ⊎ Touches Delete name ⊎ (Touches Set name × ¬ IsSetter name)
+
+  -- added to, and something else, too
+  abbrev pub IsAddedBeside : Name → Type 0
+  IsAddedBeside name =
+      (Touches Add name ⊎ Touches AddAndLook name)
+      × (IsSeparator name ⊎ ((other : Touch) × Touches other name × ¬ IsAddition other))
+
+  -- the reason holds; want of memory is none of the text
+  abbrev pub Holds : Reason → Type 0
+  Holds reason.Assignment = (name : Name) × IsAssigned name
+  Holds reason.Addition = (name : Name) × IsAddedBeside name
+  Holds reason.Range = Stands occurrence.Range
+  Holds reason.Match = Stands occurrence.Match
+  Holds reason.Split = (name : Name) × Touches Split name
+  Holds reason.Passing = (name : Name) × Touches Pass name
+  Holds reason.Value = (name : Name) × Touches AddAndLook name
+  Holds reason.Memory = ⊥
+  Holds reason.NextFile = Stands occurrence.NextFile
+
+  abbrev pub IsFirst : Reason → Type 0
+  IsFirst r = Holds r × ((other : Reason) → number other < number r → ¬ Holds other)
+
+  -- a reason that is told: the first that holds, or want of memory
+  abbrev pub IsTold : Reason → Type 0
+  IsTold reason.Memory = Unit {0}
+  IsTold reason.Assignment = IsFirst reason.Assignment
+  IsTold reason.Addition = IsFirst reason.Addition
+  IsTold reason.Range = IsFirst reason.Range
+  IsTold reason.Match = IsFirst reason.Match
+  IsTold reason.Split = IsFirst reason.Split
+  IsTold reason.Passing = IsFirst reason.Passing
+  IsTold reason.Value = IsFirst reason.Value
+  IsTold reason.NextFile = IsFirst reason.NextFile
+
+  -- the roles that are told are those of the names
+  abbrev pub AreRoles : Roles → Type 0
+  AreRoles roles = (n : ℕ) → IsRole (role_of_scalar roles n) (Scalar n) × IsRole (role_of_array roles n) (Array n)
+
+-- the program may run in chunks
+abbrev pub IsAdmissible : Code → Type 0
+IsAdmissible code = (r : Reason) → ¬ Holds (Occurs code) r

@@ -1,0 +1,46 @@
+//! Why a program may not run in chunks.
+
+ghost use Rattle.std.specs.Prelude.{◌≡◌};
+ghost use Rattle.pawk_admit.specs.Admission as spec;
+
+/// Why a program may not run in chunks, in the order in which reasons are told.
+#[derive(Clone, Copy, PartialEq, Eq)]
+pub enum Reason {
+    /// A global is assigned that is not only assigned by statements `=`, or an element is deleted.
+    Assignment,
+    /// A global is added to that occurs otherwise, too, or that separates.
+    Addition,
+    /// A pattern is a range of records.
+    Range,
+    /// `match` is called.
+    Match,
+    /// `split` fills a global array.
+    Split,
+    /// A global array is passed to a function.
+    Passing,
+    /// The value of an addition to a global is used.
+    Value,
+    /// Memory was refused.
+    Memory,
+    /// There is a `nextfile`.
+    NextFile,
+}
+
+impl Reason {
+    /// The number that stands for a reason, from 1 to 9.
+    pub fn number(self) -> u8
+        ensures { result ≡ spec.number self }
+    {
+        match self {
+            Reason::Assignment => 1,
+            Reason::Addition => 2,
+            Reason::Range => 3,
+            Reason::Match => 4,
+            Reason::Split => 5,
+            Reason::Passing => 6,
+            Reason::Value => 7,
+            Reason::Memory => 8,
+            Reason::NextFile => 9,
+        }
+    }
+}
