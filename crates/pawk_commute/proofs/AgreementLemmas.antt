@@ -15,9 +15,9 @@ use Rattle.pawk_frozen.specs.Marks.{Mark, blank, created, mark_or_blank, blank_t
 use Rattle.pawk_frozen.specs.Frozens.{Frozen, begun, noted}
 use Rattle.pawk_meaning.specs.Lockstep.{resource_of_cell}
 use Rattle.pawk_commute.specs.Traces.{Event, Traced, same_cell, mark_after, mark_from}
-use Rattle.pawk_commute.specs.Settings.{Setting, role_of_cell, IsThere, Extends, Agrees, entry_at, FitsIfOk, MayBegin}
+use Rattle.pawk_commute.specs.Settings.{Setting, role_of_cell, Extends, Agrees, entry_at, FitsIfOk, MayBegin}
 use Rattle.pawk_commute.specs.Agreement.{Suits, AreLawful, Becomes, IsChanged, Alike}
-use Rattle.pawk_commute.proofs.CellLaws.{cell_same, entry_with, mark_with, slots_with, table_with, there_too, in_table, order_with}
+use Rattle.pawk_commute.proofs.CellLaws.{IsThere, cell_same, entry_with, mark_with, slots_with, table_with, there_too, in_table, order_with}
 use Rattle.pawk_commute.proofs.SumLemmas.{fits_again}
 
 pub marks_more : (m : Mark) (c : Cell) (es fs : List Event) → mark_from m c (es ++ fs) ≡ mark_from (mark_from m c es) c fs
@@ -72,6 +72,7 @@ begins_alike i h = record {
 
 pub begins_again : (i : Setting) (s : Traced) (t : Frozen) → MayBegin i → Alike i s t → MayBegin (record i { start = s.globals })
 begins_again i s t h k = record {
+  role_slots = h.role_slots;
   in_order = h.in_order;
   agrees = k.agrees;
   numbers = λ c role.

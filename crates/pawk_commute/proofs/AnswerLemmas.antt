@@ -24,13 +24,13 @@ use Rattle.pawk_admit.specs.Roles.{role_of_array}
 use Rattle.pawk_frozen.specs.Marks.{Mark, blank, summed, last_put, created, with_amount, mark_at}
 use Rattle.pawk_frozen.specs.Frozens.{Frozen, noted, signed_amount, kept_mark, found_or_missing, missing}
 use Rattle.pawk_frozen.specs.Frozens as frozen
-use Rattle.pawk_meaning.specs.Lockstep.{resource_of, resource_of_cell, access_of, SameAnswer, AreInLockstep}
+use Rattle.pawk_meaning.specs.Lockstep.{array_slot, resource_of, resource_of_cell, access_of, SameAnswer, AreInLockstep}
 use Rattle.pawk_commute.specs.Traces.{Traced, creations, additions, traced_answer, traced, same_cell, mark_from}
 use Rattle.pawk_commute.specs.Traces as event
-use Rattle.pawk_commute.specs.Settings.{Setting, role_of_cell, IsThere, MayRead, Permits, Extends, Agrees, entry_at, MayBegin}
+use Rattle.pawk_commute.specs.Settings.{Setting, role_of_cell, MayRead, Permits, Extends, Agrees, entry_at, MayBegin}
 use Rattle.pawk_commute.specs.Agreement.{Suits, Becomes, IsChanged, Alike}
 use Rattle.pawk_commute.specs.Commutation.{Parts, pair_of, has_sum}
-use Rattle.pawk_commute.proofs.CellLaws.{cell_itself, same_found, looked_for}
+use Rattle.pawk_commute.proofs.CellLaws.{IsThere, there_by_role, cell_itself, same_found, looked_for}
 use Rattle.pawk_commute.proofs.SumLemmas.{in_range_ok, one_more}
 use Rattle.pawk_commute.proofs.AgreementLemmas.{adder_changed, value_entry, changed}
 
@@ -120,8 +120,8 @@ module _ (i : Setting) where
       subst (λ r. SameAnswer (Alike i) (read_answer n key o s) (missing n key r t)) (sym (ap (λ r. role_of_array r n) h.roles ∙ role))
       (absent s t n key o role there h e (⊎_elim (λ k. ap value_of k) (λ k. ap value_of k) g) f)
 
-  read_by : (s : Traced) (t : Frozen) (n : ℕ) (key : List ℕ) (r : Role) → role_of_array i.roles n ≡ r → MayRead r (n < length i.fixed.arrays) → Alike i s t → Agree (request.read n key) s t
-  read_by s t n key r role may h =
+  read_by : MayBegin i → (s : Traced) (t : Frozen) (n : ℕ) (key : List ℕ) (r : Role) → role_of_array i.roles n ≡ r → MayRead r → Alike i s t → Agree (request.read n key) s t
+  read_by begin s t n key r role may h =
       subst (λ g. SameAnswer (Alike i) (read_answer n key (found key (array_at s.globals n)) s) (found_or_missing n key (found key (array_at g n)) t) ⊎ Parts i (request.read n key) s t) (sym h.fixed)
       (by r role may)
     where
@@ -134,11 +134,11 @@ module _ (i : Setting) where
       cells : Agrees (role_of_array i.roles n) p o
       cells = h.agrees.cells (element n key)
 
-      by : (r : Role) → role_of_array i.roles n ≡ r → MayRead r (n < length i.fixed.arrays) → SameAnswer (Alike i) (read_answer n key o s) (found_or_missing n key p t) ⊎ Parts i (request.read n key) s t
+      by : (r : Role) → role_of_array i.roles n ≡ r → MayRead r → SameAnswer (Alike i) (read_answer n key o s) (found_or_missing n key p t) ⊎ Parts i (request.read n key) s t
       by Fixed role may = read_fixed s t n key o p role h refl refl (subst (λ r. Agrees r p o) role cells)
       by Adder role may = absurd may
       by Setter role may = absurd may
-      by Reader role may = inl (read_reader s t n key o p role may h refl refl (subst (λ r. Agrees r p o) role cells))
+      by Reader role may = inl (read_reader s t n key o p role (there_by_role i.roles i.fixed begin.role_slots (array_slot n) (λ e. absurd (cc))) h refl refl (subst (λ r. Agrees r p o) role cells))
 
   -- ---- a value that is put
 
@@ -204,10 +204,10 @@ module _ (i : Setting) where
     add_by s t c sign (Ok b) (Ok a) role there h e = add_result s t c sign a b (result_of (op_of sign) a b) role there h e (sum_is sign a b) refl
 
     agree : (q : Request) → Permits i (access_of q) (resource_of q) → (s : Traced) (t : Frozen) → Alike i s t → Agree q s t
-    agree (request.read n key) may s t h = read_by s t n key (role_of_array i.roles n) refl may h
+    agree (request.read n key) may s t h = read_by begin s t n key (role_of_array i.roles n) refl may h
     agree (request.old n key) may s t h = absurd may
-    agree (request.write c v) may s t h = put_value s t c v may.0 may.1 h
-    agree (request.add sign c y) may s t h = add_by s t c sign y (num_of (value_at c s.globals)) may.0 may.1 h refl
+    agree (request.write c v) may s t h = put_value s t c v may (there_by_role i.roles i.fixed begin.role_slots (resource_of_cell c) (λ e. absurd (cc))) h
+    agree (request.add sign c y) may s t h = add_by s t c sign y (num_of (value_at c s.globals)) may (there_by_role i.roles i.fixed begin.role_slots (resource_of_cell c) (λ e. absurd (cc))) h refl
     agree (request.test n key) may s t h = inl (ap (λ es. is_some (found key es)) (fixed_array s t n begin may h), subst (λ s'. Alike i s' t) (same s) h)
       where
         same : (s : Traced) → ◌≡◌ {A = Traced} s (record { globals = s.globals; trace = s.trace ++ [] })

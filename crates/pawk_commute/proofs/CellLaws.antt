@@ -13,9 +13,32 @@ use Rattle.pawk_array.specs.Entries.{Entries, order, Rise, found, put}
 use Rattle.pawk_world.specs.Worlds.{Cell, scalar, element}
 use Rattle.pawk_store.specs.Globals.{Globals, array_at, value_at, with_array, with_value}
 use Rattle.pawk_frozen.specs.Marks.{Mark, blank, mark_or_blank, Table, mark_at, with_mark}
-use Rattle.pawk_meaning.specs.Lockstep.{resource_of_cell}
+use Rattle.pawk_admit.specs.declared.role.Role.{Role}
+use Rattle.pawk_admit.specs.declared.role.Role.TheVariants.{Fixed}
+use Rattle.pawk_admit.specs.Roles.{Roles}
+use Rattle.pawk_meaning.specs.Lockstep.{Resource, variable_slot, array_slot, function_slot, last_match, rule_ranges, rest_of_file, resource_of_cell}
 use Rattle.pawk_commute.specs.Traces.{same_cell}
-use Rattle.pawk_commute.specs.Settings.{IsThere, entry_at, HasSlots, AreInOrder}
+use Rattle.pawk_commute.specs.Settings.{role_of, entry_at, HasSlots, AreInOrder}
+
+-- there is a slot
+abbrev pub IsThere : Resource → Globals → Type 0
+IsThere (variable_slot n) g = n < length g.scalars
+IsThere (array_slot n) g = n < length g.arrays
+IsThere _ g = ⊥
+
+-- a slot whose role is not that of a slot past the last one
+role_there : (roles : List Role) (n : ℕ) → (slice_index_or roles n Fixed ≡ Fixed → ⊥) → n < length roles
+role_there [] n h = absurd (h refl)
+role_there (r ∷ roles) zero h = omega arith
+role_there (r ∷ roles) (suc n) h = let k = role_there roles n h in omega (arith, k)
+
+pub there_by_role : (roles : Roles) (fixed : Globals) → HasSlots roles.scalars roles.arrays fixed → (r : Resource) → (role_of roles r ≡ Fixed → ⊥) → IsThere r fixed
+there_by_role roles fixed h (variable_slot n) k = subst (λ j. n < j) h.0 (role_there roles.scalars n k)
+there_by_role roles fixed h (array_slot n) k = subst (λ j. n < j) h.1 (role_there roles.arrays n k)
+there_by_role roles fixed h (function_slot f) k = k refl
+there_by_role roles fixed h last_match k = k refl
+there_by_role roles fixed h rule_ranges k = k refl
+there_by_role roles fixed h rest_of_file k = k refl
 
 -- ---- a place of a list after a write
 

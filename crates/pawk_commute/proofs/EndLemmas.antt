@@ -22,10 +22,10 @@ use Rattle.pawk_meaning.specs.Records.{Left, clash, End}
 use Rattle.pawk_meaning.specs.Lockstep.{access_of, resource_of, resource_of_cell, refusal_of, state_of}
 use Rattle.pawk_meaning.specs.Laws.{SameEnd, EndReaches, EndsInStep, LeftBy}
 use Rattle.pawk_commute.specs.Traces.{Traced, creations, additions, traced_answer, traced, mark_from}
-use Rattle.pawk_commute.specs.Settings.{Setting, role_of_cell, IsThere, Permits, MayBegin}
+use Rattle.pawk_commute.specs.Settings.{Setting, role_of_cell, Permits, MayBegin}
 use Rattle.pawk_commute.specs.Agreement.{Alike}
 use Rattle.pawk_commute.specs.Commutation.{TraceBefore, TableBefore, Parts, pair_of, store_opening, chunk_opening, IsOwnFault, has_sum, MissedKey, FaultsToo, GoesPast, Commuted, no_event, amount_fault, missed_key, add_fault}
-use Rattle.pawk_commute.proofs.CellLaws.{mark_with, table_with, in_table}
+use Rattle.pawk_commute.proofs.CellLaws.{IsThere, there_by_role, mark_with, table_with, in_table}
 use Rattle.pawk_commute.proofs.AgreementLemmas.{begins_alike}
 use Rattle.pawk_commute.proofs.AnswerLemmas.{kept}
 use Rattle.pawk_commute.proofs.OrderLemmas.{no_clash, added_mark}
@@ -143,21 +143,21 @@ module _ (i : Setting) (s : Traced) (t : Frozen) (state : RecordState) (out : Li
 
   -- ---- any parting
 
-  case_of : (q : Request) → Permits i (access_of q) (resource_of q) → Parts i q s t → StoreReaches ((traced globals.calls).ask q s) → ChunkReaches (frozen.answer q t) → Commuted i store chunk
-  case_of (request.read n key) may parts first second = missed_key (key_case n key parts first second)
-  case_of (request.old n key) may parts first second = absurd parts
-  case_of (request.write c v) may parts first second = absurd parts
-  case_of (request.add sign c y) may parts first second = add_case c sign may.0 may.1 y (num_of (value_at c s.globals)) parts.0 refl parts.1 first second
-  case_of (request.test n key) may parts first second = absurd parts
-  case_of (request.remove n key) may parts first second = absurd parts
-  case_of (request.clear n) may parts first second = absurd parts
-  case_of (request.keys n) may parts first second = absurd parts
+  case_of : MayBegin i → (q : Request) → Permits i (access_of q) (resource_of q) → Parts i q s t → StoreReaches ((traced globals.calls).ask q s) → ChunkReaches (frozen.answer q t) → Commuted i store chunk
+  case_of begin (request.read n key) may parts first second = missed_key (key_case n key parts first second)
+  case_of begin (request.old n key) may parts first second = absurd parts
+  case_of begin (request.write c v) may parts first second = absurd parts
+  case_of begin (request.add sign c y) may parts first second = add_case c sign may (there_by_role i.roles i.fixed begin.role_slots (resource_of_cell c) (λ e. absurd (cc))) y (num_of (value_at c s.globals)) parts.0 refl parts.1 first second
+  case_of begin (request.test n key) may parts first second = absurd parts
+  case_of begin (request.remove n key) may parts first second = absurd parts
+  case_of begin (request.clear n) may parts first second = absurd parts
+  case_of begin (request.keys n) may parts first second = absurd parts
 
 -- a store never clashes
 unclashed : (w : Left) → LeftBy (λ h. no_clash h ≡ true) w → w ≡ clash → ⊥
 unclashed w h e = absurd (let k : false ≡ true = subst (LeftBy (λ h. no_clash h ≡ true)) e h in cc)
 
-pub commuted : (i : Setting) (store : End Traced) (chunk : End Frozen) → LeftBy (λ h. no_clash h ≡ true) store.left → EndsInStep (pair_of i) store chunk → Commuted i store chunk
-commuted i store chunk clean = ⊎_elim
+pub commuted : (i : Setting) → MayBegin i → (store : End Traced) (chunk : End Frozen) → LeftBy (λ h. no_clash h ≡ true) store.left → EndsInStep (pair_of i) store chunk → Commuted i store chunk
+commuted i begin store chunk clean = ⊎_elim
     (λ same. no_event same (λ e. unclashed store.left clean (same.lefts ∙ e)))
-    (λ p. case_of i p.first p.second p.state p.output store chunk p.related p.request p.permitted p.parts_there p.first_then p.second_then)
+    (λ p. case_of i p.first p.second p.state p.output store chunk p.related begin p.request p.permitted p.parts_there p.first_then p.second_then)

@@ -5,3 +5,4 @@ pub mod AnswerLemmas
 pub mod OrderLemmas
 pub mod EndLemmas
 pub mod MergeLemmas
+pub mod AdmissionLemmas

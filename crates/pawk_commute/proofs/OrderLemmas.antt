@@ -20,14 +20,14 @@ use Rattle.pawk_admit.specs.Roles.{role_of_array}
 use Rattle.pawk_frozen.specs.Marks.{Mark, blank, summed, last_put, created, with_amount, mark_at}
 use Rattle.pawk_frozen.specs.Frozens.{Frozen, is_sum, noted, signed_amount, kept_mark, found_or_missing, missing}
 use Rattle.pawk_frozen.specs.Frozens as frozen
-use Rattle.pawk_meaning.specs.Lockstep.{access_of, resource_of, resource_of_cell, refusal_of, state_of, RefusesIn, FirstGoesOn, SecondGoesOn}
+use Rattle.pawk_meaning.specs.Lockstep.{array_slot, access_of, resource_of, resource_of_cell, refusal_of, state_of, RefusesIn, FirstGoesOn, SecondGoesOn}
 use Rattle.pawk_meaning.specs.Laws.{IsFinal, RefusalsAreFinal}
 use Rattle.pawk_commute.specs.Traces.{Event, Traced, events_of, traced_answer, traced, same_cell, mark_after, mark_from}
 use Rattle.pawk_commute.specs.Traces as event
-use Rattle.pawk_commute.specs.Settings.{Setting, role_of_cell, IsThere, MayRead, Permits}
+use Rattle.pawk_commute.specs.Settings.{Setting, role_of_cell, MayRead, Permits, MayBegin}
 use Rattle.pawk_commute.specs.Agreement.{IsLawful}
 use Rattle.pawk_commute.specs.Commutation.{TraceBefore, TableBefore, pair_of}
-use Rattle.pawk_commute.proofs.CellLaws.{cell_same, mark_with, table_with, in_table}
+use Rattle.pawk_commute.proofs.CellLaws.{IsThere, there_by_role, cell_same, mark_with, table_with, in_table}
 use Rattle.pawk_commute.proofs.AgreementLemmas.{marks_more, lawful_more}
 
 -- ---- the store
@@ -128,40 +128,34 @@ module _ (i : Setting) where
   sum_on t c sign (Err f) role there = here t
   sum_on t c sign (Ok b) role there = kept_on t c (with_amount (signed_amount sign b) (mark_at c t.table)) (added_on t c (signed_amount sign b) role there)
 
-  reader_there : (r : Role) (there : Type 0) → r ≡ Reader → MayRead r there → there
-  reader_there Fixed there e h = absurd (cc)
-  reader_there Adder there e h = absurd (cc)
-  reader_there Setter there e h = absurd (cc)
-  reader_there Reader there e h = h
-
-  missing_on : (t : Frozen) (n : ℕ) (key : List ℕ) (r : Role) → MayRead (role_of_array i.roles n) (n < length i.fixed.arrays) → role_of_array t.roles n ≡ r → TableBefore i t (state_of (missing n key r t))
-  missing_on t n key Fixed may e = here t
-  missing_on t n key Adder may e = here t
-  missing_on t n key Setter may e = here t
-  missing_on t n key Reader may e = λ is.
+  missing_on : MayBegin i → (t : Frozen) (n : ℕ) (key : List ℕ) (r : Role) → role_of_array t.roles n ≡ r → TableBefore i t (state_of (missing n key r t))
+  missing_on begin t n key Fixed e = here t
+  missing_on begin t n key Adder e = here t
+  missing_on begin t n key Setter e = here t
+  missing_on begin t n key Reader e = λ is.
       let role : role_of_array i.roles n ≡ Reader = ap (λ r. role_of_array r n) (sym is.0) ∙ e in
-      noted_on t (element n key) created (event.created n key) (reader_there (role_of_array i.roles n) (n < length i.fixed.arrays) role may) role (λ other. refl) is
+      noted_on t (element n key) created (event.created n key) (there_by_role i.roles i.fixed begin.role_slots (array_slot n) (λ e. absurd (cc))) role (λ other. refl) is
 
-  read_on : (t : Frozen) (n : ℕ) (key : List ℕ) (o : Option Val) → MayRead (role_of_array i.roles n) (n < length i.fixed.arrays) → TableBefore i t (state_of (found_or_missing n key o t))
-  read_on t n key (Some v) may = here t
-  read_on t n key None may = missing_on t n key (role_of_array t.roles n) may refl
+  read_on : MayBegin i → (t : Frozen) (n : ℕ) (key : List ℕ) (o : Option Val) → TableBefore i t (state_of (found_or_missing n key o t))
+  read_on begin t n key (Some v) = here t
+  read_on begin t n key None = missing_on begin t n key (role_of_array t.roles n) refl
 
-  pub table_on : (q : Request) → Permits i (access_of q) (resource_of q) → (t : Frozen) → TableBefore i t (state_of (frozen.answer q t))
-  table_on (request.read n key) may t = read_on t n key (found key (array_at t.fixed n)) may
-  table_on (request.old n key) may t = absurd may
-  table_on (request.write c v) may t = noted_on t c (last_put v) (event.put c v) may.1 may.0 (λ other. refl)
-  table_on (request.add sign c y) may t = sum_on t c sign y may.0 may.1
-  table_on (request.test n key) may t = here t
-  table_on (request.remove n key) may t = absurd may
-  table_on (request.clear n) may t = absurd may
-  table_on (request.keys n) may t = here t
+  pub table_on : MayBegin i → (q : Request) → Permits i (access_of q) (resource_of q) → (t : Frozen) → TableBefore i t (state_of (frozen.answer q t))
+  table_on begin (request.read n key) may t = read_on begin t n key (found key (array_at t.fixed n))
+  table_on begin (request.old n key) may t = absurd may
+  table_on begin (request.write c v) may t = noted_on t c (last_put v) (event.put c v) (there_by_role i.roles i.fixed begin.role_slots (resource_of_cell c) (λ e. absurd (cc))) may (λ other. refl)
+  table_on begin (request.add sign c y) may t = sum_on t c sign y may (there_by_role i.roles i.fixed begin.role_slots (resource_of_cell c) (λ e. absurd (cc)))
+  table_on begin (request.test n key) may t = here t
+  table_on begin (request.remove n key) may t = absurd may
+  table_on begin (request.clear n) may t = absurd may
+  table_on begin (request.keys n) may t = here t
 
   pub any_refusal : (r : Option (Halt × Frozen)) → RefusesIn (λ h. true ≡ true) r
   any_refusal None = tt
   any_refusal (Some r) = refl
 
-  abbrev pub chunk_goes_on : SecondGoesOn (pair_of i)
-  chunk_goes_on = record {
+  abbrev pub chunk_goes_on : MayBegin i → SecondGoesOn (pair_of i)
+  chunk_goes_on begin = record {
     here = here;
     then = λ s t u h k is.
         let a = h is in
@@ -169,7 +163,7 @@ module _ (i : Setting) where
           b.0,
           (a.1.0 ++ b.1.0, (λ c. b.1.1.0 c ∙ ap (λ m. mark_from m c b.1.0) (a.1.1.0 c) ∙ sym (marks_more (mark_at c s.table) c a.1.0 b.1.0), lawful_more i.roles a.1.0 b.1.0 a.1.1.1 b.1.1.1)),
         );
-    ask = table_on;
+    ask = table_on begin;
     ends = λ h. true;
     at_fault = λ f. refl;
     at_next = refl;

@@ -5,7 +5,6 @@ use Rattle.pawk_value.specs.Arithmetic.{arith}
 use Rattle.pawk_value.specs.Conversion.{num_of}
 use Rattle.pawk_array.specs.Entries.{found}
 use Rattle.pawk_code.specs.declared.word.Sign.{Sign}
-use Rattle.pawk_code.specs.Programs.{Code}
 use Rattle.pawk_input.specs.Input.{Item}
 use Rattle.pawk_world.specs.Sums.{arith_by, op_of}
 use Rattle.pawk_world.specs.Worlds.{Cell, Request}
@@ -176,11 +175,11 @@ pub data Commuted (i : Setting) (store : End Traced) (chunk : End Frozen) : Type
 abbrev pub Commutation : Type 0
 Commutation =
     (i : Setting) → MayBegin i →
-    (eres : List (List ℕ)) (code : Code) → AllowsMain (Permits i) code.functions code.rules →
-    (budget : ℕ) (skip : Option ℕ) (items : List Item) (state : RecordState) (out : List ℕ) →
+    AllowsMain (Permits i) i.code.functions i.code.rules →
+    (eres : List (List ℕ)) (budget : ℕ) (skip : Option ℕ) (items : List Item) (state : RecordState) (out : List ℕ) →
     Commuted i
-    (records_from (traced globals.calls) eres code budget skip (store_opening i state out) items)
-    (records_from frozen.calls eres code budget skip (chunk_opening i state out) items)
+    (records_from (traced globals.calls) eres i.code budget skip (store_opening i state out) items)
+    (records_from frozen.calls eres i.code budget skip (chunk_opening i state out) items)
 
 -- where there was no event, the next chunk may begin with the store as it is
 abbrev pub StartsAgain : Type 0

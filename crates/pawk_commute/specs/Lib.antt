@@ -3,3 +3,4 @@ pub mod Settings
 pub mod Agreement
 pub mod Commutation
 pub mod Merging
+pub mod Admitted

@@ -7,17 +7,19 @@ use Rattle.pawk_value.specs.Conversion.{num_of}
 use Rattle.pawk_array.specs.Entries.{Rise, found}
 use Rattle.pawk_world.specs.Worlds.{Cell, scalar, element}
 use Rattle.pawk_store.specs.Globals.{Globals, array_at, value_at}
+use Rattle.pawk_code.specs.Programs.{Code}
 use Rattle.pawk_admit.specs.declared.role.Role.{Role}
 use Rattle.pawk_admit.specs.declared.role.Role.TheVariants.{Fixed, Adder, Setter, Reader}
 use Rattle.pawk_admit.specs.Roles.{Roles, role_of_scalar, role_of_array}
+use Rattle.pawk_admit.specs.Reaches.{Reached}
 use Rattle.pawk_meaning.specs.Lockstep.{Resource, variable_slot, array_slot, function_slot, resource_of_cell}
 use Rattle.pawk_meaning.specs.Lockstep.{Access, looks, reads, writes, changes, tests, walks, runs}
 
--- the roles of the globals, the functions that the main rules reach, the globals as BEGIN left them, from which chunks are
--- run, and the globals from which the same records are run in order
+-- a program and the roles of its globals, the globals as BEGIN left them, from which chunks are run, and the globals from
+-- which the same records are run in order
 pub record Setting : Type 0 where
+  pub code : Code
   pub roles : Roles
-  pub reached : ℕ → Bool
   pub fixed : Globals
   pub start : Globals
 
@@ -30,29 +32,23 @@ role_of roles _ = Fixed
 abbrev pub role_of_cell : Roles → Cell → Role
 role_of_cell roles c = role_of roles (resource_of_cell c)
 
--- there is a slot for it
-abbrev pub IsThere : Resource → Globals → Type 0
-IsThere (variable_slot n) g = n < length g.scalars
-IsThere (array_slot n) g = n < length g.arrays
-IsThere _ g = ⊥
-
 -- the elements of a fixed array and of a reader array may be read
-abbrev pub MayRead : Role → Type 0 → Type 0
-MayRead Fixed there = Unit {0}
-MayRead Adder there = ⊥
-MayRead Setter there = ⊥
-MayRead Reader there = there
+abbrev pub MayRead : Role → Type 0
+MayRead Fixed = Unit {0}
+MayRead Adder = ⊥
+MayRead Setter = ⊥
+MayRead Reader = Unit {0}
 
 -- what a program may do that runs in chunks: look at, test and walk what is fixed, read fixed arrays and reader arrays,
--- put values into setters, add to adders, call what is reached
+-- put values into setters, add to adders, call what its records reach
 abbrev pub Permits : Setting → Access → Resource → Type 0
 Permits i looks (variable_slot n) = role_of_scalar i.roles n ≡ Fixed
-Permits i reads (array_slot n) = MayRead (role_of_array i.roles n) (IsThere (array_slot n) i.fixed)
-Permits i writes r = (role_of i.roles r ≡ Setter) × IsThere r i.fixed
-Permits i (changes sign) r = (role_of i.roles r ≡ Adder) × IsThere r i.fixed
+Permits i reads (array_slot n) = MayRead (role_of_array i.roles n)
+Permits i writes r = role_of i.roles r ≡ Setter
+Permits i (changes sign) r = role_of i.roles r ≡ Adder
 Permits i tests (array_slot n) = role_of_array i.roles n ≡ Fixed
 Permits i walks (array_slot n) = role_of_array i.roles n ≡ Fixed
-Permits i runs (function_slot f) = i.reached f ≡ true
+Permits i runs (function_slot f) = Reached i.code f
 Permits i _ _ = ⊥
 
 -- what is at a cell; an element may be missing
@@ -94,6 +90,7 @@ FitsIfOk (Err f) = Unit {0}
 
 -- what a chunk and the store may begin from
 pub record MayBegin (i : Setting) : Type 0 where
+  pub role_slots : HasSlots i.roles.scalars i.roles.arrays i.fixed
   pub in_order : AreInOrder i.fixed
   pub agrees : AgreesBut i.roles i.fixed i.start
   pub numbers : (c : Cell) → role_of_cell i.roles c ≡ Adder → FitsIfOk (num_of (value_at c i.start))

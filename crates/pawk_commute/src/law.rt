@@ -1,6 +1,7 @@
 // The laws.
 
 ghost use Rattle.pawk_commute.specs.Commutation.{Commutation, StartsAgain};
+ghost use Rattle.pawk_commute.specs.Admitted.{AdmissionAllows};
 ghost use Rattle.pawk_commute.specs.Merging.{MergeTells};
 
 use pawk_meaning::law::{Pairing, lockstep_records};
@@ -41,4 +42,10 @@ pub fn starts_again()
 /// in order, and no other does.
 pub fn merge_tells()
     ensures { MergeTells }
+{}
+
+/// What the main rules of an admissible program and the functions that they reach ask is permitted by
+/// the roles of its globals.
+pub fn admission_allows()
+    ensures { AdmissionAllows }
 {}
