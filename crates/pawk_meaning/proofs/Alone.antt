@@ -11,18 +11,20 @@ use Rattle.pawk_world.specs.Worlds as world
 use Rattle.pawk_store.specs.RecordStates.{RecordState, is_paragraph, with_item}
 use Rattle.pawk_store.specs.Slots.{fs_slot}
 use Rattle.pawk_code.specs.Programs.{Rule, Function, Code}
-use Rattle.pawk_input.specs.Input.{Item}
+use Rattle.pawk_input.specs.Input.{File, Item}
 use Rattle.pawk_meaning.specs.Parts.{Moment, Outcome, gives, halts}
 use Rattle.pawk_meaning.specs.Places.{text_at}
 use Rattle.pawk_meaning.specs.Records.{Left, through, next_file, exit, fault, clash, End, end_of_halt, end_of, run_part, one_record}
-use Rattle.pawk_meaning.specs.Runs.{behind, records_from}
+use Rattle.pawk_meaning.specs.Runs.{Ending, disallowed, behind, records_from, run}
 use Rattle.pawk_meaning.specs.Lockstep.{Access, Resource, Pair, AllHeld, refusal_of, record_state_of, SameAnswer, AreInLockstep, RefusesIn, GoesOn}
 use Rattle.pawk_meaning.specs.Allows.{AllowsMain}
-use Rattle.pawk_meaning.specs.Laws.{IsFinal, RefusalsAreFinal, LeftBy}
+use Rattle.pawk_meaning.specs.Laws.{IsFinal, RefusalsAreFinal, LeftBy, EndingBy, IsNoClash}
 use Rattle.pawk_meaning.specs.Steady.{IsSteady, StaysInFile, HaltsBy, state_behind_record, status_behind, state_behind_records, RecordsKeep, onward, ReadsAnewLaw}
 use Rattle.pawk_meaning.proofs.Later.{Any, Order, Meets}
-use Rattle.pawk_meaning.proofs.Going.{Track, goes_bind}
+use Rattle.pawk_meaning.proofs.Going.{Track, track, goes_bind}
 use Rattle.pawk_meaning.proofs.InRecords.{goes_after_read, goes_rules}
+use Rattle.pawk_meaning.proofs.InRuns.{Program, first_ended}
+use Rattle.pawk_meaning.proofs.Everything.{everything, any_code}
 
 -- ---- a world with itself
 
@@ -101,6 +103,45 @@ alone permits calls steady final = record {
   second = goes_itself permits calls steady final;
   order = line_order permits steady;
 }
+
+-- ---- no clash
+
+abbrev no_clash : Halt → Bool
+no_clash (halt.fault f) = true
+no_clash halt.clash = false
+no_clash halt.next = true
+no_clash halt.next_file = true
+no_clash (halt.exit n) = true
+
+unclashed : {S : Type 0} (r : Option (Halt × S)) → IsNoClash r → RefusesIn (λ h. no_clash h ≡ true) r
+unclashed None h = tt
+unclashed (Some (halt.fault f, s)) h = refl
+unclashed (Some (halt.clash, s)) h = absurd h
+unclashed (Some (halt.next, s)) h = refl
+unclashed (Some (halt.next_file, s)) h = refl
+unclashed (Some (halt.exit n, s)) h = refl
+
+allowed : (ending : Ending) → EndingBy (λ h. no_clash h ≡ true) ending → ending ≡ disallowed → ⊥
+allowed ending h e = let bad : false ≡ true = subst (EndingBy (λ h. no_clash h ≡ true)) e h in absurd cc
+
+module _ {S : Type 0} (calls : Calls S) (never : (q : Request) (s : S) → IsNoClash (refusal_of (calls.ask q s))) where
+  abbrev unclashing : GoesOn everything (λ (s t : S). Unit {0}) calls
+  unclashing = record {
+    here = λ s. tt;
+    then = λ s t u h k. tt;
+    ask = λ q may s. tt;
+    ends = no_clash;
+    at_fault = λ f. refl;
+    at_next = refl;
+    at_next_file = λ may. refl;
+    at_exit = λ n. refl;
+    refuses = λ q may s. unclashed (refusal_of (calls.ask q s)) (never q s);
+  }
+
+  pub never_disallows : (p : Program) (files : List File) (s : S) (state : RecordState) → (run calls p.eres p.code p.budget files s state).ending ≡ disallowed → ⊥
+  never_disallows p files s state =
+      allowed (run calls p.eres p.code p.budget files s state).ending
+      (first_ended (track (itself everything calls) (lockstep_itself everything calls) unclashing unclashing) (λ fs x i. tt) p (any_code p.code) files s s state)
 
 -- ---- one record
 
@@ -247,3 +288,15 @@ reads_anew calls eres code i s t same = (
   λ m. ap (λ x. one_record calls eres code.functions code.rules i (record m { state = x })) (sym same),
   λ budget items e. ap (λ x. records_from calls eres code budget None (record e { state = x }) (i ∷ items)) (sym same),
 )
+
+-- ---- a second part from the state before the first
+
+module _ {S : Type 0} (permits : Access → Resource → Type 0) (calls : Calls S) (steady : IsSteady permits) (final : RefusalsAreFinal calls) (eres : List (List ℕ)) (code : Code) (may : AllowsMain permits code.functions code.rules) (budget : ℕ) where
+  pub records_resume : (items : List Item) (i : Item) (more : List Item) (e : End S) → e.left ≡ through → let f = records_from calls eres code budget None e items in f.left ≡ through → records_from calls eres code budget None f (i ∷ more) ≡ records_from calls eres code budget None (record f { state = record e.state { nr = e.state.nr + length items } }) (i ∷ more)
+  records_resume items i more e h on =
+      let f = records_from calls eres code budget None e items in
+      let k = records_keep permits calls steady final eres code may budget items e h in
+      let kept : f.state ≡ state_behind_records (length k.read) f.left e.state f.state = k.state in
+      let through_it : f.state ≡ state_behind_records (length k.read) through e.state f.state = kept ∙ ap (λ x. state_behind_records (length k.read) x e.state f.state) on in
+      let all : f.state ≡ state_behind_records (length items) through e.state f.state = through_it ∙ ap (λ (l : List Item). state_behind_records (length l) through e.state f.state) (sym (k.all_read on)) in
+      sym ((reads_anew calls eres code i (record e.state { nr = e.state.nr + length items }) f.state all).1 budget more f)

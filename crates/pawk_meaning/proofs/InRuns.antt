@@ -231,7 +231,7 @@ module _ {S T : Type 0} (t : Track S T) where
         second_then = reaches_finish t.pair.permits t.pair.before_second t.pair.second_calls t.second place p' (refusal_of b) (state_of b) k.state k.output f onto' k.second_then;
       }))
 
-module _ {S T : Type 0} (t : Track S T) (keeps : KeepsItems t) (final : RefusalsAreFinal t.pair.first_calls) (final' : RefusalsAreFinal t.pair.second_calls) (p : Program) (may : AllowsCode t.pair.permits p.code) where
+module _ {S T : Type 0} (t : Track S T) (keeps : KeepsItems t) (p : Program) (may : AllowsCode t.pair.permits p.code) where
   abbrev first_calls : Calls S
   first_calls = t.pair.first_calls
 
@@ -284,8 +284,8 @@ module _ {S T : Type 0} (t : Track S T) (keeps : KeepsItems t) (final : Refusals
   records_same (fault x) e f same = same_finish_by t (λ state. fault_at x (at_record state.nr)) e f same
   records_same clash e f same = same_finish t disallowed e f same
 
-  by_rs_in_step : (rs : List ℕ) (files : List File) (e : End S) (f : End T) → SameEnd t.pair e f → FinishInStep t.pair (go_by_rs first_calls p rs files e) (go_by_rs second_calls p rs files f)
-  by_rs_in_step rs files e f same =
+  by_rs_in_step : RefusalsAreFinal t.pair.first_calls → RefusalsAreFinal t.pair.second_calls → (rs : List ℕ) (files : List File) (e : End S) (f : End T) → SameEnd t.pair e f → FinishInStep t.pair (go_by_rs first_calls p rs files e) (go_by_rs second_calls p rs files f)
+  by_rs_in_step final final' rs files e f same =
       let r = records_part first_calls p rs files e in
       let r' = records_part second_calls p rs files f in
       let same' = same_taken t rs e f same in
@@ -299,30 +299,30 @@ module _ {S T : Type 0} (t : Track S T) (keeps : KeepsItems t) (final : Refusals
       (records_in_step t keeps final final' p.eres p.code may.2 p.budget (items rs files) None (take_separator rs e) (take_separator rs f) same'))
       (same_finish t (fault_at faults.Rs (at_record 1)) (take_separator rs e) (take_separator rs f) same')
 
-  begin_same : (files : List File) (left : Left) (e : End S) (f : End T) → SameEnd t.pair e f → FinishInStep t.pair (go_begin first_calls p files left e) (go_begin second_calls p files left f)
-  begin_same files through e f same =
+  begin_same : RefusalsAreFinal t.pair.first_calls → RefusalsAreFinal t.pair.second_calls → (files : List File) (left : Left) (e : End S) (f : End T) → SameEnd t.pair e f → FinishInStep t.pair (go_begin first_calls p files left e) (go_begin second_calls p files left f)
+  begin_same final final' files through e f same =
       let rs = text_of (first_calls.look rs_slot e.world) in
       let rs' = text_of (second_calls.look rs_slot f.world) in
       step_if t (reads_records p.code) (go_by_rs first_calls p rs files e) (go_ends first_calls p e) (go_by_rs second_calls p rs' files f) (go_ends second_calls p f)
-      (subst (λ v. FinishInStep t.pair (go_by_rs first_calls p rs files e) (go_by_rs second_calls p (text_of v) files f)) (t.lockstep.look rs_slot may.1 e.world f.world same.worlds) (by_rs_in_step rs files e f same))
+      (subst (λ v. FinishInStep t.pair (go_by_rs first_calls p rs files e) (go_by_rs second_calls p (text_of v) files f)) (t.lockstep.look rs_slot may.1 e.world f.world same.worlds) (by_rs_in_step final final' rs files e f same))
       (ends_in_step e f same)
-  begin_same files next_file e f same = ends_in_step e f same
-  begin_same files (exit n) e f same = ends_in_step e f same
-  begin_same files (fault x) e f same = same_finish t (fault_at x in_begin) e f same
-  begin_same files clash e f same = same_finish t disallowed e f same
+  begin_same final final' files next_file e f same = ends_in_step e f same
+  begin_same final final' files (exit n) e f same = ends_in_step e f same
+  begin_same final final' files (fault x) e f same = same_finish t (fault_at x in_begin) e f same
+  begin_same final final' files clash e f same = same_finish t disallowed e f same
 
   module _ (files : List File) (s : S) (u : T) (state : RecordState) where
     abbrev opening_end : {Q : Type 0} → Q → End Q
     opening_end q = record { world = q; state = state; output = []; left = through }
 
-    pub run_in_step : t.pair.alike s u → FinishInStep t.pair (run first_calls p.eres p.code p.budget files s state) (run second_calls p.eres p.code p.budget files u state)
-    run_in_step related =
+    pub run_in_step : RefusalsAreFinal t.pair.first_calls → RefusalsAreFinal t.pair.second_calls → t.pair.alike s u → FinishInStep t.pair (run first_calls p.eres p.code p.budget files s state) (run second_calls p.eres p.code p.budget files u state)
+    run_in_step final final' related =
         let r = begin_part first_calls p s state in
         let r' = begin_part second_calls p u state in
         pass_in_step t (λ state. in_begin) (λ state. tt) (begin_passage first_calls p files) (begin_passage second_calls p files) r r'
         (λ left. begin_onto p first_run files left r)
         (λ left. begin_onto p second_run files left r')
-        (λ left. begin_same files left r r')
+        (λ left. begin_same final final' files left r r')
         (part_in_step p.budget goes_begins (opening_end s) (opening_end u) (record { worlds = related; states = refl; outputs = refl; lefts = refl }))
 
     pub first_ended : EndingBy (EndsBy t.first) (run first_calls p.eres p.code p.budget files s state).ending

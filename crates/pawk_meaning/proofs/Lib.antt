@@ -5,3 +5,4 @@ pub mod InStatements
 pub mod InRecords
 pub mod InRuns
 pub mod Alone
+pub mod Everything

@@ -180,3 +180,21 @@ RunLaw {S} {T} w =
     (run w.second_calls eres code budget files t state)
     × EndingBy (EndsBy on) (run w.first_calls eres code budget files s state).ending
     × EndingBy (EndsBy on') (run w.second_calls eres code budget files t state).ending
+
+-- ---- one world
+
+-- no clash
+abbrev pub IsNoClash : {S : Type 0} → Option (Halt × S) → Type 0
+IsNoClash None = Unit {0}
+IsNoClash (Some (halt.fault f, s)) = Unit {0}
+IsNoClash (Some (halt.clash, s)) = ⊥
+IsNoClash (Some (halt.next, s)) = Unit {0}
+IsNoClash (Some (halt.next_file, s)) = Unit {0}
+IsNoClash (Some (halt.exit n, s)) = Unit {0}
+
+-- a world that answers no request with a clash disallows no program
+abbrev pub NeverDisallowsLaw : {S : Type 0} → Calls S → Type 0
+NeverDisallowsLaw {S} calls =
+    ((q : Request) (s : S) → IsNoClash (refusal_of (calls.ask q s))) →
+    (eres : List (List ℕ)) (code : Code) (budget : ℕ) (files : List File) (s : S) (state : RecordState) →
+    (run calls eres code budget files s state).ending ≡ disallowed → ⊥

@@ -109,6 +109,20 @@ RecordsFollowLaw {S} permits calls =
     records_from calls eres code budget None e (items ++ more)
     ≡ onward (λ g. records_from calls eres code budget None g more) f.left f
 
+-- Behind a first part the second one, of which there is a record, may be run from the record state before the first, with NR
+-- moved on by as many records.
+abbrev pub RecordsResumeLaw : {S : Type 0} → (Access → Resource → Type 0) → Calls S → Type 0
+RecordsResumeLaw {S} permits calls =
+    IsSteady permits → RefusalsAreFinal calls →
+    (eres : List (List ℕ)) (code : Code) → AllowsMain permits code.functions code.rules →
+    (budget : ℕ) (items : List Item) (i : Item) (more : List Item) (e : End S) → e.left ≡ through →
+    let f = records_from calls eres code budget None e items in
+    f.left ≡ through →
+    records_from calls eres code budget None f (i ∷ more)
+    ≡ records_from calls eres code budget None
+    (record f { state = record e.state { nr = e.state.nr + length items } })
+    (i ∷ more)
+
 -- ---- what a record reads
 
 -- the same but for the record, FNR and FILENAME

@@ -2,8 +2,10 @@
 
 ghost use Rattle.pawk_world.specs.Worlds.{Calls};
 ghost use Rattle.pawk_meaning.specs.Lockstep.{Access, Resource, Pair};
-ghost use Rattle.pawk_meaning.specs.Laws.{StatementsLaw, RecordLaw, ActionsLaw, RecordsLaw, RunLaw};
-ghost use Rattle.pawk_meaning.specs.Steady.{RecordKeepsLaw, RecordsKeepLaw, RecordsFollowLaw, ReadsAnewLaw};
+ghost use Rattle.pawk_meaning.specs.Laws.{StatementsLaw, RecordLaw, ActionsLaw, RecordsLaw};
+ghost use Rattle.pawk_meaning.specs.Laws.{RunLaw, NeverDisallowsLaw};
+ghost use Rattle.pawk_meaning.specs.Steady.{RecordKeepsLaw, RecordsKeepLaw, RecordsFollowLaw};
+ghost use Rattle.pawk_meaning.specs.Steady.{RecordsResumeLaw, ReadsAnewLaw};
 
 /// Two worlds for each setting, as their definitions have them: the meaning of each one's calls, a
 /// relation of their states, an order of each one's states in which its calls go on, what a program
@@ -46,8 +48,8 @@ pub fn lockstep_actions<P: Pairing>()
     ensures { (i : P.Setting) → ActionsLaw (P.pair i) }
 {}
 
-/// The same for a whole run: BEGIN, the records of files by RS as it is then, and END; and how the run
-/// over each world may end (POSIX.1-2017, awk, "Overall Program Structure").
+/// The same for a whole run: BEGIN, the records of files by RS as it is then, and END; and how the
+/// run over each world may end (POSIX.1-2017, awk, "Overall Program Structure").
 pub fn lockstep_run<P: Pairing>()
     ensures { (i : P.Setting) → RunLaw (P.pair i) }
 {}
@@ -71,14 +73,15 @@ pub trait Policy {
     ghost permits: { Setting → Access → Resource → Type 0 };
 }
 
-/// What one record leaves of the record state, where `match`, ranges and `nextfile` are not
-/// permitted: of all but the record, `NR`, `FNR` and `FILENAME` it leaves what was there, and it does
-/// not leave its file. A law, which takes and leaves nothing.
+/// One record where `match`, ranges and `nextfile` are not permitted: it changes nothing of the
+/// record state but the record, `NR`, `FNR` and `FILENAME`, and does not leave its file. A law, which
+/// takes and leaves nothing.
 pub fn record_keeps<P: Policy>()
     ensures { (i : P.Setting) → RecordKeepsLaw (P.permits i) (P.calls i) }
 {}
 
-/// The same for a list of records: they are read up to one that ends the run, and `NR` counts them.
+/// The same for a list of records: they are read up to one that ends the run, `NR` counts them, and
+/// `exit` gives its status.
 pub fn records_keep<P: Policy>()
     ensures { (i : P.Setting) → RecordsKeepLaw (P.permits i) (P.calls i) }
 {}
@@ -88,7 +91,18 @@ pub fn records_follow<P: Policy>()
     ensures { (i : P.Setting) → RecordsFollowLaw (P.permits i) (P.calls i) }
 {}
 
+/// The second part may be run from the record state before the first one, with `NR` moved on by as
+/// many records.
+pub fn records_resume<P: Policy>()
+    ensures { (i : P.Setting) → RecordsResumeLaw (P.permits i) (P.calls i) }
+{}
+
 /// A record does not look at the record, `FNR` and `FILENAME` of before, of any program.
 pub fn reads_anew<P: Policy>()
     ensures { (i : P.Setting) → ReadsAnewLaw (P.calls i) }
+{}
+
+/// Over a world that answers no request with a clash no run of any program is disallowed.
+pub fn never_disallows<P: Policy>()
+    ensures { (i : P.Setting) → NeverDisallowsLaw (P.calls i) }
 {}

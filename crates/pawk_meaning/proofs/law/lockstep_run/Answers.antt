@@ -6,7 +6,7 @@ pub returns : goal.returns
 returns g c = λ i step on on' final final' eres code may budget files s u state related.
     let t = track (g.P.Pairing.pair i) step on on' in
     let p : Program = record { eres = eres; code = code; budget = budget } in (
-      run_in_step t (λ fs s x. tt) final final' p may files s u state related,
-      first_ended t (λ fs s x. tt) final final' p may files s u state,
-      second_ended t (λ fs s x. tt) final final' p may files s u state,
+      run_in_step t (λ fs s x. tt) p may files s u state final final' related,
+      first_ended t (λ fs s x. tt) p may files s u state,
+      second_ended t (λ fs s x. tt) p may files s u state,
     )
