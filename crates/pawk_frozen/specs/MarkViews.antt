@@ -1,6 +1,8 @@
 -- Marks of the code.
-use Rattle.std.specs.Prelude.{◌≡◌, ℕ, false, List, [], ◌∷◌, Some, Vec, if◌then◌else◌, slice_get}
+use Rattle.std.specs.Prelude.{◌≡◌, ℕ, true, List, [], ◌∷◌, Some, Vec, if◌then◌else◌, slice_get}
 use Rattle.std.specs.declared.alloc.Global.{Global}
+use Rattle.std.specs.FinMap.Entries.{is_sorted}
+use Rattle.pawk_array.specs.Entries.{order}
 use Rattle.pawk_value.specs.Fault.TheVariants as fault
 use Rattle.pawk_value.specs.Value.{shown}
 use Rattle.pawk_world.specs.Halts as halt
@@ -25,6 +27,10 @@ abbrev pub marks_of : List (Vec ℕ Global × Code) → Marks
 marks_of [] = []
 marks_of (e ∷ es) = put_mark e.0.items (mark_view e.1) (marks_of es)
 
+-- the keys rise strictly
+abbrev pub Rise : Marks → Type 0
+Rise marks = is_sorted order marks ≡ true
+
 -- at this place is the pair of the key
 abbrev pub HasKeyAt : List (Vec ℕ Global × Code) → ℕ → List ℕ → Type 0
 HasKeyAt es place k = (e : Vec ℕ Global × Code) × (slice_get es place ≡ Some e) × (e.0.items ≡ k)
@@ -32,13 +38,6 @@ HasKeyAt es place k = (e : Vec ℕ Global × Code) × (slice_get es place ≡ So
 -- a mark is kept where its sum may still be one; else what was there stays
 abbrev pub kept : {S : Type 0} → Mark → S → S → Answer S (Unit {0})
 kept (summed total least greatest) new old = if is_sum total then gives tt new else halts (halt.fault fault.Overflow) old
-kept blank new old = gives tt new
-kept (last_put v) new old = gives tt new
-kept created new old = gives tt new
-
--- a mark whose sum is no more one of a chunk
-abbrev pub IsTooGreat : Mark → Type 0
-IsTooGreat (summed total least greatest) = is_sum total ≡ false
-IsTooGreat blank = ⊥
-IsTooGreat (last_put v) = ⊥
-IsTooGreat created = ⊥
+kept blank new old = gives tt old
+kept (last_put v) new old = gives tt old
+kept created new old = gives tt old

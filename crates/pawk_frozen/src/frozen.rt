@@ -108,8 +108,10 @@ impl<'a> World for Frozen<'a> {
         sign: Sign,
         amount: Result<i64, Fault>,
     ) -> Result<(), Halt> {
-        let amount = amount?;
-        self.table.add_scalar(slot, sign, amount)
+        match amount {
+            Ok(number) => self.table.add_scalar(slot, sign, number),
+            Err(fault) => Err(Halt::Fault(fault)),
+        }
     }
 
     fn element(&mut self, array: usize, key: &[u8], out: &mut Vec<u8>) -> Result<Held, Halt> {
@@ -145,8 +147,10 @@ impl<'a> World for Frozen<'a> {
         sign: Sign,
         amount: Result<i64, Fault>,
     ) -> Result<(), Halt> {
-        let amount = amount?;
-        self.table.add_element(array, key, sign, amount)
+        match amount {
+            Ok(number) => self.table.add_element(array, key, sign, number),
+            Err(fault) => Err(Halt::Fault(fault)),
+        }
     }
 
     fn holds(&mut self, array: usize, key: &[u8]) -> Result<bool, Halt> {

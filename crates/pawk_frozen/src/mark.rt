@@ -1,15 +1,16 @@
 //! What a chunk notes of one cell.
 
-ghost use Rattle.std.specs.Prelude.{◌≡◌, ◌≢◌, ◌+ℤ◌, true, false, IfErr, IfNone, IfOk, IfSome, OnOk};
+ghost use Rattle.std.specs.Prelude.{◌≡◌, ◌≢◌, ◌+ℤ◌, true, false, IfSome, IfNone, OnErr, OnOk, OnSome};
 ghost use Rattle.pawk_value.specs.Value.{lent_value};
-ghost use Rattle.pawk_value.specs.Fault.TheVariants.{Overflow};
+ghost use Rattle.pawk_world.specs.Answers.{Answers};
 ghost use Rattle.pawk_frozen.specs.Marks.{blank, last_put, with_amount};
 ghost use Rattle.pawk_frozen.specs.Frozens.{signed_amount};
 ghost use Rattle.pawk_frozen.specs.Frozens as spec;
-ghost use Rattle.pawk_frozen.specs.MarkViews.{IsTooGreat, mark_view, sums_view};
+ghost use Rattle.pawk_frozen.specs.MarkViews.{kept, mark_view, sums_view};
 
 use pawk_code::word::Sign;
 use pawk_value::{Fault, Value, ValueRef, assign, copy_lent};
+use pawk_world::Halt;
 use std::alloc::{AllocError, Global};
 
 /// A sum of amounts, and the least and the greatest of the sums of the first one, of the first two, and
@@ -75,7 +76,7 @@ fn first_sums(amount: i128) -> Sums
 fn next_sums(sums: &Sums, amount: i128) -> Option<Sums>
     ensures sums { IfSome result
         (λ next. sums_view next ≡ with_amount amount (sums_view sums.now)) }
-    ensures small { IfSome result (λ next. spec.is_sum next.total ≡ true) }
+    ensures small { OnSome result (spec.is_sum (sums.now.total +ℤ amount) ≡ true) }
     ensures great { IfNone result (spec.is_sum (sums.now.total +ℤ amount) ≡ false) }
 {
     let total = sums.total.checked_add(amount)?;
@@ -90,23 +91,29 @@ fn next_sums(sums: &Sums, amount: i128) -> Option<Sums>
 }
 
 impl Mark {
-    /// The sums of a mark with one more amount, which is added or taken away.
+    /// Notes an amount that is added, or taken away.
     ///
-    /// Fault `overflow` where the total passes 2^64 in size; then amounts were added before.
+    /// Fault `overflow` where the total passes 2^64 in size; then amounts were added before, and the mark
+    /// is as it was.
     #[inline]
-    pub(crate) fn with_amount(&self, sign: Sign, amount: i64) -> Result<Sums, Fault>
-        ensures sums { IfOk result (λ sums.
-            sums_view sums ≡ with_amount (signed_amount sign amount) (mark_view self.now)) }
-        ensures small { IfOk result (λ sums. spec.is_sum sums.total ≡ true) }
-        ensures fault { IfErr result (λ fault. fault ≡ Overflow) }
-        ensures great { IfErr result (λ _.
-            IsTooGreat (with_amount (signed_amount sign amount) (mark_view self.now))) }
-        ensures before { IfErr result (λ _. mark_view self.now ≢ blank) }
+    pub(crate) fn add(&mut self, sign: Sign, amount: i64) -> Result<(), Halt>
+        ensures answer { let mark = with_amount (signed_amount sign amount) (mark_view self.old) in
+            Answers (λ _. tt) (kept mark mark (mark_view self.old)) result (mark_view self.new) }
+        ensures before { OnErr result (mark_view self.old ≢ blank) }
     {
         let amount = signed(sign, amount);
         match self {
-            Mark::Summed(sums) => next_sums(sums, amount).ok_or(Fault::Overflow),
-            Mark::Blank | Mark::Put(_) | Mark::Created => Ok(first_sums(amount)),
+            Mark::Summed(sums) => {
+                let Some(next) = next_sums(sums, amount) else {
+                    return Err(Halt::Fault(Fault::Overflow));
+                };
+                *sums = next;
+                Ok(())
+            }
+            Mark::Blank | Mark::Put(_) | Mark::Created => {
+                *self = Mark::Summed(first_sums(amount));
+                Ok(())
+            }
         }
     }
 

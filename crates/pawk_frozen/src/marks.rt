@@ -9,7 +9,7 @@ ghost use Rattle.pawk_array.specs.Entries.{order};
 ghost use Rattle.pawk_world.specs.Answers.{Answers};
 ghost use Rattle.pawk_frozen.specs.Marks.{created, last_put, mark_found, put_mark, with_amount};
 ghost use Rattle.pawk_frozen.specs.Frozens.{signed_amount};
-ghost use Rattle.pawk_frozen.specs.MarkViews.{HasKeyAt, kept, mark_view, marks_of};
+ghost use Rattle.pawk_frozen.specs.MarkViews.{HasKeyAt, Rise, kept, mark_view, marks_of};
 ghost use Rattle.pawk_frozen.specs.MarkLending.{LendsMark};
 
 use crate::mark::Mark;
@@ -98,6 +98,7 @@ impl Marks {
     fn entry(&mut self, key: &[u8]) -> Result<&mut Mark, AllocError>
         ensures* writes_back { sem 𝓛 (LendsMark self.entry key.now result) }
         ensures value { IfOk result (λ mark. mark_view mark.now ≡ mark_found key.now self.old) }
+        ensures rise { OnOk result (Rise self.old) }
     {
         let place = place_of(self.alloc, &mut self.map, key)?;
         Ok(self.map.get_index_mut(place).unwrap())
@@ -112,9 +113,7 @@ impl Marks {
             Answers (λ _. tt) (kept mark (put_mark key.now mark self.old) self.old) result self.new }
     {
         let mark = self.entry(key)?;
-        let sums = mark.with_amount(sign, amount)?;
-        *mark = Mark::Summed(sums);
-        Ok(())
+        mark.add(sign, amount)
     }
 
     /// Notes that an element is set, in the room that the value before has for its text.

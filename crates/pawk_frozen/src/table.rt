@@ -103,8 +103,7 @@ impl Table {
             result self.new }
     {
         if slot < self.scalars.len() {
-            let sums = self.scalars[slot].with_amount(sign, amount)?;
-            self.scalars[slot] = Mark::Summed(sums);
+            return self.scalars[slot].add(sign, amount);
         }
         Ok(())
     }

@@ -1,0 +1,4 @@
+pub mod KeyLemmas
+pub mod PairLemmas
+pub mod KeptLemmas
+pub mod TableLemmas
