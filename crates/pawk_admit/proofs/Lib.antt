@@ -1,4 +1,7 @@
 mod Appends
 mod Closures
+mod MarkLaws
 mod MarkTables
+mod ReasonLaws
+mod RoleLaws
 mod Shapes

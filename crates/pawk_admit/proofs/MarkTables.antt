@@ -2,7 +2,6 @@
 use Rattle.std.proofs.Common.{◌≡◌, ℕ, zero, suc, replicate, get_or, refl, ap, ◌∙◌}
 use Rattle.pawk_admit.specs.declared.occurrence.Name.{Name}
 use Rattle.pawk_admit.specs.declared.occurrence.Name.TheVariants.{Scalar, Array}
-use Rattle.pawk_admit.specs.declared.marks.Marks.{Marks}
 use Rattle.pawk_admit.specs.declared.marks.Tables.{Tables}
 use Rattle.pawk_admit.specs.Marks.{nothing, marks_of}
 

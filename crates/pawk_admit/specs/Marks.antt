@@ -1,5 +1,5 @@
 -- What is done with each name, as a table keeps it.
-use Rattle.std.specs.Prelude.{ℕ, nat_eq, Bool, true, false, List, [], ◌∷◌, slice_index_or, if◌then◌else◌}
+use Rattle.std.specs.Prelude.{◌≡◌, ℕ, nat_eq, Bool, true, false, List, [], ◌∷◌, slice_index_or, if◌then◌else◌}
 use Rattle.pawk_admit.specs.declared.occurrence.Touch.{Touch}
 use Rattle.pawk_admit.specs.declared.occurrence.Touch.TheVariants.{Look, Set, Assign, Add, AddAndLook, Test, Walk, Split, Pass, Delete}
 use Rattle.pawk_admit.specs.declared.occurrence.Name.{Name}
@@ -52,3 +52,7 @@ marks_at table n = slice_index_or table n nothing
 abbrev pub marks_of : Tables → Name → Marks
 marks_of tables (Scalar n) = marks_at tables.scalars.items n
 marks_of tables (Array n) = marks_at tables.arrays.items n
+
+-- the tables are those of the list
+abbrev pub AreTables : List Occurrence → Tables → Type 0
+AreTables list tables = (name : Name) → marks_of tables name ≡ marks_among list name

@@ -17,7 +17,7 @@ use Rattle.pawk_code.specs.Expressions.{format_of, Argument, pass, pass_array, A
 use Rattle.pawk_code.specs.Statements.{Simple, drop, set, add, count, print, printf, delete, clear, Leave, break, continue, next_record}
 use Rattle.pawk_code.specs.Statements.{next_file, exit, return, Head, Stmt, simple, leave, when, choose, repeat, do_while, loop, walk}
 use Rattle.pawk_code.specs.Statements.{Stmts, done, next}
-use Rattle.pawk_code.specs.Programs.{Selector, always, matching, between, Rule, Function, Code}
+use Rattle.pawk_code.specs.Programs.{Selector, always, matching, between, Rule, Function}
 use Rattle.pawk_admit.specs.declared.occurrence.Touch.{Touch}
 use Rattle.pawk_admit.specs.declared.occurrence.Touch.TheVariants as touch
 use Rattle.pawk_admit.specs.declared.occurrence.Name.TheVariants as name

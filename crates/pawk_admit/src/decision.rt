@@ -1,10 +1,10 @@
 //! Whether a reason holds, from what stands in a text and from its tables.
 
-ghost use Rattle.std.specs.Prelude.{◌≡◌, ℕ, ¬◌, false, true, IsTrue, IfSome, IfNone, Some, Contains};
+ghost use Rattle.std.specs.Prelude.{◌≡◌, ℕ, false, true, IsTrue, IfSome, IfNone, Some, Contains};
 ghost use Rattle.pawk_admit.specs.declared.occurrence.Name.{Name as NameOfText};
 ghost use Rattle.pawk_admit.specs.declared.occurrence.Occurrence.{Occurrence as OccurrenceOfText};
 ghost use Rattle.pawk_admit.specs.declared.reason.Reason.{Reason as ReasonOfText};
-ghost use Rattle.pawk_admit.specs.Marks.{marks_at};
+ghost use Rattle.pawk_admit.specs.Marks.{marks_at, AreTables};
 ghost use Rattle.pawk_admit.specs.Admission.{Holds, IsFirst};
 ghost use Rattle.pawk_admit.specs.Decisions as spec;
 
@@ -99,4 +99,53 @@ fn array_clashes(reason: Reason, table: &[Marks]) -> bool
         }
     }
     false
+}
+
+/// Whether the reason holds of a text of which the tables are.
+fn holds(list: &[Occurrence], tables: &Tables, reason: Reason) -> bool
+    requires { AreTables list.now tables.now }
+    ensures yes { IsTrue result → Holds (Contains list.now) reason }
+    ensures no { result ≡ false → ¬ Holds (Contains list.now) reason }
+{
+    if is_shown(list, reason) {
+        return true;
+    }
+    if scalar_clashes(reason, &tables.scalars) {
+        return true;
+    }
+    array_clashes(reason, &tables.arrays)
+}
+
+/// The first reason that holds of a text of which the tables are, if there is one.
+pub fn first_reason(list: &[Occurrence], tables: &Tables) -> Option<Reason>
+    requires { AreTables list.now tables.now }
+    ensures some { IfSome result (λ reason. IsFirst (Contains list.now) reason) }
+    ensures none { IfNone result ((reason : ReasonOfText) →
+        ¬ Holds (Contains list.now) reason) }
+{
+    if holds(list, tables, Reason::Assignment) {
+        return Some(Reason::Assignment);
+    }
+    if holds(list, tables, Reason::Addition) {
+        return Some(Reason::Addition);
+    }
+    if holds(list, tables, Reason::Range) {
+        return Some(Reason::Range);
+    }
+    if holds(list, tables, Reason::Match) {
+        return Some(Reason::Match);
+    }
+    if holds(list, tables, Reason::Split) {
+        return Some(Reason::Split);
+    }
+    if holds(list, tables, Reason::Passing) {
+        return Some(Reason::Passing);
+    }
+    if holds(list, tables, Reason::Value) {
+        return Some(Reason::Value);
+    }
+    if holds(list, tables, Reason::NextFile) {
+        return Some(Reason::NextFile);
+    }
+    None
 }

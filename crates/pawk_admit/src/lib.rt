@@ -1,14 +1,16 @@
 //! Which programs may run in chunks, and why not.
 #![tactic(auto)]
 
+mod admission;
 mod decision;
 pub mod expression;
-pub mod occurrence;
 mod marks;
+pub mod occurrence;
 mod reach;
 mod reason;
 mod role;
 mod statement;
 
+pub use admission::admit;
 pub use reason::Reason;
 pub use role::{Role, Roles};

@@ -111,8 +111,7 @@ impl Tables {
     ) -> Result<Tables, AllocError>
         ensures scalars { IfOk result (λ tables. scalars ≤ vec_len tables.scalars) }
         ensures arrays { IfOk result (λ tables. arrays ≤ vec_len tables.arrays) }
-        ensures marks { IfOk result (λ tables. (name : NameOfText) →
-            spec.marks_of tables name ≡ spec.marks_among list.now name) }
+        ensures marks { IfOk result (λ tables. spec.AreTables list.now tables) }
     {
         let mut tables = Tables {
             scalars: vec![in alloc; Marks::none(); scalars]?,

@@ -1,7 +1,10 @@
 //! Why a program may not run in chunks.
 
 ghost use Rattle.std.specs.Prelude.{◌≡◌};
+ghost use Rattle.pawk_admit.specs.declared.reason.Reason.TheVariants.{Memory};
 ghost use Rattle.pawk_admit.specs.Admission as spec;
+
+use std::alloc::AllocError;
 
 /// Why a program may not run in chunks, in the order in which reasons are told.
 #[derive(Clone, Copy, PartialEq, Eq)]
@@ -42,5 +45,13 @@ impl Reason {
             Reason::Memory => 8,
             Reason::NextFile => 9,
         }
+    }
+}
+
+impl From<AllocError> for Reason {
+    ghost from_gives = { λ _ reason. reason ≡ Memory };
+
+    fn from(_: AllocError) -> Reason {
+        Reason::Memory
     }
 }

@@ -1,4 +1,4 @@
-use Rattle.std.proofs.Common.{◌≡◌, ◌<◌, length, map, arith, rules, ap, ◌∙◌}
+use Rattle.std.proofs.Common.{◌≡◌, ◌<◌, length, map, arith, ap, ◌∙◌}
 use Rattle.pawk_code.specs.ProgramViews.{code_view, function_view}
 use Rattle.pawk_admit.proofs.Closures.{step_of_call, step_of_other, finish}
 use Rattle.pawk_admit.proofs.reach.occurrences.Goals as goal
