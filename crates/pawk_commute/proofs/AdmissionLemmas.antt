@@ -163,6 +163,16 @@ module _ (i : Setting) (no : IsAdmissible i.code) (are : AreRoles (Occurs i.code
   second : (os qs : List Occurrence) → Among (os ++ qs) → Among qs
   second os qs h o c = h o (Contains-append_right os qs o c)
 
+  -- of three lists
+  first_of : (os qs rs : List Occurrence) → Among (os ++ qs ++ rs) → Among os
+  first_of os qs rs h = first os qs (first (os ++ qs) rs h)
+
+  second_of : (os qs rs : List Occurrence) → Among (os ++ qs ++ rs) → Among qs
+  second_of os qs rs h = second os qs (first (os ++ qs) rs h)
+
+  third_of : (os qs rs : List Occurrence) → Among (os ++ qs ++ rs) → Among rs
+  third_of os qs rs h = second (os ++ qs) rs h
+
   head : (o : Occurrence) (os : List Occurrence) → Among (o ∷ os) → Stands o
   head o os h = h o (zero, omega arith, refl)
 
@@ -244,9 +254,9 @@ module _ (i : Setting) (no : IsAdmissible i.code) (are : AreRoles (Occurs i.code
     expression_in (textual t) h = textual_in t h
     expression_in (read p) h = (place_in touch.Look p h, reads_place p h)
     expression_in (choice c a b) h = (
-      expression_in c (first (of_expression c) (of_expression a ++ of_expression b) h),
-      expression_in a (first (of_expression a) (of_expression b) (second (of_expression c) (of_expression a ++ of_expression b) h)),
-      expression_in b (second (of_expression a) (of_expression b) (second (of_expression c) (of_expression a ++ of_expression b) h)),
+      expression_in c (first_of (of_expression c) (of_expression a) (of_expression b) h),
+      expression_in a (second_of (of_expression c) (of_expression a) (of_expression b) h),
+      expression_in b (third_of (of_expression c) (of_expression a) (of_expression b) h),
     )
     expression_in (assign p e) h =
         let at = first (of_place touch.Assign p) (of_expression e) h in
@@ -275,19 +285,17 @@ module _ (i : Setting) (no : IsAdmissible i.code) (are : AreRoles (Occurs i.code
         (place_in touch.AddAndLook p h, touches.1, touches.2)
     numeric_in (function f) h = function_in f h
     numeric_in (split e a by) h =
-        let rest = second (of_expression e) (of_array touch.Split a ++ of_fields_by by) h in
-        let of_a = first (of_array touch.Split a) (of_fields_by by) rest in (
-          expression_in e (first (of_expression e) (of_array touch.Split a ++ of_fields_by by) h),
-          fields_by_in by (second (of_array touch.Split a) (of_fields_by by) rest),
+        let of_a = second_of (of_expression e) (of_array touch.Split a) (of_fields_by by) h in (
+          expression_in e (first_of (of_expression e) (of_array touch.Split a) (of_fields_by by) h),
+          fields_by_in by (third_of (of_expression e) (of_array touch.Split a) (of_fields_by by) h),
           never_array touch.Split clears a not_split of_a,
           never_array touch.Split writes a not_split of_a,
         )
     numeric_in (replace c p r to) h =
-        let rest = second (of_pattern p) (of_expression r ++ of_place touch.Assign to) h in
-        let at = second (of_expression r) (of_place touch.Assign to) rest in
+        let at = third_of (of_pattern p) (of_expression r) (of_place touch.Assign to) h in
         let touches = assigns_place touch.Assign to not_assigned at in (
-          pattern_in p (first (of_pattern p) (of_expression r ++ of_place touch.Assign to) h),
-          expression_in r (first (of_expression r) (of_place touch.Assign to) rest),
+          pattern_in p (first_of (of_pattern p) (of_expression r) (of_place touch.Assign to) h),
+          expression_in r (second_of (of_pattern p) (of_expression r) (of_place touch.Assign to) h),
           place_in touch.Assign to at,
           touches.0,
           touches.2,
@@ -315,9 +323,9 @@ module _ (i : Setting) (no : IsAdmissible i.code) (are : AreRoles (Occurs i.code
     textual_in (join es) h = expressions_in es h
     textual_in (suffix e a) h = (expression_in e (first (of_expression e) (of_expression a) h), expression_in a (second (of_expression e) (of_expression a) h))
     textual_in (substring e a b) h = (
-      expression_in e (first (of_expression e) (of_expression a ++ of_expression b) h),
-      expression_in a (first (of_expression a) (of_expression b) (second (of_expression e) (of_expression a ++ of_expression b) h)),
-      expression_in b (second (of_expression a) (of_expression b) (second (of_expression e) (of_expression a ++ of_expression b) h)),
+      expression_in e (first_of (of_expression e) (of_expression a) (of_expression b) h),
+      expression_in a (second_of (of_expression e) (of_expression a) (of_expression b) h),
+      expression_in b (third_of (of_expression e) (of_expression a) (of_expression b) h),
     )
     textual_in (letters c e) h = expression_in e h
     textual_in (formatted f es) h = (format_in f (first (of_format f) (of_expressions es) h), expressions_in es (second (of_format f) (of_expressions es) h))
@@ -383,12 +391,11 @@ module _ (i : Setting) (no : IsAdmissible i.code) (are : AreRoles (Occurs i.code
   if_any_in (Some e) h = expression_in e h
 
   head_in : (k : Head) → Among (of_head k) → AllowsHead P k
-  head_in k h =
-      let rest = second (of_simple_if_any k.first) (of_expression_if_any k.condition ++ of_simple_if_any k.last) h in (
-        simple_if_any_in k.first (first (of_simple_if_any k.first) (of_expression_if_any k.condition ++ of_simple_if_any k.last) h),
-        if_any_in k.condition (first (of_expression_if_any k.condition) (of_simple_if_any k.last) rest),
-        simple_if_any_in k.last (second (of_expression_if_any k.condition) (of_simple_if_any k.last) rest),
-      )
+  head_in k h = (
+    simple_if_any_in k.first (first_of (of_simple_if_any k.first) (of_expression_if_any k.condition) (of_simple_if_any k.last) h),
+    if_any_in k.condition (second_of (of_simple_if_any k.first) (of_expression_if_any k.condition) (of_simple_if_any k.last) h),
+    simple_if_any_in k.last (third_of (of_simple_if_any k.first) (of_expression_if_any k.condition) (of_simple_if_any k.last) h),
+  )
 
   assigns_variable : (k : Variable) → Among (of_variable touch.Assign k) → TouchesVariable P writes k
   assigns_variable (variable.Global n) h = absurd (not_assigned (name.Scalar n) (head _ [] h))
@@ -399,18 +406,19 @@ module _ (i : Setting) (no : IsAdmissible i.code) (are : AreRoles (Occurs i.code
     statement_in (simple s) h = simple_in s h
     statement_in (leave l) h = leave_in l h
     statement_in (when c a) h = (expression_in c (first (of_expression c) (of_body a) h), body_in a (second (of_expression c) (of_body a) h))
-    statement_in (choose c a b) h =
-        let rest = second (of_expression c) (of_body a ++ of_body b) h in
-        (expression_in c (first (of_expression c) (of_body a ++ of_body b) h), body_in a (first (of_body a) (of_body b) rest), body_in b (second (of_body a) (of_body b) rest))
+    statement_in (choose c a b) h = (
+      expression_in c (first_of (of_expression c) (of_body a) (of_body b) h),
+      body_in a (second_of (of_expression c) (of_body a) (of_body b) h),
+      body_in b (third_of (of_expression c) (of_body a) (of_body b) h),
+    )
     statement_in (repeat c a) h = (expression_in c (first (of_expression c) (of_body a) h), body_in a (second (of_expression c) (of_body a) h))
     statement_in (do_while a c) h = (body_in a (second (of_expression c) (of_body a) h), expression_in c (first (of_expression c) (of_body a) h))
     statement_in (loop k a) h = (head_in k (first (of_head k) (of_body a) h), body_in a (second (of_head k) (of_body a) h))
-    statement_in (walk k a body) h =
-        let rest = second (of_variable touch.Assign k) (of_array touch.Walk a ++ of_body body) h in (
-          assigns_variable k (first (of_variable touch.Assign k) (of_array touch.Walk a ++ of_body body) h),
-          walks_array a (first (of_array touch.Walk a) (of_body body) rest),
-          body_in body (second (of_array touch.Walk a) (of_body body) rest),
-        )
+    statement_in (walk k a body) h = (
+      assigns_variable k (first_of (of_variable touch.Assign k) (of_array touch.Walk a) (of_body body) h),
+      walks_array a (second_of (of_variable touch.Assign k) (of_array touch.Walk a) (of_body body) h),
+      body_in body (third_of (of_variable touch.Assign k) (of_array touch.Walk a) (of_body body) h),
+    )
 
     body_in : (body : Stmts) → Among (of_body body) → AllowsStmts P body
     body_in done h = tt
@@ -425,12 +433,11 @@ module _ (i : Setting) (no : IsAdmissible i.code) (are : AreRoles (Occurs i.code
 
   rules_in : (rs : List Rule) → Among (of_rules rs) → AllowsRules P rs
   rules_in [] h = tt
-  rules_in (r ∷ rs) h =
-      let rest = second (of_selector r.selector) (of_body r.body ++ of_rules rs) h in (
-        selector_in r.selector (first (of_selector r.selector) (of_body r.body ++ of_rules rs) h),
-        body_in r.body (first (of_body r.body) (of_rules rs) rest),
-        rules_in rs (second (of_body r.body) (of_rules rs) rest),
-      )
+  rules_in (r ∷ rs) h = (
+    selector_in r.selector (first_of (of_selector r.selector) (of_body r.body) (of_rules rs) h),
+    body_in r.body (second_of (of_selector r.selector) (of_body r.body) (of_rules rs) h),
+    rules_in rs (third_of (of_selector r.selector) (of_body r.body) (of_rules rs) h),
+  )
 
   body_of : (f : Option Function) → Among (of_function_if_any f) → AllowsBody P f
   body_of None h = tt

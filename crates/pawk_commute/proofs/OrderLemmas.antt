@@ -69,7 +69,7 @@ store_goes_on i = record {
   ends = no_clash;
   at_fault = λ f. refl;
   at_next = refl;
-  at_next_file = refl;
+  at_next_file = λ may. refl;
   at_exit = λ n. refl;
   refuses = λ q may s. store_clean q s;
 }
@@ -167,7 +167,7 @@ module _ (i : Setting) where
     ends = λ h. true;
     at_fault = λ f. refl;
     at_next = refl;
-    at_next_file = refl;
+    at_next_file = λ may. refl;
     at_exit = λ n. refl;
     refuses = λ q may t. any_refusal (refusal_of (frozen.answer q t));
   }
