@@ -1,5 +1,5 @@
 -- What a chunk of records and the store are run from, and what a program may do that runs in chunks.
-use Rattle.std.specs.Prelude.{◌≡◌, ◌<◌, ℕ, ℤ, ◌⊎◌, Bool, true, List, length, Option, Some, None, Result, Ok, Err}
+use Rattle.std.specs.Prelude.{◌≡◌, ℕ, ℤ, ◌⊎◌, List, length, Option, Some, None, Result, Ok, Err}
 use Rattle.pawk_value.specs.Fault.{Fault}
 use Rattle.pawk_value.specs.Range.{FitsWord}
 use Rattle.pawk_value.specs.Value.{Val, Uninit}
