@@ -1,5 +1,5 @@
 -- A run that keeps a trace is the run that keeps none.
-use Rattle.std.specs.Prelude.{◌≡◌, ℕ, List, Option}
+use Rattle.std.specs.Prelude.{◌≡◌, ℕ, List, [], Option}
 use Rattle.pawk_code.specs.Programs.{Code}
 use Rattle.pawk_input.specs.Input.{Item}
 use Rattle.pawk_store.specs.Globals.{Globals, calls}
@@ -22,6 +22,7 @@ traced_pair u = record {
   before_second = λ g h. Unit {0};
   permits = λ access resource. Unit {0};
   parts = λ q s g. ⊥;
+  ahead = [];
 }
 
 -- records of any program
