@@ -1,5 +1,5 @@
 -- One chunk, and chunk by chunk.
-use Rattle.std.proofs.Common.{◌≡◌, ℕ, ◌+◌, ◌+ℤ◌, List, [], ◌∷◌, length, Option, Some, None, refl, ap, ap₂, sym, ◌∙◌, subst, ext_get_or, arith}
+use Rattle.std.proofs.Common.{◌≡◌, ◌<◌, ℕ, ◌+◌, ◌+ℤ◌, List, [], ◌∷◌, length, Option, Some, None, refl, ap, ap₂, sym, ◌∙◌, subst, ext_get_or, arith}
 use Rattle.pawk_value.specs.Value.{Val, Uninit, Num}
 use Rattle.pawk_value.specs.Conversion.{num_of}
 use Rattle.pawk_array.specs.Entries.{value_of}
@@ -19,7 +19,7 @@ use Rattle.pawk_commute.specs.Settings.{Setting, Permits, entry_at, AreInOrder, 
 use Rattle.pawk_commute.specs.Agreement.{Becomes, Alike}
 use Rattle.pawk_commute.specs.Commutation.{pair_of}
 use Rattle.pawk_commute.specs.TracedRuns.{plain}
-use Rattle.pawk_commute.specs.Chunks.{Makes, IsJoined, chunk_end, opening_end, joined_end, setting_at, ChunkLaw, behind, Onwards, JoinTo, all_items}
+use Rattle.pawk_commute.specs.Chunks.{HasSlot, Makes, IsJoined, chunk_end, opening_end, joined_end, setting_at, ChunkLaw, behind, Onwards, JoinTo, all_items}
 use Rattle.pawk_commute.proofs.CellLaws.{same_found}
 use Rattle.pawk_commute.proofs.SumLemmas.{ok_same}
 use Rattle.pawk_commute.proofs.TracedLemmas.{plain_final}
@@ -27,10 +27,10 @@ use Rattle.pawk_commute.proofs.TracedLemmas.{plain_final}
 -- ---- one chunk
 
 -- globals that have the same at each cell are the same
-globals_same : (g h : Globals) → length g.scalars ≡ length h.scalars → length g.arrays ≡ length h.arrays → AreInOrder g → AreInOrder h → ((c : Cell) → entry_at c g ≡ entry_at c h) → g ≡ h
+globals_same : (g h : Globals) → length g.scalars ≡ length h.scalars → length g.arrays ≡ length h.arrays → AreInOrder g → AreInOrder h → ((c : Cell) → HasSlot c g → entry_at c g ≡ entry_at c h) → g ≡ h
 globals_same g h k l o p same =
-    let scalars : g.scalars ≡ h.scalars = ext_get_or Uninit g.scalars h.scalars k (λ n _. ap value_of (same (scalar n))) in
-    let arrays : g.arrays ≡ h.arrays = ext_get_or [] g.arrays h.arrays l (λ n _. same_found (array_at g n) (array_at h n) (o n) (p n) (λ key. same (element n key))) in
+    let scalars : g.scalars ≡ h.scalars = ext_get_or Uninit g.scalars h.scalars k (λ n there. ap value_of (same (scalar n) there)) in
+    let arrays : g.arrays ≡ h.arrays = ext_get_or [] g.arrays h.arrays l (λ n there. same_found (array_at g n) (array_at h n) (o n) (p n) (λ key. same (element n key) there)) in
     λ i. record { scalars = scalars i; arrays = arrays i }
 
 same_made : (before now other : Option Val) (m : Mark) → Becomes before m now → Makes before m other → now ≡ other
@@ -41,12 +41,16 @@ same_made before now other (summed total least greatest) h k =
 same_made before now other (last_put v) h k = h ∙ sym k
 same_made before now other created h k = h ∙ sym k
 
+has_slot : (c : Cell) (g h : Globals) → length g.scalars ≡ length h.scalars → length g.arrays ≡ length h.arrays → HasSlot c g → HasSlot c h
+has_slot (scalar n) g h k l there = subst (λ j. n < j) k there
+has_slot (element n key) g h k l there = subst (λ j. n < j) l there
+
 pub joined_globals : (i : Setting) (s : Traced) (t : Frozen) (h : Globals) → MayBegin i → Alike i s t → IsJoined t.table i.start h → s.globals ≡ h
 joined_globals i s t h begin k j = globals_same s.globals h
     (k.agrees.slots.0 ∙ sym begin.agrees.slots.0 ∙ sym j.slots.0)
     (k.agrees.slots.1 ∙ sym begin.agrees.slots.1 ∙ sym j.slots.1)
     k.agrees.in_order j.in_order
-    (λ c. same_made (entry_at c i.start) (entry_at c s.globals) (entry_at c h) (mark_at c t.table) (k.becomes c) (j.cells c))
+    (λ c there. same_made (entry_at c i.start) (entry_at c s.globals) (entry_at c h) (mark_at c t.table) (k.becomes c) (j.cells c (has_slot c s.globals i.start (k.agrees.slots.0 ∙ sym begin.agrees.slots.0) (k.agrees.slots.1 ∙ sym begin.agrees.slots.1) there)))
 
 pub joined_plain : (i : Setting) (store : End Traced) (chunk : End Frozen) (h : Globals) → MayBegin i → SameEnd (pair_of i) store chunk → IsJoined chunk.world.table i.start h → plain store ≡ joined_end h chunk i.written
 joined_plain i store chunk h begin same j =

@@ -1,10 +1,10 @@
 -- Chunks of the records, each run from what BEGIN left, and joined in order.
-use Rattle.std.specs.Prelude.{◌≡◌, ℕ, ◌+◌, ℤ, ◌+ℤ◌, List, [], ◌∷◌, ◌++◌, length, Option, Some, None, Ok}
+use Rattle.std.specs.Prelude.{◌≡◌, ◌<◌, ℕ, ◌+◌, ℤ, ◌+ℤ◌, List, [], ◌∷◌, ◌++◌, length, Option, Some, None, Ok}
 use Rattle.pawk_value.specs.Value.{Val, Num}
 use Rattle.pawk_value.specs.Conversion.{num_of}
 use Rattle.pawk_array.specs.Entries.{value_of}
 use Rattle.pawk_input.specs.Input.{Item}
-use Rattle.pawk_world.specs.Worlds.{Cell}
+use Rattle.pawk_world.specs.Worlds.{Cell, scalar, element}
 use Rattle.pawk_store.specs.Globals.{Globals}
 use Rattle.pawk_store.specs.Globals as globals
 use Rattle.pawk_store.specs.RecordStates.{RecordState}
@@ -26,11 +26,16 @@ Makes before (summed total least greatest) now =
 Makes before (last_put v) now = now ≡ Some v
 Makes before created now = now ≡ Some (value_of before)
 
+-- there is a slot for the cell
+abbrev pub HasSlot : Cell → Globals → Type 0
+HasSlot (scalar n) g = n < length g.scalars
+HasSlot (element n key) g = n < length g.arrays
+
 -- globals to which a table was joined
 pub record IsJoined (table : Table) (g h : Globals) : Type 0 where
   pub slots : HasSlots h.scalars h.arrays g
   pub in_order : AreInOrder h
-  pub cells : (c : Cell) → Makes (entry_at c g) (mark_at c table) (entry_at c h)
+  pub cells : (c : Cell) → HasSlot c g → Makes (entry_at c g) (mark_at c table) (entry_at c h)
 
 -- the end of a chunk of these records, which begins with this record state
 abbrev pub chunk_end : Setting → List (List ℕ) → ℕ → RecordState → List Item → End Frozen
