@@ -237,3 +237,13 @@ step_of_other code x list list' flags flags' next u within at other e d =
     step_passed code list flags next u within (λ f is. other f (at ∙ any_default list next x (Call f) within ∙ is)) in
     let second : IsStep code list flags next list' flags = subst (λ l. IsStep code list flags next l flags) (sym e) first in
     subst (λ l. IsStep code list flags next list' l) (sym d) second
+
+-- ---- a flag that is read
+
+pub unset : (flags : List Bool) (slot : ℕ) (b : Bool) → slot < length flags → b ≡ get_or flags slot b → b ≡ false →
+    get_or flags slot true ≡ false
+unset flags slot b within at is = any_default flags slot true b within ∙ sym at ∙ is
+
+pub second : (b : Bool) (P Q : Type 0) → b ≡ false → Q → MatchBool b P Q
+second true P Q e q = absurd (not_both true refl e)
+second false P Q e q = q

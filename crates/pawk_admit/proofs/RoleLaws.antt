@@ -182,17 +182,15 @@ mapped f (x ∷ xs) (suc n) d = mapped f xs n d
 pub roles_by : (list : List Occurrence) (tables : Tables) (Q : Occurrence → Type 0) (roles : Roles) → AreTables list tables →
     ((o : Occurrence) → Contains list o ↔ Q o) → ((r : Reason) → ¬ Holds (Contains list) r) →
     roles.scalars ≡ map scalar_role tables.scalars.items → roles.arrays ≡ map array_role tables.arrays.items → AreRoles Q roles
-roles_by list tables Q roles are both none s a n =
-    let to : (o : Occurrence) → Contains list o → Q o = λ o. (both o).0 in
-    let from : (o : Occurrence) → Q o → Contains list o = λ o. (both o).1 in
+roles_by list tables Q roles are both none s a (Scalar n) =
     let m = marks_among list (Scalar n) in
-    let first : role_of_scalar roles n ≡ scalar_role m =
+    let role : role_of_scalar roles n ≡ scalar_role m =
     ap (λ l. get_or l n Fixed) s ∙ mapped scalar_role tables.scalars.items n nothing ∙ ap scalar_role (are (Scalar n)) in
-    let k = marks_among list (Array n) in
-    let second : role_of_array roles n ≡ array_role k =
-    ap (λ l. get_or l n Fixed) a ∙ mapped array_role tables.arrays.items n nothing ∙ ap array_role (are (Array n)) in (
-      subst (λ r. IsRole Q r (Scalar n)) (sym first)
-          (role_along (Contains list) Q to from (scalar_role m) (Scalar n) (scalar_by list none n m.sets m.adds refl refl)),
-      subst (λ r. IsRole Q r (Array n)) (sym second)
-          (role_along (Contains list) Q to from (array_role k) (Array n) (array_by list none n k.sets k.adds k.looks k.others refl refl refl refl)),
-    )
+    subst (λ r. IsRole Q r (Scalar n)) (sym role)
+    (role_along (Contains list) Q (λ o. (both o).0) (λ o. (both o).1) (scalar_role m) (Scalar n) (scalar_by list none n m.sets m.adds refl refl))
+roles_by list tables Q roles are both none s a (Array n) =
+    let m = marks_among list (Array n) in
+    let role : role_of_array roles n ≡ array_role m =
+    ap (λ l. get_or l n Fixed) a ∙ mapped array_role tables.arrays.items n nothing ∙ ap array_role (are (Array n)) in
+    subst (λ r. IsRole Q r (Array n)) (sym role)
+    (role_along (Contains list) Q (λ o. (both o).0) (λ o. (both o).1) (array_role m) (Array n) (array_by list none n m.sets m.adds m.looks m.others refl refl refl refl))

@@ -48,6 +48,17 @@ IsAddition Split = ⊥
 IsAddition Pass = ⊥
 IsAddition Delete = ⊥
 
+abbrev pub role_of : Roles → Name → Role
+role_of roles (Scalar n) = role_of_scalar roles n
+role_of roles (Array n) = role_of_array roles n
+
+-- what is done with a name of a role
+abbrev pub Suits : Role → Touch → Type 0
+Suits Fixed touch = (touch ≡ Look) ⊎ (touch ≡ Test) ⊎ (touch ≡ Walk)
+Suits Adder touch = touch ≡ Add
+Suits Setter touch = touch ≡ Set
+Suits Reader touch = touch ≡ Look
+
 -- what stands in the text that the records come to
 module _ (Stands : Occurrence → Type 0) where
   -- this is done with the name
@@ -115,8 +126,20 @@ module _ (Stands : Occurrence → Type 0) where
 
   -- the roles that are told are those of the names
   abbrev pub AreRoles : Roles → Type 0
-  AreRoles roles = (n : ℕ) → IsRole (role_of_scalar roles n) (Scalar n) × IsRole (role_of_array roles n) (Array n)
+  AreRoles roles = (name : Name) → IsRole (role_of roles name) name
 
 -- the program may run in chunks
 abbrev pub IsAdmissible : Code → Type 0
 IsAdmissible code = (r : Reason) → ¬ Holds (Occurs code) r
+
+-- in a program that may run in chunks, all that the records do with a name suits its role
+abbrev pub KeepToRoles : Type 0
+KeepToRoles =
+    (code : Code) (roles : Roles) → IsAdmissible code → AreRoles (Occurs code) roles →
+    (touch : Touch) (name : Name) → Occurs code (occurrence.Touch touch name) → Suits (role_of roles name) touch
+
+-- and a name that separates is never changed
+abbrev pub SeparatorsAreFixed : Type 0
+SeparatorsAreFixed =
+    (code : Code) (roles : Roles) → IsAdmissible code → AreRoles (Occurs code) roles →
+    (name : Name) → IsSeparator name → role_of roles name ≡ Fixed
