@@ -112,19 +112,19 @@ module _ (Stands : Occurrence → Type 0) where
   abbrev pub IsFirst : Reason → Type 0
   IsFirst r = Holds r × ((other : Reason) → number other < number r → ¬ Holds other)
 
-  -- a reason that is told: the first that holds, or want of memory
-  abbrev pub IsTold : Reason → Type 0
-  IsTold reason.Memory = Unit {0}
-  IsTold reason.Assignment = IsFirst reason.Assignment
-  IsTold reason.Addition = IsFirst reason.Addition
-  IsTold reason.Range = IsFirst reason.Range
-  IsTold reason.Match = IsFirst reason.Match
-  IsTold reason.Split = IsFirst reason.Split
-  IsTold reason.Passing = IsFirst reason.Passing
-  IsTold reason.Value = IsFirst reason.Value
-  IsTold reason.NextFile = IsFirst reason.NextFile
+  -- a reason that is answered: the first that holds, or want of memory
+  abbrev pub IsAnswer : Reason → Type 0
+  IsAnswer reason.Memory = Unit {0}
+  IsAnswer reason.Assignment = IsFirst reason.Assignment
+  IsAnswer reason.Addition = IsFirst reason.Addition
+  IsAnswer reason.Range = IsFirst reason.Range
+  IsAnswer reason.Match = IsFirst reason.Match
+  IsAnswer reason.Split = IsFirst reason.Split
+  IsAnswer reason.Passing = IsFirst reason.Passing
+  IsAnswer reason.Value = IsFirst reason.Value
+  IsAnswer reason.NextFile = IsFirst reason.NextFile
 
-  -- the roles that are told are those of the names
+  -- the roles that are answered are those of the names
   abbrev pub AreRoles : Roles → Type 0
   AreRoles roles = (name : Name) → IsRole (role_of roles name) name
 

@@ -7,8 +7,8 @@ pub enum Touch {
     Look,
     /// It assigns it by `=`, and drops the value.
     Set,
-    /// It assigns it otherwise: by `=` whose value is used, by `*= /= %= ^=`, by `sub` or `gsub`, or
-    /// as the variable of a walk.
+    /// It assigns it otherwise: by `=` whose value is used, by `*= /= %= ^=`, by `sub` or `gsub`,
+    /// or as the variable of a walk.
     Assign,
     /// It adds to it by `+= -= ++ --`, and drops the value.
     Add,
