@@ -3,15 +3,15 @@ use Rattle.std.proofs.Common.{◌≡◌, ◌<◌, ◌&&◌, ℕ, zero, suc, ℤ,
 use Rattle.std.specs.Prelude.{slice_index_or, slice_get, is_some, All}
 use Rattle.std.specs.Option.{option_map}
 use Rattle.pawk_value.specs.Fault.{Fault}
-use Rattle.pawk_value.specs.Range.{FitsWord, in_range}
-use Rattle.pawk_value.specs.Value.{Val, Uninit, Num}
+use Rattle.pawk_value.specs.Range.{in_range}
+use Rattle.pawk_value.specs.Value.{Val, Uninit}
 use Rattle.pawk_value.specs.Conversion.{num_of}
 use Rattle.pawk_array.specs.Entries.{Entries, Rise, value_of}
 use Rattle.pawk_world.specs.Worlds.{Cell, scalar, element}
-use Rattle.pawk_store.specs.Globals.{Globals, array_at, value_at}
+use Rattle.pawk_store.specs.Globals.{Globals, value_at}
 use Rattle.pawk_frozen.specs.Marks.{Mark, blank, summed, last_put, created, Table, mark_at}
 use Rattle.pawk_join.specs.Joins.{fits, holds_for, takes, number_plus, joined_value, joined_element}
-use Rattle.pawk_join.specs.Tables.{all_take, join_table}
+use Rattle.pawk_join.specs.Tables.{join_table}
 use Rattle.pawk_join.specs.JoinLaws.{AllRise, AreJoined}
 use Rattle.pawk_commute.specs.Settings.{entry_at, AreInOrder}
 use Rattle.pawk_commute.specs.Agreement.{Becomes}
