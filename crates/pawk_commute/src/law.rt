@@ -61,7 +61,7 @@ impl Policy for Store {
     ghost permits = { Permits };
 }
 
-/// Records over globals that keep a trace end as over globals that keep none. A law, which takes and
+/// Records over globals that keep a trace end as over globals that keep none. A law, which takes
 /// leaves nothing.
 pub fn trace_changes_nothing()
     ensures { TracedLaw }
@@ -69,9 +69,9 @@ pub fn trace_changes_nothing()
     lockstep_records::<TracedAndPlain>();
 }
 
-/// A chunk of records over the globals that BEGIN left ends as the same records over the globals as
-/// they are then: the same record state, output and way of ending, and the table is what the trace
-/// says; or up to the first event, which is named. A law, which takes and leaves nothing.
+/// A chunk of records over the globals that BEGIN left ends as the same records over the globals
+/// as they are then: the same record state, output and way of ending, and the table is what the
+/// trace says; or up to the first event, which is named. A law, which takes and leaves nothing.
 pub fn commutes()
     ensures { Commutation }
 {
@@ -83,14 +83,14 @@ pub fn starts_again()
     ensures { StartsAgain }
 {}
 
-/// A chunk that is left well and whose cells all pass the test of the merge ends as the same records
-/// in order, and no other does.
+/// A chunk that is left well and whose cells all pass the test of the merge ends as the same
+/// records in order, and no other does.
 pub fn merge_tells()
     ensures { MergeTells }
 {}
 
-/// What the main rules of an admissible program and the functions that they reach ask is permitted by
-/// the roles of its globals.
+/// What the main rules of an admissible program and the functions that they reach ask is permitted
+/// by the roles of its globals.
 pub fn admission_allows()
     ensures { AdmissionAllows }
 {}
@@ -106,8 +106,8 @@ pub fn chunk_joins()
     trace_changes_nothing();
 }
 
-/// Records in order come to the end to which their chunks join, each of which is run from what BEGIN
-/// left.
+/// Records in order come to the end to which their chunks join, each of which is run from what
+/// BEGIN left.
 pub fn chunks_join()
     ensures { ChunksLaw }
 {

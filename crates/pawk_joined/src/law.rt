@@ -4,8 +4,9 @@ ghost use Rattle.pawk_joined.specs.JoinedTables.{SameTakes, TableJoins};
 
 use pawk_join::laws::{join_law, takes_law};
 
-/// Where all cells of the globals take what was noted, each passes the test of the merge, and the join
-/// is that for which chunks end as the records in order. A law, which takes and leaves nothing.
+/// Where all cells of the globals take what was noted, each passes the test of the merge, and the
+/// join is that for which chunks end as the records in order. A law, which takes and leaves
+/// nothing.
 pub fn table_joins()
     ensures { TableJoins }
 {
