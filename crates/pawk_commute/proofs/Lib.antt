@@ -1,0 +1,10 @@
+pub mod CellLaws
+pub mod SumLemmas
+pub mod AgreementLemmas
+pub mod AnswerLemmas
+pub mod OrderLemmas
+pub mod EndLemmas
+pub mod MergeLemmas
+pub mod AdmissionLemmas
+pub mod TracedLemmas
+pub mod ChunkLemmas

@@ -1,0 +1,4 @@
+//! The law that chunks of records commute.
+#![tactic(auto)]
+
+pub mod law;
