@@ -15,7 +15,6 @@ use Rattle.pawk_join.specs.JoinLaws.{AllRise, AreJoined, JoinLaw, OneJoinLaw, Ta
 use Rattle.pawk_join.proofs.ArrayLemmas.{found-join_array, rise-join_array, same_join_array, element_takes-array_takes, array_takes-element_takes}
 use Rattle.pawk_join.proofs.SlotLemmas.{get_or-default, get_or-by_place, length-by_place, slice_get-by_place, each_below_at, each_below_all, same_globals}
 
-
 -- what an array of this slot becomes
 abbrev each_of : Table → ℕ → Entries → Entries
 each_of table n es = join_array (array_marks table.arrays n) es

@@ -8,6 +8,8 @@ use Rattle.pawk_join.specs.Stops.{Joins}
 
 passed_on : {T U : Type 0} (t u : Bool) (P : T → Type 0) (Q : U → Type 0) (e : JoinStop) → Joins t P (Err e) → (t ≡ false → u ≡ false) → Joins u Q (Err e)
 passed_on t u P Q code.Cell h f = f h
+passed_on t u P Q code.Fault h f = h
+passed_on t u P Q code.Clash h f = h
 passed_on t u P Q code.Memory h f = h
 
 -- the stop of a part of a join is that of the join

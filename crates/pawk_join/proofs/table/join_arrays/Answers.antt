@@ -29,7 +29,7 @@ loop-of_elements-preserved c =
       left = sym (left_behind i ms rest c.in-Some.of_elements left);
       taken = each_below_more i (λ n. array_takes (array_marks ms n) (array_at c.args.globals.now n)) c.loop-of_elements.invariant.taken taken;
       arrays = ap (λ (g : Globals). g.arrays) c.put_array.ensures ∙ ap (λ (g : Globals). set g.arrays i c.join_array.new.elements) c.take_array-elements.ensures.globals ∙ change;
-      scalars = ap (λ (g : Globals). g.scalars) c.put_array.ensures ∙ ap (λ (g : Globals). g.scalars) c.take_array-elements.ensures.globals ∙ c.loop-of_elements.invariant.scalars
+      scalars = ap (λ (g : Globals). g.scalars) c.put_array.ensures ∙ ap (λ (g : Globals). g.scalars) c.take_array-elements.ensures.globals ∙ c.loop-of_elements.invariant.scalars;
     }
 
 pub returns : goal.returns

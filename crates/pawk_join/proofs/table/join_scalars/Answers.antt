@@ -35,7 +35,7 @@ loop-mark-preserved c =
       left = sym (left_behind i marks rest c.in-Some.mark left);
       taken = each_below_more i (λ n. takes (scalar_mark ms n) (value_at (scalar n) c.args.globals.now)) c.loop-mark.invariant.taken taken;
       scalars = ap (λ (g : Globals). g.scalars) c.put_scalar.ensures ∙ ap (λ (g : Globals). set g.scalars i (shown c.join_cell.new.cell)) c.take_scalar-value.ensures.globals ∙ change;
-      arrays = ap (λ (g : Globals). g.arrays) c.put_scalar.ensures ∙ ap (λ (g : Globals). g.arrays) c.take_scalar-value.ensures.globals ∙ c.loop-mark.invariant.arrays
+      arrays = ap (λ (g : Globals). g.arrays) c.put_scalar.ensures ∙ ap (λ (g : Globals). g.arrays) c.take_scalar-value.ensures.globals ∙ c.loop-mark.invariant.arrays;
     }
 
 pub returns : goal.returns
