@@ -1,11 +1,11 @@
 -- Chunks that are merged without a stop join to the end of the merge.
-use Rattle.std.proofs.Common.{◌≡◌, ℕ, ◌+◌, List, [], ◌∷◌, ◌++◌, length, Result, Ok, Err, Bool, true, false, if◌then◌else◌, refl, ap, sym, ◌∙◌, subst}
+use Rattle.std.proofs.Common.{◌≡◌, ℕ, ◌+◌, List, [], ◌∷◌, length, Result, Ok, Err, Bool, true, false, if◌then◌else◌, refl, ap, sym, subst}
 use Rattle.pawk_input.specs.Input.{Item}
 use Rattle.pawk_store.specs.Globals.{Globals}
 use Rattle.pawk_store.specs.RecordStates.{RecordState}
 use Rattle.pawk_meaning.specs.Records.{Left, through, next_file, exit, fault, clash, End}
 use Rattle.pawk_join.specs.Tables.{all_take, join_table}
-use Rattle.pawk_join.specs.Merges.{Stop, at_cell, Chunk, with_chunk, behind as behind_chunk, merge}
+use Rattle.pawk_join.specs.Merges.{Stop, at_cell, with_chunk, behind as behind_chunk, merge}
 use Rattle.pawk_commute.specs.Settings.{Setting, AreInOrder}
 use Rattle.pawk_commute.specs.Merging.{IsLeftWell}
 use Rattle.pawk_commute.specs.Chunks.{chunk_end, behind, Onwards, JoinTo}

@@ -1,4 +1,3 @@
-use Rattle.pawk_joined.specs.MergedChunks.{chunks_of}
 use Rattle.pawk_commute.specs.Chunks.{opening_end}
 use Rattle.pawk_joined.proofs.MergedLemmas.{joins_to}
 use Rattle.pawk_joined.proofs.law.merge_is_in_order.Goals as goal
