@@ -1,14 +1,11 @@
 -- Merges, one chunk after the other.
-use Rattle.std.proofs.Common.{◌≡◌, ◌++◌, ◌∷◌, [], ℕ, Bool, true, false, List, Option, Some, Result, Ok, Err, Vec, Global, append_assoc, length, arith, refl, sym, ◌∙◌, ap, subst}
+use Rattle.std.proofs.Common.{◌≡◌, ◌++◌, ◌∷◌, [], ℕ, true, false, List, Some, Result, Ok, Err, Vec, Global, append_assoc, length, arith, refl, sym, ◌∙◌, ap, subst}
 use Rattle.std.proofs.lemmas.List.{append-nil}
-use Rattle.std.specs.List.{flat_map}
 use Rattle.std.specs.Result.{IsErrAnd}
 use Rattle.pawk_store.specs.Globals.{Globals}
-use Rattle.pawk_store.specs.RecordStates.{RecordState}
-use Rattle.pawk_meaning.specs.Records.{Left, End}
-use Rattle.pawk_frozen.specs.Marks.{Table}
+use Rattle.pawk_meaning.specs.Records.{End}
 use Rattle.pawk_join.specs.Tables.{all_take, join_table}
-use Rattle.pawk_join.specs.Merges.{Chunk, Stop, with_chunk, behind, merge}
+use Rattle.pawk_join.specs.Merges.{Chunk, Stop, with_chunk, merge}
 use Rattle.pawk_join.specs.MergeViews.{in_a_row, stop_of, Merges, Continues, Goes}
 use Rattle.pawk_join.specs.declared.merging.Merged.{Merged}
 use Rattle.pawk_join.specs.declared.stop.JoinStop.{JoinStop}

@@ -1,6 +1,5 @@
 -- Joins that stop.
-use Rattle.std.proofs.Common.{◌≡◌, Bool, true, false, Result, Ok, Err, sym, subst}
-use Rattle.std.specs.Prelude.{⊤}
+use Rattle.std.proofs.Common.{◌≡◌, Bool, false, Result, Ok, Err, sym, subst}
 use Rattle.std.specs.Result.{IsErrAnd}
 use Rattle.pawk_join.specs.declared.stop.JoinStop.{JoinStop}
 use Rattle.pawk_join.specs.declared.stop.JoinStop.TheVariants as code

@@ -1,11 +1,10 @@
-use Rattle.std.proofs.Common.{◌≡◌, ◌∷◌, [], ◌++◌, List, Bool, true, false, Ok, Err, Some, map, refl, sym, ◌∙◌, ap, subst, arith, length, ◌+◌}
+use Rattle.std.proofs.Common.{◌≡◌, ◌∷◌, true, false, Ok, map, refl, sym, ◌∙◌, ap, arith, length}
 use Rattle.std.specs.Vec.Iter.{into_iter_items}
 use Rattle.pawk_store.specs.Globals.{Globals}
 use Rattle.pawk_store.specs.StateViews.{state_of}
 use Rattle.pawk_meaning.specs.Records.{End}
-use Rattle.pawk_join.specs.Tables.{all_take, join_table}
-use Rattle.pawk_join.specs.Merges.{Chunk, Stop, with_chunk, before_chunks, merge}
-use Rattle.pawk_join.specs.MergeViews.{part_view, leaving_view, in_a_row, stop_of, Continues, Goes, Merges, end_view}
+use Rattle.pawk_join.specs.Merges.{before_chunks, merge}
+use Rattle.pawk_join.specs.MergeViews.{part_view, leaving_view, in_a_row, Continues}
 use Rattle.pawk_join.proofs.MergeLemmas.{goes_on, ends, stops, stops_merge, same_end, no_items}
 use Rattle.pawk_join.proofs.merging.merge.Goals as goal
 use Rattle.pawk_join.proofs.merging.merge.Goals.{in-None, in-Some+in_ok-take_part+then-not-branch}
