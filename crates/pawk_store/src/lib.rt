@@ -7,8 +7,8 @@ pub mod laws;
 mod listing;
 mod moving;
 mod openings;
-mod specials;
 mod reading;
+mod specials;
 mod state;
 
 pub use globals::Globals;
