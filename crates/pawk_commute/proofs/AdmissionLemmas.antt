@@ -1,6 +1,6 @@
 -- An admissible program does what the roles of its names permit.
-use Rattle.std.proofs.Common.{◌≡◌, ℕ, zero, suc, ◌<◌, List, [], ◌∷◌, ◌++◌, Option, Some, None, refl, ap, sym, ◌∙◌, subst, inl, inr, ⊎_elim, arith, length}
-use Rattle.std.specs.Prelude.{◌⊎◌, slice_get, Contains}
+use Rattle.std.proofs.Common.{◌≡◌, ℕ, zero, suc, List, [], ◌∷◌, ◌++◌, Option, Some, None, refl, inl, inr, ⊎_elim, arith}
+use Rattle.std.specs.Prelude.{slice_get, Contains}
 use Rattle.std.proofs.lemmas.List.Elements.{Contains-append_left, Contains-append_right}
 use Rattle.pawk_scalar.specs.declared.arithmetic.Op.{Op}
 use Rattle.pawk_scalar.specs.declared.arithmetic.Op.TheVariants as op
@@ -30,10 +30,10 @@ use Rattle.pawk_admit.specs.declared.occurrence.Occurrence.TheVariants as occurr
 use Rattle.pawk_admit.specs.declared.reason.Reason.TheVariants as reason
 use Rattle.pawk_admit.specs.declared.role.Role.{Role}
 use Rattle.pawk_admit.specs.declared.role.Role.TheVariants.{Fixed, Adder, Setter, Reader}
-use Rattle.pawk_admit.specs.Occurrences.{of_scalar, of_array, of_variable, of_leaf, touch_by, of_expression, of_expressions, of_place}
+use Rattle.pawk_admit.specs.Occurrences.{of_array, of_variable, of_leaf, touch_by, of_expression, of_expressions, of_place}
 use Rattle.pawk_admit.specs.Occurrences.{of_numeric, of_function_of_number, of_test, of_textual, of_pattern, of_fields_by, of_format}
 use Rattle.pawk_admit.specs.Occurrences.{of_argument, of_arguments, of_simple, of_expression_if_any, of_simple_if_any, of_leave, of_head}
-use Rattle.pawk_admit.specs.Occurrences.{of_statement, of_body, of_selector, of_rules, of_function_if_any, of_function}
+use Rattle.pawk_admit.specs.Occurrences.{of_statement, of_body, of_selector, of_rules, of_function_if_any}
 use Rattle.pawk_admit.specs.Reaches.{Reached, from_rules, from_function, Occurs}
 use Rattle.pawk_admit.specs.Admission.{IsSeparator, IsRole, IsAdmissible, AreRoles}
 use Rattle.pawk_admit.specs.Roles.{role_of_scalar, role_of_array}

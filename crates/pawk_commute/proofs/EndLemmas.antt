@@ -1,5 +1,6 @@
 -- From a parting to the event.
-use Rattle.std.proofs.Common.{◌≡◌, ℕ, ℤ, List, [], None, Bool, true, false, if◌then◌else◌, Result, Ok, Err, refl, ap, sym, ◌∙◌, subst, inl, inr, ⊎_elim}
+use Rattle.std.proofs.Common.{◌≡◌, ℕ, ℤ, List, [], ◌++◌, None, Bool, true, false, if◌then◌else◌, Result, Ok, Err, refl, ap, sym, ◌∙◌, subst, inl, inr, ⊎_elim}
+use Rattle.std.proofs.lemmas.List.{append-nil}
 use Rattle.std.specs.Prelude.{◌⊎◌}
 use Rattle.pawk_value.specs.Fault.{Fault}
 use Rattle.pawk_value.specs.Fault.TheVariants as fault
@@ -30,12 +31,12 @@ use Rattle.pawk_commute.proofs.AgreementLemmas.{begins_alike}
 use Rattle.pawk_commute.proofs.AnswerLemmas.{kept}
 use Rattle.pawk_commute.proofs.OrderLemmas.{no_clash, added_mark}
 
-pub opens_alike : (i : Setting) (state : RecordState) (out : List ℕ) → MayBegin i → SameEnd (pair_of i) (store_opening i state out) (chunk_opening i state out)
-opens_alike i state out begin = record { worlds = begins_alike i begin; states = refl; outputs = refl; lefts = refl }
+pub opens_alike : (i : Setting) (state : RecordState) → MayBegin i → SameEnd (pair_of i) (store_opening i state) (chunk_opening i state)
+opens_alike i state begin = record { worlds = begins_alike i begin; states = refl; outputs = sym (append-nil i.written); lefts = refl }
 
 module _ (i : Setting) (s : Traced) (t : Frozen) (state : RecordState) (out : List ℕ) (store : End Traced) (chunk : End Frozen) (h : Alike i s t) where
   abbrev StoreReaches : {X : Type 0} → Answer Traced X → Type 0
-  StoreReaches a = EndReaches TraceBefore (refusal_of a) (state_of a) state out store
+  StoreReaches a = EndReaches TraceBefore (refusal_of a) (state_of a) state (i.written ++ out) store
 
   abbrev ChunkReaches : {X : Type 0} → Answer Frozen X → Type 0
   ChunkReaches b = EndReaches (TableBefore i) (refusal_of b) (state_of b) state out chunk
@@ -160,4 +161,8 @@ unclashed w h e = absurd (let k : false ≡ true = subst (LeftBy (λ h. no_clash
 pub commuted : (i : Setting) → MayBegin i → (store : End Traced) (chunk : End Frozen) → LeftBy (λ h. no_clash h ≡ true) store.left → EndsInStep (pair_of i) store chunk → Commuted i store chunk
 commuted i begin store chunk clean = ⊎_elim
     (λ same. no_event same (λ e. unclashed store.left clean (same.lefts ∙ e)))
-    (λ p. case_of i p.first p.second p.state p.output store chunk p.related begin p.request p.permitted p.parts_there p.first_then p.second_then)
+    (λ p.
+    let a = (traced globals.calls).ask p.request p.first in
+    case_of i p.first p.second p.state p.second_output store chunk p.related begin p.request p.permitted p.parts_there
+    (subst (λ o. EndReaches TraceBefore (refusal_of a) (state_of a) p.state o store) p.outputs p.first_then)
+    p.second_then)

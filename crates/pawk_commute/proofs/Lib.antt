@@ -6,3 +6,4 @@ pub mod OrderLemmas
 pub mod EndLemmas
 pub mod MergeLemmas
 pub mod AdmissionLemmas
+pub mod TracedLemmas

@@ -1,5 +1,5 @@
 -- How a store's trace and a chunk's table go on, and how the two refuse.
-use Rattle.std.proofs.Common.{◌≡◌, ◌<◌, ℕ, ℤ, List, [], ◌∷◌, ◌++◌, Option, Some, None, Bool, true, false, if◌then◌else◌, Result, Ok, Err, refl, ap, sym, ◌∙◌, length, append_assoc}
+use Rattle.std.proofs.Common.{◌≡◌, ℕ, ℤ, List, [], ◌∷◌, ◌++◌, Option, Some, None, Bool, true, false, if◌then◌else◌, Result, Ok, Err, refl, ap, sym, ◌∙◌, append_assoc}
 use Rattle.std.proofs.lemmas.List.{append-nil}
 use Rattle.pawk_value.specs.Fault.{Fault}
 use Rattle.pawk_value.specs.Fault.TheVariants as fault
@@ -24,7 +24,7 @@ use Rattle.pawk_meaning.specs.Lockstep.{array_slot, access_of, resource_of, reso
 use Rattle.pawk_meaning.specs.Laws.{IsFinal, RefusalsAreFinal}
 use Rattle.pawk_commute.specs.Traces.{Event, Traced, events_of, traced_answer, traced, same_cell, mark_after, mark_from}
 use Rattle.pawk_commute.specs.Traces as event
-use Rattle.pawk_commute.specs.Settings.{Setting, role_of_cell, MayRead, Permits, MayBegin}
+use Rattle.pawk_commute.specs.Settings.{Setting, role_of_cell, Permits, MayBegin}
 use Rattle.pawk_commute.specs.Agreement.{IsLawful}
 use Rattle.pawk_commute.specs.Commutation.{TraceBefore, TableBefore, pair_of}
 use Rattle.pawk_commute.proofs.CellLaws.{IsThere, there_by_role, cell_same, mark_with, table_with, in_table}

@@ -62,15 +62,20 @@ pair_of i = record {
   before_second = TableBefore i;
   permits = Permits i;
   parts = Parts i;
+  ahead = i.written;
 }
 
 -- before the first record
-abbrev pub store_opening : Setting → RecordState → List ℕ → End Traced
-store_opening i state out =
-    record { world = record { globals = i.start; trace = [] }; state = state; output = out; left = through }
+abbrev pub store_opening : Setting → RecordState → End Traced
+store_opening i state = record {
+  world = record { globals = i.start; trace = [] };
+  state = state;
+  output = i.written;
+  left = through;
+}
 
-abbrev pub chunk_opening : Setting → RecordState → List ℕ → End Frozen
-chunk_opening i state out = record { world = begun i.fixed i.roles; state = state; output = out; left = through }
+abbrev pub chunk_opening : Setting → RecordState → End Frozen
+chunk_opening i state = record { world = begun i.fixed i.roles; state = state; output = []; left = through }
 
 -- a fault that is an add's own: of the conversion of what is at its cell, or of the range of the sum
 abbrev pub IsOwnFault : Sign → Result ℤ Fault → Result ℤ Fault → Fault → Type 0
@@ -99,7 +104,7 @@ pub record MissedKey (i : Setting) (store : End Traced) (chunk : End Frozen) : T
   pub chunk_ends : chunk ≡ record { world = second; state = state; output = output; left = clash }
   pub store_trace :
       (rest : List Event) × (store.world.trace ≡ (first.trace ++ event.created array key ∷ []) ++ rest)
-  pub store_output : IsPrefix output store.output
+  pub store_output : IsPrefix (i.written ++ output) store.output
 
 -- an amount that does not convert: both end in its fault there, and the store has created the element of the target
 pub record AmountFaulted (i : Setting) (store : End Traced) (chunk : End Frozen) : Type 0 where
@@ -117,7 +122,7 @@ pub record AmountFaulted (i : Setting) (store : End Traced) (chunk : End Frozen)
       ≡ record {
         world = record { globals = with_cell target first.globals; trace = first.trace };
         state = state;
-        output = output;
+        output = i.written ++ output;
         left = fault why;
       }
 
@@ -157,7 +162,7 @@ pub record AddFaulted (i : Setting) (store : End Traced) (chunk : End Frozen) : 
       ≡ record {
         world = record { globals = with_cell target first.globals; trace = first.trace };
         state = state;
-        output = output;
+        output = i.written ++ output;
         left = fault why;
       }
   pub chunk_then :
@@ -176,10 +181,10 @@ abbrev pub Commutation : Type 0
 Commutation =
     (i : Setting) → MayBegin i →
     AllowsMain (Permits i) i.code.functions i.code.rules →
-    (eres : List (List ℕ)) (budget : ℕ) (skip : Option ℕ) (items : List Item) (state : RecordState) (out : List ℕ) →
+    (eres : List (List ℕ)) (budget : ℕ) (skip : Option ℕ) (items : List Item) (state : RecordState) →
     Commuted i
-    (records_from (traced globals.calls) eres i.code budget skip (store_opening i state out) items)
-    (records_from frozen.calls eres i.code budget skip (chunk_opening i state out) items)
+    (records_from (traced globals.calls) eres i.code budget skip (store_opening i state) items)
+    (records_from frozen.calls eres i.code budget skip (chunk_opening i state) items)
 
 -- where there was no event, the next chunk may begin with the store as it is
 abbrev pub StartsAgain : Type 0

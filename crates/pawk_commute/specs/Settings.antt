@@ -1,5 +1,5 @@
 -- What a chunk of records and the store are run from, and what a program may do that runs in chunks.
-use Rattle.std.specs.Prelude.{◌≡◌, ◌<◌, ℕ, ℤ, ◌⊎◌, Bool, true, List, length, Option, Some, None, Result, Ok, Err}
+use Rattle.std.specs.Prelude.{◌≡◌, ℕ, ℤ, ◌⊎◌, List, length, Option, Some, None, Result, Ok, Err}
 use Rattle.pawk_value.specs.Fault.{Fault}
 use Rattle.pawk_value.specs.Range.{FitsWord}
 use Rattle.pawk_value.specs.Value.{Val, Uninit}
@@ -15,13 +15,14 @@ use Rattle.pawk_admit.specs.Reaches.{Reached}
 use Rattle.pawk_meaning.specs.Lockstep.{Resource, variable_slot, array_slot, function_slot, resource_of_cell}
 use Rattle.pawk_meaning.specs.Lockstep.{Access, looks, reads, writes, changes, tests, walks, runs}
 
--- a program and the roles of its globals, the globals as BEGIN left them, from which chunks are run, and the globals from
--- which the same records are run in order
+-- a program and the roles of its globals, the globals as BEGIN left them, from which a chunk is run, and the globals and the
+-- output to which the records before the chunk have come, from which its records are run in order
 pub record Setting : Type 0 where
   pub code : Code
   pub roles : Roles
   pub fixed : Globals
   pub start : Globals
+  pub written : List ℕ
 
 -- what is no global is fixed
 abbrev pub role_of : Roles → Resource → Role

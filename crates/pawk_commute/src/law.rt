@@ -2,6 +2,7 @@
 
 ghost use Rattle.pawk_commute.specs.Commutation.{Commutation, StartsAgain};
 ghost use Rattle.pawk_commute.specs.Admitted.{AdmissionAllows};
+ghost use Rattle.pawk_commute.specs.TracedRuns.{TracedLaw};
 ghost use Rattle.pawk_commute.specs.Merging.{MergeTells};
 
 use pawk_meaning::law::{Pairing, lockstep_records};
@@ -22,6 +23,31 @@ impl Pairing for StoreAndChunk {
     ghost Second = { Frozen };
 
     ghost pair = { pair_of };
+}
+
+/// The globals that keep a trace, and those that keep none.
+pub struct TracedAndPlain;
+
+impl Pairing for TracedAndPlain {
+    ghost use Rattle.pawk_commute.specs.Traces.{Traced};
+    ghost use Rattle.pawk_commute.specs.TracedRuns.{traced_pair};
+    ghost use Rattle.pawk_store.specs.Globals.{Globals};
+
+    ghost Setting = { Unit {0} };
+
+    ghost First = { Traced };
+
+    ghost Second = { Globals };
+
+    ghost pair = { traced_pair };
+}
+
+/// Records over globals that keep a trace end as over globals that keep none. A law, which takes and
+/// leaves nothing.
+pub fn trace_changes_nothing()
+    ensures { TracedLaw }
+{
+    lockstep_records::<TracedAndPlain>();
 }
 
 /// A chunk of records over the globals that BEGIN left ends as the same records over the globals as

@@ -37,6 +37,7 @@ itself permits calls = record {
   before_second = λ s t. Unit {0};
   permits = permits;
   parts = λ q s t. ⊥;
+  ahead = [];
 }
 
 same_answer : {S X : Type 0} (a : Answer S X) → SameAnswer (λ s t. s ≡ t) a a

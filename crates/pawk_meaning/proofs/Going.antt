@@ -15,8 +15,8 @@ use Rattle.pawk_meaning.specs.Meaning.{decide}
 use Rattle.pawk_meaning.specs.Lockstep.{variable_slot, looks, access_of, resource_of, Pair, AllHeld, refusal_of, state_of, SameAnswer, SameMoment, SameOutcome, AreInLockstep, InStep, EndsBy, FirstGoesOn, SecondGoesOn}
 use Rattle.pawk_meaning.proofs.Later.{Any, Near, near, nearby, Meets, Order, any_order, meets_weak, Later, later_then, reaches_then, later_nearby, later_halt, later_tick, later_ask, reaches_ask}
 
-near_alike : {S T : Type 0} (R : S → T → Type 0) (m : Moment S) (n : Moment T) → SameMoment R m n → near m ≡ near n
-near_alike R m n same =
+near_alike : {S T : Type 0} (w : Pair S T) (m : Moment S) (n : Moment T) → SameMoment w m n → near m ≡ near n
+near_alike w m n same =
     ap (λ x. record { state = x; frame = m.frame; arrays = m.arrays }) same.states
     ∙ ap (λ x. record { state = n.state; frame = x; arrays = m.arrays }) same.frames
     ∙ ap (λ x. record { state = n.state; frame = n.frame; arrays = x }) same.arrays
@@ -47,14 +47,14 @@ module _ {S T : Type 0} where
   pub record Goes (t : Track S T) {X : Type 0} (P : X → Type 0) (p : Part S X) (q : Part T X) : Type 0 where
     pub first : (m : Moment S) → Held t m.frame → FirstLater t P m (p m)
     pub second : (n : Moment T) → Held t n.frame → SecondLater t P n (q n)
-    pub alike : (m : Moment S) (n : Moment T) → SameMoment t.pair.alike m n → Held t m.frame → InStep t.pair (p m) (q n)
+    pub alike : (m : Moment S) (n : Moment T) → SameMoment t.pair m n → Held t m.frame → InStep t.pair (p m) (q n)
 
 -- moments that are the same but for the worlds
 module _ {S T : Type 0} (w : Pair S T) where
-  pub held_too : (m : Moment S) (n : Moment T) → SameMoment w.alike m n → AllHeld w.permits m.frame → AllHeld w.permits n.frame
+  pub held_too : (m : Moment S) (n : Moment T) → SameMoment w m n → AllHeld w.permits m.frame → AllHeld w.permits n.frame
   held_too m n same held = subst (AllHeld w.permits) same.frames held
 
-  nearby_alike : {X : Type 0} (e : X × Near) (f : X × Near) (m : Moment S) (n : Moment T) → e ≡ f → SameMoment w.alike m n → InStep w (nearby e m) (nearby f n)
+  nearby_alike : {X : Type 0} (e : X × Near) (f : X × Near) (m : Moment S) (n : Moment T) → e ≡ f → SameMoment w m n → InStep w (nearby e m) (nearby f n)
   nearby_alike e f m n is same = inl (
     ap (λ x. x.0) is,
     record {
@@ -67,18 +67,18 @@ module _ {S T : Type 0} (w : Pair S T) where
     },
   )
 
-  tick_alike : (k : ℕ) (m : Moment S) (n : Moment T) → SameMoment w.alike m n → InStep w (tick_at k m) (tick_at k n)
+  tick_alike : (k : ℕ) (m : Moment S) (n : Moment T) → SameMoment w m n → InStep w (tick_at k m) (tick_at k n)
   tick_alike zero m n same = inl (refl, same.worlds, same.states, same.outputs)
   tick_alike (suc k) m n same = inl (refl, record { worlds = same.worlds; states = same.states; frames = same.frames; arrays = same.arrays; outputs = same.outputs; lefts = refl })
 
-  same_ask : {X : Type 0} (a : Answer S X) (b : Answer T X) (m : Moment S) (n : Moment T) → SameMoment w.alike m n → SameAnswer w.alike a b → SameOutcome w.alike (ask a m) (ask b n)
+  same_ask : {X : Type 0} (a : Answer S X) (b : Answer T X) (m : Moment S) (n : Moment T) → SameMoment w m n → SameAnswer w.alike a b → SameOutcome w (ask a m) (ask b n)
   same_ask (world.gives x s) (world.gives y u) m n same e = (e.0, record { worlds = e.1; states = same.states; frames = same.frames; arrays = same.arrays; outputs = same.outputs; lefts = same.lefts })
   same_ask (world.halts i s) (world.halts j u) m n same e = (e.0, e.1, same.states, same.outputs)
   same_ask (world.gives x s) (world.halts j u) m n same e = absurd e
   same_ask (world.halts i s) (world.gives y u) m n same e = absurd e
 
 module _ {S T : Type 0} {t : Track S T} where
-  same_then : {X Y : Type 0} (P : X → Type 0) (Q : Y → Type 0) (o : Outcome S X) (p : Outcome T X) (k : X → Part S Y) (l : X → Part T Y) → Meets t.pair.permits (EndsBy t.first) P o → ((x : X) → P x → Goes t Q (k x) (l x)) → SameOutcome t.pair.alike o p → InStep t.pair (then_do o k) (then_do p l)
+  same_then : {X Y : Type 0} (P : X → Type 0) (Q : Y → Type 0) (o : Outcome S X) (p : Outcome T X) (k : X → Part S Y) (l : X → Part T Y) → Meets t.pair.permits (EndsBy t.first) P o → ((x : X) → P x → Goes t Q (k x) (l x)) → SameOutcome t.pair o p → InStep t.pair (then_do o k) (then_do p l)
   same_then P Q (gives x m) (gives y n) k l meets h e =
       subst (λ z. InStep t.pair (k x m) (l z n)) e.0 ((h x meets.0).alike m n e.1 meets.1)
   same_then P Q (halts i s state out) (halts j u state' out') k l meets h e = inl e
@@ -95,10 +95,12 @@ module _ {S T : Type 0} {t : Track S T} where
         second = e.second;
         state = e.state;
         output = e.output;
+        second_output = e.second_output;
+        outputs = e.outputs;
         related = e.related;
         parts_there = e.parts_there;
         first_then = reaches_then t.pair.permits t.pair.before t.pair.first_calls t.first t.order P Q (refusal_of a) (state_of a) e.state e.output o k meets (λ x m px held. (h x px).first m held) e.first_then;
-        second_then = reaches_then t.pair.permits t.pair.before_second t.pair.second_calls t.second t.order P Q (refusal_of b) (state_of b) e.state e.output p l meets' (λ x m px held. (h x px).second m held) e.second_then;
+        second_then = reaches_then t.pair.permits t.pair.before_second t.pair.second_calls t.second t.order P Q (refusal_of b) (state_of b) e.state e.second_output p l meets' (λ x m px held. (h x px).second m held) e.second_then;
       }))
 
   pub goes_bind : {X Y : Type 0} {P : X → Type 0} {Q : Y → Type 0} {p : Part S X} {q : Part T X} {k : X → Part S Y} {l : X → Part T Y} → Goes t P p q → ((x : X) → P x → Goes t Q (k x) (l x)) → Goes t Q (bind p k) (bind q l)
@@ -129,7 +131,7 @@ module _ {S T : Type 0} {t : Track S T} where
   goes_nearby P f h = record {
     first = λ m held. let k = h (near m) held in later_nearby t.pair.permits t.pair.before t.pair.first_calls t.first t.order P (f (near m)) m k.0 k.1 k.2;
     second = λ n held. let k = h (near n) held in later_nearby t.pair.permits t.pair.before_second t.pair.second_calls t.second t.order P (f (near n)) n k.0 k.1 k.2;
-    alike = λ m n same held. nearby_alike t.pair (f (near m)) (f (near n)) m n (ap f (near_alike t.pair.alike m n same)) same;
+    alike = λ m n same held. nearby_alike t.pair (f (near m)) (f (near n)) m n (ap f (near_alike t.pair m n same)) same;
   }
 
   pub goes_give : {X : Type 0} (P : X → Type 0) (x : X) → P x → Goes t P (give x) (give x)
@@ -207,10 +209,12 @@ module _ {S T : Type 0} {t : Track S T} where
           second = n.world;
           state = m.state;
           output = m.output;
+          second_output = n.output;
+          outputs = same.outputs;
           related = same.worlds;
           parts_there = e;
           first_then = reaches_ask t.pair.permits t.pair.before t.pair.first_calls t.first t.order (t.pair.first_calls.ask q m.world) m m.state m.output refl refl;
-          second_then = reaches_ask t.pair.permits t.pair.before_second t.pair.second_calls t.second t.order (t.pair.second_calls.ask q n.world) n m.state m.output same.states same.outputs;
+          second_then = reaches_ask t.pair.permits t.pair.before_second t.pair.second_calls t.second t.order (t.pair.second_calls.ask q n.world) n m.state n.output same.states refl;
         }))
         (t.lockstep.ask q may m.world n.world same.worlds);
   }

@@ -1,5 +1,5 @@
 -- One record, and a list of records, go in step.
-use Rattle.std.proofs.Common.{◌≡◌, ℕ, suc, List, [], ◌∷◌, Option, Some, None, refl, ap, sym, subst, inl, inr, ⊎_elim, Bool, true, false, not, if◌then◌else◌}
+use Rattle.std.proofs.Common.{◌≡◌, ℕ, suc, List, [], ◌∷◌, ◌++◌, Option, Some, None, refl, ap, sym, subst, inl, inr, ⊎_elim, Bool, true, false, not, if◌then◌else◌}
 use Rattle.std.specs.Prelude.{slice_set}
 use Rattle.pawk_value.specs.Fault.{Fault}
 use Rattle.pawk_value.specs.Value.{Maybe}
@@ -188,14 +188,14 @@ module _ {S : Type 0} (permits : Access → Resource → Type 0) (before : S →
 -- ---- two worlds
 
 module _ {S T : Type 0} (w : Pair S T) where
-  same_halts : (h : Halt) (s : S) (q : T) (state state' : RecordState) (out out' : List ℕ) → w.alike s q → state ≡ state' → out ≡ out' → SameEnd w (end_of_halt h s state out) (end_of_halt h q state' out')
+  same_halts : (h : Halt) (s : S) (q : T) (state state' : RecordState) (out out' : List ℕ) → w.alike s q → state ≡ state' → out ≡ w.ahead ++ out' → SameEnd w (end_of_halt h s state out) (end_of_halt h q state' out')
   same_halts (halt.fault f) s q state state' out out' a e o = record { worlds = a; states = e; outputs = o; lefts = refl }
   same_halts halt.clash s q state state' out out' a e o = record { worlds = a; states = e; outputs = o; lefts = refl }
   same_halts halt.next s q state state' out out' a e o = record { worlds = a; states = e; outputs = o; lefts = refl }
   same_halts halt.next_file s q state state' out out' a e o = record { worlds = a; states = e; outputs = o; lefts = refl }
   same_halts (halt.exit n) s q state state' out out' a e o = record { worlds = a; states = ap (λ (x : RecordState). record x { status = n }) e; outputs = o; lefts = refl }
 
-  same_ends : {X : Type 0} (o : Outcome S X) (p : Outcome T X) → SameOutcome w.alike o p → SameEnd w (end_of o) (end_of p)
+  same_ends : {X : Type 0} (o : Outcome S X) (p : Outcome T X) → SameOutcome w o p → SameEnd w (end_of o) (end_of p)
   same_ends (gives x m) (gives y n) h = record { worlds = h.1.worlds; states = h.1.states; outputs = h.1.outputs; lefts = refl }
   same_ends (halts i s state out) (halts j q state' out') h =
       subst (λ x. SameEnd w (end_of_halt i s state out) (end_of_halt x q state' out')) h.0 (same_halts i s q state state' out out' h.1 h.2 h.3)
@@ -212,10 +212,12 @@ module _ {S T : Type 0} (w : Pair S T) where
         second = e.second;
         state = e.state;
         output = e.output;
+        second_output = e.second_output;
+        outputs = e.outputs;
         related = e.related;
         parts_there = e.parts_there;
         first_then = reaches_end w.before (refusal_of a) (state_of a) e.state e.output o e.first_then;
-        second_then = reaches_end w.before_second (refusal_of b) (state_of b) e.state e.output p e.second_then;
+        second_then = reaches_end w.before_second (refusal_of b) (state_of b) e.state e.second_output p e.second_then;
       }))
 
   in_step_if : (b : Bool) (e e' : End S) (f f' : End T) → EndsInStep w e f → EndsInStep w e' f' → EndsInStep w (if b then e else e') (if b then f else f')
@@ -279,10 +281,12 @@ module _ {S T : Type 0} (t : Track S T) (keeps : KeepsItems t) (final : Refusals
         second = k.second;
         state = k.state;
         output = k.output;
+        second_output = k.second_output;
+        outputs = k.outputs;
         related = k.related;
         parts_there = k.parts_there;
         first_then = reaches_behind t.pair.permits t.pair.before t.pair.first_calls t.first (refusal_of a) (state_of a) k.state k.output e go file (final k.request k.first) onto k.first_then;
-        second_then = reaches_behind t.pair.permits t.pair.before_second t.pair.second_calls t.second (refusal_of b) (state_of b) k.state k.output f go' file (final' k.request k.second) onto' k.second_then;
+        second_then = reaches_behind t.pair.permits t.pair.before_second t.pair.second_calls t.second (refusal_of b) (state_of b) k.state k.second_output f go' file (final' k.request k.second) onto' k.second_then;
       }))
 
   pub records_in_step : (items : List Item) (skip : Option ℕ) (e : End S) (f : End T) → SameEnd t.pair e f → EndsInStep t.pair (records_from t.pair.first_calls eres code budget skip e items) (records_from t.pair.second_calls eres code budget skip f items)

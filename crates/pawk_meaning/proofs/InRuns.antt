@@ -1,5 +1,5 @@
 -- first_calls whole run goes in step.
-use Rattle.std.proofs.Common.{◌≡◌, ℕ, List, [], length, Option, Some, None, refl, ap, sym, subst, inl, inr, ⊎_elim, Bool, true, false, if◌then◌else◌}
+use Rattle.std.proofs.Common.{◌≡◌, ℕ, List, [], ◌++◌, length, Option, Some, None, refl, ap, sym, subst, inl, inr, ⊎_elim, Bool, true, false, if◌then◌else◌}
 use Rattle.std.specs.Prelude.{nat_le}
 use Rattle.pawk_value.specs.Fault.{Fault}
 use Rattle.pawk_value.specs.Fault.TheVariants as faults
@@ -223,12 +223,14 @@ module _ {S T : Type 0} (t : Track S T) where
         second = k.second;
         state = k.state;
         output = k.output;
+        second_output = k.second_output;
+        outputs = k.outputs;
         place = place k.state;
         is_at = is_at k.state;
         related = k.related;
         parts_there = k.parts_there;
         first_then = reaches_finish t.pair.permits t.pair.before t.pair.first_calls t.first place p (refusal_of a) (state_of a) k.state k.output e onto k.first_then;
-        second_then = reaches_finish t.pair.permits t.pair.before_second t.pair.second_calls t.second place p' (refusal_of b) (state_of b) k.state k.output f onto' k.second_then;
+        second_then = reaches_finish t.pair.permits t.pair.before_second t.pair.second_calls t.second place p' (refusal_of b) (state_of b) k.state k.second_output f onto' k.second_then;
       }))
 
 module _ {S T : Type 0} (t : Track S T) (keeps : KeepsItems t) (p : Program) (may : AllowsCode t.pair.permits p.code) where
@@ -315,15 +317,15 @@ module _ {S T : Type 0} (t : Track S T) (keeps : KeepsItems t) (p : Program) (ma
     abbrev opening_end : {Q : Type 0} → Q → End Q
     opening_end q = record { world = q; state = state; output = []; left = through }
 
-    pub run_in_step : RefusalsAreFinal t.pair.first_calls → RefusalsAreFinal t.pair.second_calls → t.pair.alike s u → FinishInStep t.pair (run first_calls p.eres p.code p.budget files s state) (run second_calls p.eres p.code p.budget files u state)
-    run_in_step final final' related =
+    pub run_in_step : t.pair.ahead ≡ [] → RefusalsAreFinal t.pair.first_calls → RefusalsAreFinal t.pair.second_calls → t.pair.alike s u → FinishInStep t.pair (run first_calls p.eres p.code p.budget files s state) (run second_calls p.eres p.code p.budget files u state)
+    run_in_step none final final' related =
         let r = begin_part first_calls p s state in
         let r' = begin_part second_calls p u state in
         pass_in_step t (λ state. in_begin) (λ state. tt) (begin_passage first_calls p files) (begin_passage second_calls p files) r r'
         (λ left. begin_onto p first_run files left r)
         (λ left. begin_onto p second_run files left r')
         (λ left. begin_same final final' files left r r')
-        (part_in_step p.budget goes_begins (opening_end s) (opening_end u) (record { worlds = related; states = refl; outputs = refl; lefts = refl }))
+        (part_in_step p.budget goes_begins (opening_end s) (opening_end u) (record { worlds = related; states = refl; outputs = sym (ap (λ a. a ++ []) none); lefts = refl }))
 
     pub first_ended : EndingBy (EndsBy t.first) (run first_calls p.eres p.code p.budget files s state).ending
     first_ended =

@@ -1,5 +1,5 @@
 -- Statements and calls that ask what is permitted go in step.
-use Rattle.std.proofs.Common.{◌≡◌, ℕ, pos, zero, suc, List, [], ◌∷◌, ◌++◌, Option, Some, None, refl, ap, ◌∙◌, inl, Bool, true, Result, Ok, length, take, drop}
+use Rattle.std.proofs.Common.{◌≡◌, ℕ, pos, zero, suc, List, [], ◌∷◌, ◌++◌, Option, Some, None, refl, ap, ◌∙◌, inl, Bool, true, Result, Ok, length, take, drop, append_assoc}
 use Rattle.std.specs.Prelude.{slice_get, MatchOption}
 use Rattle.pawk_value.specs.Fault.{Fault}
 use Rattle.pawk_value.specs.Fault.TheVariants as fault
@@ -57,7 +57,7 @@ module _ {S T : Type 0} {t : Track S T} (eres : List (List ℕ)) where
   goes_print_text s = record {
     first = λ m held. record { world = t.first.here m.world; output = (s, refl); state = t.order.here m.state; meets = (tt, held) };
     second = λ n held. record { world = t.second.here n.world; output = (s, refl); state = t.order.here n.state; meets = (tt, held) };
-    alike = λ m n same held. inl (refl, record { worlds = same.worlds; states = same.states; frames = same.frames; arrays = same.arrays; outputs = ap (λ o. o ++ s) same.outputs; lefts = same.lefts });
+    alike = λ m n same held. inl (refl, record { worlds = same.worlds; states = same.states; frames = same.frames; arrays = same.arrays; outputs = ap (λ o. o ++ s) same.outputs ∙ append_assoc t.pair.ahead n.output s; lefts = same.lefts });
   }
 
   module _ (enter : ℕ → List Hold → Part S Val) (enter' : ℕ → List Hold → Part T Val) (entered_too : (f : ℕ) → t.pair.permits runs (function_slot f) → (values : List Hold) → Held t values → Goes t Any (enter f values) (enter' f values)) where

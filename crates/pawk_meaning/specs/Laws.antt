@@ -1,5 +1,5 @@
 -- The lockstep law: runs over two worlds that answer what a program may ask equally, or part there, go in step.
-use Rattle.std.specs.Prelude.{◌≡◌, ℕ, List, ◌⊎◌, Option, Some, None}
+use Rattle.std.specs.Prelude.{◌≡◌, ℕ, List, [], ◌++◌, ◌⊎◌, Option, Some, None}
 use Rattle.pawk_world.specs.Halts.{Halt}
 use Rattle.pawk_world.specs.Halts as halt
 use Rattle.pawk_world.specs.Worlds.{Request, Calls}
@@ -20,7 +20,7 @@ StatementsLaw {S} {T} w =
     AreInLockstep w → FirstGoesOn w → SecondGoesOn w →
     (eres : List (List ℕ)) (functions : List Function) (body : Stmts) →
     AllowsFunctions w.permits functions → AllowsStmts w.permits body →
-    (depth : ℕ) (m : Moment S) (n : Moment T) → SameMoment w.alike m n → AllHeld w.permits m.frame →
+    (depth : ℕ) (m : Moment S) (n : Moment T) → SameMoment w m n → AllHeld w.permits m.frame →
     InStep w
     (execs w.first_calls eres (call_at w.first_calls eres functions depth) body m)
     (execs w.second_calls eres (call_at w.second_calls eres functions depth) body n)
@@ -30,7 +30,7 @@ abbrev pub RecordLaw : {S T : Type 0} → Pair S T → Type 0
 RecordLaw {S} {T} w =
     AreInLockstep w → FirstGoesOn w → SecondGoesOn w →
     (eres : List (List ℕ)) (functions : List Function) (rules : List Rule) → AllowsMain w.permits functions rules →
-    (i : Item) (m : Moment S) (n : Moment T) → SameMoment w.alike m n → AllHeld w.permits m.frame →
+    (i : Item) (m : Moment S) (n : Moment T) → SameMoment w m n → AllHeld w.permits m.frame →
     InStep w
     (one_record w.first_calls eres functions rules i m)
     (one_record w.second_calls eres functions rules i n)
@@ -41,7 +41,7 @@ ActionsLaw {S} {T} w =
     AreInLockstep w → FirstGoesOn w → SecondGoesOn w →
     (eres : List (List ℕ)) (functions : List Function) (bodies : List Stmts) →
     AllowsFunctions w.permits functions → AllowsActions w.permits bodies →
-    (m : Moment S) (n : Moment T) → SameMoment w.alike m n → AllHeld w.permits m.frame →
+    (m : Moment S) (n : Moment T) → SameMoment w m n → AllHeld w.permits m.frame →
     InStep w
     (actions w.first_calls eres functions bodies m)
     (actions w.second_calls eres functions bodies n)
@@ -75,7 +75,7 @@ module _ {S T : Type 0} (w : Pair S T) where
   pub record SameEnd (e : End S) (f : End T) : Type 0 where
     pub worlds : w.alike e.world f.world
     pub states : e.state ≡ f.state
-    pub outputs : e.output ≡ f.output
+    pub outputs : e.output ≡ w.ahead ++ f.output
     pub lefts : e.left ≡ f.left
 
   -- both came in step to a request at which they part
@@ -86,6 +86,8 @@ module _ {S T : Type 0} (w : Pair S T) where
     pub second : T
     pub state : RecordState
     pub output : List ℕ
+    pub second_output : List ℕ
+    pub outputs : output ≡ w.ahead ++ second_output
     pub related : w.alike first second
     pub parts_there : w.parts request first second
     pub first_then :
@@ -93,7 +95,7 @@ module _ {S T : Type 0} (w : Pair S T) where
         EndReaches w.before (refusal_of a) (state_of a) state output e
     pub second_then :
         let b = w.second_calls.ask request second in
-        EndReaches w.before_second (refusal_of b) (state_of b) state output f
+        EndReaches w.before_second (refusal_of b) (state_of b) state second_output f
 
   abbrev pub EndsInStep : End S → End T → Type 0
   EndsInStep e f = SameEnd e f ⊎ EndParting e f
@@ -143,7 +145,7 @@ module _ {S T : Type 0} (w : Pair S T) where
   pub record SameFinish (x : Finish S) (y : Finish T) : Type 0 where
     pub worlds : w.alike x.world y.world
     pub states : x.state ≡ y.state
-    pub outputs : x.output ≡ y.output
+    pub outputs : x.output ≡ w.ahead ++ y.output
     pub endings : x.ending ≡ y.ending
 
   -- both came in step to a request at which they part
@@ -154,6 +156,8 @@ module _ {S T : Type 0} (w : Pair S T) where
     pub second : T
     pub state : RecordState
     pub output : List ℕ
+    pub second_output : List ℕ
+    pub outputs : output ≡ w.ahead ++ second_output
     pub place : Place
     pub is_at : IsAt state place
     pub related : w.alike first second
@@ -163,7 +167,7 @@ module _ {S T : Type 0} (w : Pair S T) where
         FinishReaches w.before (refusal_of a) (state_of a) state output place x
     pub second_then :
         let b = w.second_calls.ask request second in
-        FinishReaches w.before_second (refusal_of b) (state_of b) state output place y
+        FinishReaches w.before_second (refusal_of b) (state_of b) state second_output place y
 
   abbrev pub FinishInStep : Finish S → Finish T → Type 0
   FinishInStep x y = SameFinish x y ⊎ FinishParting x y
@@ -171,7 +175,7 @@ module _ {S T : Type 0} (w : Pair S T) where
 -- a whole run; and the run over each world ends as runs over it may
 abbrev pub RunLaw : {S T : Type 0} → Pair S T → Type 0
 RunLaw {S} {T} w =
-    AreInLockstep w → (on : FirstGoesOn w) → (on' : SecondGoesOn w) →
+    w.ahead ≡ [] → AreInLockstep w → (on : FirstGoesOn w) → (on' : SecondGoesOn w) →
     RefusalsAreFinal w.first_calls → RefusalsAreFinal w.second_calls →
     (eres : List (List ℕ)) (code : Code) → AllowsCode w.permits code →
     (budget : ℕ) (files : List File) (s : S) (t : T) (state : RecordState) → w.alike s t →

@@ -67,7 +67,7 @@ abbrev pub IsPrefix : List ℕ → List ℕ → Type 0
 IsPrefix a b = (rest : List ℕ) × (b ≡ a ++ rest)
 
 -- Two worlds: the meaning of each one's calls, a relation of their states, for each an order of states in which calls
--- go on, what is permitted, and the partings at a request.
+-- go on, what is permitted, the partings at a request, and what the output of the first run has in front of the second's.
 pub record Pair (S T : Type 0) : Type 1 where
   pub first_calls : Calls S
   pub second_calls : Calls T
@@ -76,6 +76,7 @@ pub record Pair (S T : Type 0) : Type 1 where
   pub before_second : T → T → Type 0
   pub permits : Access → Resource → Type 0
   pub parts : Request → S → T → Type 0
+  pub ahead : List ℕ
 
 -- what a parameter may hold: a global array only where everything is permitted of it
 module _ (permits : Access → Resource → Type 0) where
@@ -124,22 +125,22 @@ module _ {S T : Type 0} (alike : S → T → Type 0) where
   SameAnswer (world.halts h s) (world.halts i t) = (h ≡ i) × alike s t
   SameAnswer _ _ = ⊥
 
-  -- the same moment but for the worlds, which are related
+module _ {S T : Type 0} (w : Pair S T) where
+  -- the same moment but for the worlds, which are related, and for what the first output has in front
   pub record SameMoment (m : Moment S) (n : Moment T) : Type 0 where
-    pub worlds : alike m.world n.world
+    pub worlds : w.alike m.world n.world
     pub states : m.state ≡ n.state
     pub frames : m.frame ≡ n.frame
     pub arrays : m.arrays ≡ n.arrays
-    pub outputs : m.output ≡ n.output
+    pub outputs : m.output ≡ w.ahead ++ n.output
     pub lefts : m.left ≡ n.left
 
   -- the same end
   abbrev pub SameOutcome : {X : Type 0} → Outcome S X → Outcome T X → Type 0
   SameOutcome (gives x m) (gives y n) = (x ≡ y) × SameMoment m n
-  SameOutcome (halts h s state out) (halts i t state' out') = (h ≡ i) × alike s t × (state ≡ state') × (out ≡ out')
+  SameOutcome (halts h s state out) (halts i t state' out') = (h ≡ i) × w.alike s t × (state ≡ state') × (out ≡ w.ahead ++ out')
   SameOutcome _ _ = ⊥
 
-module _ {S T : Type 0} (w : Pair S T) where
   -- each permitted call answers equally and keeps the relation, or is a parting
   pub record AreInLockstep : Type 0 where
     pub look : (n : ℕ) → w.permits looks (variable_slot n) → (s : S) (t : T) → w.alike s t →
@@ -155,6 +156,8 @@ module _ {S T : Type 0} (w : Pair S T) where
     pub second : T
     pub state : RecordState
     pub output : List ℕ
+    pub second_output : List ℕ
+    pub outputs : output ≡ w.ahead ++ second_output
     pub related : w.alike first second
     pub parts_there : w.parts request first second
     pub first_then :
@@ -162,11 +165,11 @@ module _ {S T : Type 0} (w : Pair S T) where
         Reaches w.before (refusal_of a) (state_of a) state output o
     pub second_then :
         let b = w.second_calls.ask request second in
-        Reaches w.before_second (refusal_of b) (state_of b) state output p
+        Reaches w.before_second (refusal_of b) (state_of b) state second_output p
 
   -- the same end, or both came in step to a request at which they part
   abbrev pub InStep : {X : Type 0} → Outcome S X → Outcome T X → Type 0
-  InStep o p = SameOutcome w.alike o p ⊎ Parting o p
+  InStep o p = SameOutcome o p ⊎ Parting o p
 
 -- a refusal is one of these
 abbrev pub RefusesIn : {S : Type 0} → (Halt → Type 0) → Option (Halt × S) → Type 0

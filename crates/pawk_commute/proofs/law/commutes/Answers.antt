@@ -9,10 +9,10 @@ use Rattle.pawk_commute.proofs.EndLemmas.{opens_alike, commuted}
 use Rattle.pawk_commute.proofs.law.commutes.Goals as goal
 
 pub returns : goal.returns
-returns c = λ i begin may eres budget skip items state out.
+returns c = λ i begin may eres budget skip items state.
     let law = c.lockstep_records.ensures i (in_lockstep i begin) (store_goes_on i) (chunk_goes_on i begin) store_final chunk_final eres i.code may budget skip items
-    (store_opening i state out) (chunk_opening i state out) (opens_alike i state out begin) tt tt in
+    (store_opening i state) (chunk_opening i state) (opens_alike i state begin) tt tt in
     commuted i begin
-    (records_from (traced globals.calls) eres i.code budget skip (store_opening i state out) items)
-    (records_from frozen.calls eres i.code budget skip (chunk_opening i state out) items)
+    (records_from (traced globals.calls) eres i.code budget skip (store_opening i state) items)
+    (records_from frozen.calls eres i.code budget skip (chunk_opening i state) items)
     law.1 law.0

@@ -1,0 +1,33 @@
+-- A run that keeps a trace is the run that keeps none.
+use Rattle.std.specs.Prelude.{◌≡◌, ℕ, List, [], Option}
+use Rattle.pawk_code.specs.Programs.{Code}
+use Rattle.pawk_input.specs.Input.{Item}
+use Rattle.pawk_store.specs.Globals.{Globals, calls}
+use Rattle.pawk_meaning.specs.Records.{End}
+use Rattle.pawk_meaning.specs.Runs.{records_from}
+use Rattle.pawk_meaning.specs.Lockstep.{Pair}
+use Rattle.pawk_commute.specs.Traces.{Traced, traced}
+
+-- an end without its trace
+abbrev pub plain : End Traced → End Globals
+plain e = record { world = e.world.globals; state = e.state; output = e.output; left = e.left }
+
+-- the same globals; whatever a program asks, the two do not part
+abbrev pub traced_pair : Unit {0} → Pair Traced Globals
+traced_pair u = record {
+  first_calls = traced calls;
+  second_calls = calls;
+  alike = λ s g. s.globals ≡ g;
+  before = λ s t. Unit {0};
+  before_second = λ g h. Unit {0};
+  permits = λ access resource. Unit {0};
+  parts = λ q s g. ⊥;
+  ahead = [];
+}
+
+-- records of any program
+abbrev pub TracedLaw : Type 0
+TracedLaw =
+    (eres : List (List ℕ)) (code : Code) (budget : ℕ) (skip : Option ℕ) (items : List Item) (e : End Traced) →
+    plain (records_from (traced calls) eres code budget skip e items)
+    ≡ records_from calls eres code budget skip (plain e) items
