@@ -5,7 +5,7 @@ ghost use Rattle.std.specs.List.{All};
 ghost use Rattle.std.specs.Option.{option_map};
 ghost use Rattle.std.specs.Borrow.{sem};
 ghost use Rattle.pawk_value.specs.Value.{lent_value, shown, Uninit};
-ghost use Rattle.pawk_array.specs.Entries.{found, put, without, value_of, touched, pieces_of, keys};
+ghost use Rattle.pawk_array.specs.Entries.{Rise, found, put, without, value_of, touched, pieces_of, keys};
 ghost use Rattle.pawk_array.specs.ArrayViews.{entries_of, HasKeyAt};
 ghost use Rattle.pawk_array.specs.Lending.{LendsElement, EndsTouched};
 
@@ -177,6 +177,13 @@ impl Array {
             insert_copy(alloc, &mut map, key.as_slice(), value)?;
         }
         Ok(Array { alloc, map })
+    }
+
+    /// The keys rise: each stands once, in the order of the bytes. It changes nothing and takes no time.
+    pub fn order_law(&self)
+        ensures { Rise self.now }
+    {
+        let _map = &self.map;
     }
 
     /// All keys, in the order of their bytes.

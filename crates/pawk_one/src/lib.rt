@@ -13,4 +13,4 @@ pub use ending::{Ending, Place};
 pub use left::Left;
 pub use outcome::{Outcome, run_one};
 pub use part::{actions, record};
-pub use whole::{Job, run_program};
+pub use whole::{Job, run_program, run_records};

@@ -115,8 +115,11 @@ fn ends_records(left: Left) -> bool
     }
 }
 
-/// Runs the rules on each record.
-fn run_records<'a, W: World>(
+/// Runs the rules on each record, which may take so many steps; the output goes behind what is there.
+/// `nextfile` leaves the rest of its file unread.
+///
+/// POSIX.1-2017, awk, "Overall Program Structure".
+pub fn run_records<'a, W: World>(
     job: Job<'_>,
     records: Records<'a>,
     world: &mut W,

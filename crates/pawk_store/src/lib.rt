@@ -3,6 +3,7 @@
 
 mod copies;
 mod globals;
+mod moving;
 mod openings;
 mod reading;
 mod state;

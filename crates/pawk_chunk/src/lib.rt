@@ -1,0 +1,6 @@
+//! Chunks of the records, each run over the globals that `BEGIN` left.
+#![tactic(auto)]
+
+mod chunk;
+
+pub use chunk::{Begun, ChunkResult, run_chunk};

@@ -1,0 +1,4 @@
+pub mod ArrayLemmas
+pub mod StopLemmas
+pub mod SlotLemmas
+pub mod LawLemmas

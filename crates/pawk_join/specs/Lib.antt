@@ -1,0 +1,4 @@
+pub mod Joins
+pub mod Tables
+pub mod JoinLaws
+pub mod Stops

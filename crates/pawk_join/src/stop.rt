@@ -1,0 +1,24 @@
+//! Why a join stops.
+
+ghost use Rattle.std.specs.Prelude.{◌≡◌};
+
+use std::alloc::AllocError;
+
+/// Why what a chunk noted is not joined to the globals.
+#[derive(Clone, Copy, PartialEq, Eq)]
+pub enum JoinStop {
+    /// The value of a cell has no number, or a sum on the way is none of the language.
+    Cell,
+    /// Memory was refused.
+    Memory,
+}
+
+impl From<AllocError> for JoinStop {
+    ghost use Rattle.pawk_join.specs.declared.stop.JoinStop.TheVariants.{Memory};
+
+    ghost from_gives = { λ _ stop. stop ≡ Memory };
+
+    fn from(_error: AllocError) -> JoinStop {
+        JoinStop::Memory
+    }
+}
