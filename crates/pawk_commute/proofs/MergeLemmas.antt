@@ -74,7 +74,7 @@ grows roles c (event.created n key ∷ es) s role h = by (same_cell c (element n
 
 -- ---- an add whose sum is in range does not fault
 
-range_from : (z : ℤ) → FitsWord z → in_range z ≡ true
+pub range_from : (z : ℤ) → FitsWord z → in_range z ≡ true
 range_from (pos n) h = let k : n < 2 ^ 63 = omega (arith, ints, h.1) in search (rules, tests)
 range_from (negsuc n) h = let k : n < 2 ^ 63 = omega (arith, ints, h.0) in search (rules, tests)
 
