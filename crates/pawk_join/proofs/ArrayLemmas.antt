@@ -1,5 +1,5 @@
 -- Elements that are joined to what was noted of them.
-use Rattle.std.proofs.Common.{◌≡◌, ℕ, suc, length, Bool, true, false, cond, List, [], ◌∷◌, map, Option, Some, None, refl, sym, ◌∙◌, ap, subst}
+use Rattle.std.proofs.Common.{◌≡◌, ℕ, suc, length, Bool, true, false, cond, List, [], ◌∷◌, Option, Some, None, refl, sym, ◌∙◌, ap}
 use Rattle.std.specs.Prelude.{◌&&◌, ◌||◌, is_some}
 use Rattle.std.specs.List.{list_all, list_any}
 use Rattle.std.specs.Ordering.{eq_by_cmp, is_eq}
@@ -240,9 +240,10 @@ length-put_mark k m (x ∷ marks) e = by (order k x.0) refl (length-put_mark k m
 pub one_taken : (k : List ℕ) (m : Mark) (before rest : Marks) (es new : Entries) → Rise es → before ≡ put_mark k m rest → find order k rest ≡ None →
     takes m (value_of (found k es)) ≡ true → new ≡ with_element k (joined_element m (found k es)) es →
     (array_takes rest new ≡ array_takes before es) × (join_array rest new ≡ join_array before es)
-one_taken k m before rest es new h is none t e =
-    (ap (array_takes rest) e ∙ sym (ap (λ b. b && array_takes rest (after k m rest es none)) t) ∙ sym (array_takes-put k m rest es none) ∙ ap (λ ms. array_takes ms es) (sym is),
-     ap (join_array rest) e ∙ join_array-put k m rest es none h ∙ ap (λ ms. join_array ms es) (sym is))
+one_taken k m before rest es new h is none t e = (
+  ap (array_takes rest) e ∙ sym (ap (λ b. b && array_takes rest (after k m rest es none)) t) ∙ sym (array_takes-put k m rest es none) ∙ ap (λ ms. array_takes ms es) (sym is),
+  ap (join_array rest) e ∙ join_array-put k m rest es none h ∙ ap (λ ms. join_array ms es) (sym is),
+)
 
 -- a key is taken out whose element does not
 pub one_refused : (k : List ℕ) (m : Mark) (before rest : Marks) (es : Entries) → before ≡ put_mark k m rest → find order k rest ≡ None →

@@ -1,20 +1,18 @@
 -- Proofs of the laws of joins.
-use Rattle.std.proofs.Common.{◌≡◌, ◌<◌, ◌≤◌, ◌+◌, ℕ, zero, suc, length, ⊎_elim, Bool, true, false, List, [], ◌∷◌, get_or, refl, sym, ◌∙◌, ap, arith, subst}
-use Rattle.std.specs.Prelude.{◌&&◌, Some, slice_get, All}
+use Rattle.std.proofs.Common.{◌≡◌, ◌<◌, ◌≤◌, ◌+◌, ℕ, suc, length, ⊎_elim, Bool, true, false, List, [], ◌∷◌, get_or, refl, sym, ◌∙◌, ap, arith, subst}
+use Rattle.std.specs.Prelude.{◌&&◌, slice_get}
 use Rattle.std.specs.Option.{option_map}
 use Rattle.std.proofs.lemmas.Bool.{cases_lt}
 use Rattle.std.proofs.lemmas.List.{get_or_past, same_lists}
-use Rattle.pawk_value.specs.Value.{Val}
-use Rattle.pawk_array.specs.Entries.{Entries, Rise, found, value_of}
+use Rattle.pawk_array.specs.Entries.{Entries, Rise, found}
 use Rattle.pawk_world.specs.Worlds.{Cell, scalar, element}
-use Rattle.pawk_store.specs.Globals.{Globals, array_at, value_at}
-use Rattle.pawk_frozen.specs.Marks.{Mark, blank, Marks, mark_found, Table, mark_at}
+use Rattle.pawk_store.specs.Globals.{array_at, value_at}
+use Rattle.pawk_frozen.specs.Marks.{blank, Table, mark_at}
 use Rattle.pawk_join.specs.Joins.{takes, joined_value, joined_element}
-use Rattle.pawk_join.specs.Tables.{join_array, element_takes, array_takes, by_place, each_below, scalar_mark, array_marks, scalars_take, arrays_take, all_take, join_table}
-use Rattle.pawk_join.specs.JoinLaws.{AllRise, AreJoined, JoinLaw, OneJoinLaw, TakesLaw}
+use Rattle.pawk_join.specs.Tables.{join_array, array_takes, by_place, scalar_mark, array_marks, scalars_take, arrays_take, all_take, join_table}
+use Rattle.pawk_join.specs.JoinLaws.{AllRise, JoinLaw, OneJoinLaw, TakesLaw}
 use Rattle.pawk_join.proofs.ArrayLemmas.{found-join_array, rise-join_array, same_join_array, element_takes-array_takes, array_takes-element_takes}
 use Rattle.pawk_join.proofs.SlotLemmas.{get_or-default, get_or-by_place, length-by_place, slice_get-by_place, each_below_at, each_below_all, same_globals}
-
 
 -- what an array of this slot becomes
 abbrev each_of : Table → ℕ → Entries → Entries

@@ -2,3 +2,4 @@ pub mod ArrayLemmas
 pub mod StopLemmas
 pub mod SlotLemmas
 pub mod LawLemmas
+pub mod MergeLemmas

@@ -1,8 +1,8 @@
 -- Scalars and arrays that are joined slot by slot.
-use Rattle.std.proofs.Common.{◌≡◌, ◌<◌, ◌≤◌, ◌+◌, ℕ, zero, suc, length, ⊎_elim, Bool, true, false, cond, List, [], ◌∷◌, get_or, set, drop, refl, sym, ◌∙◌, ap, arith, subst, add-one}
+use Rattle.std.proofs.Common.{◌≡◌, ◌<◌, ◌≤◌, ◌+◌, ℕ, zero, suc, length, ⊎_elim, Bool, true, false, List, [], ◌∷◌, get_or, set, drop, refl, sym, ◌∙◌, ap, arith, add-one}
 use Rattle.std.specs.Prelude.{◌&&◌, ◌≢◌, Some, slice_get}
 use Rattle.std.specs.Option.{option_map}
-use Rattle.std.proofs.lemmas.List.{get_or-set_other, get_or-set_same, set-set, same_lists, length-set, get_or_past, drop_more, length-drop}
+use Rattle.std.proofs.lemmas.List.{get_or-set_other, get_or-set_same, set-set, same_lists, length-set, drop_more, length-drop}
 use Rattle.std.proofs.lemmas.Bool.{cases_lt}
 use Rattle.pawk_store.specs.Globals.{Globals}
 use Rattle.pawk_join.specs.Tables.{by_place, each_below}

@@ -1,6 +1,5 @@
 -- Joins that stop.
-use Rattle.std.proofs.Common.{◌≡◌, Bool, true, false, Result, Ok, Err, sym, subst}
-use Rattle.std.specs.Prelude.{⊤}
+use Rattle.std.proofs.Common.{◌≡◌, Bool, false, Result, Ok, Err, sym, subst}
 use Rattle.std.specs.Result.{IsErrAnd}
 use Rattle.pawk_join.specs.declared.stop.JoinStop.{JoinStop}
 use Rattle.pawk_join.specs.declared.stop.JoinStop.TheVariants as code
@@ -8,6 +7,8 @@ use Rattle.pawk_join.specs.Stops.{Joins}
 
 passed_on : {T U : Type 0} (t u : Bool) (P : T → Type 0) (Q : U → Type 0) (e : JoinStop) → Joins t P (Err e) → (t ≡ false → u ≡ false) → Joins u Q (Err e)
 passed_on t u P Q code.Cell h f = f h
+passed_on t u P Q code.Fault h f = h
+passed_on t u P Q code.Clash h f = h
 passed_on t u P Q code.Memory h f = h
 
 -- the stop of a part of a join is that of the join

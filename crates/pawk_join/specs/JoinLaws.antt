@@ -1,5 +1,5 @@
 -- The join of a table to globals, read cell by cell.
-use Rattle.std.specs.Prelude.{◌≡◌, ◌↔◌, ◌<◌, ◌≤ℤ◌, ℕ, ℤ, ◌+ℤ◌, ◌&&◌, Bool, true, List, length, slice_get, All}
+use Rattle.std.specs.Prelude.{◌≡◌, ◌↔◌, ◌<◌, ◌≤ℤ◌, ℕ, ℤ, ◌+ℤ◌, ◌&&◌, true, List, length, slice_get, All}
 use Rattle.std.specs.Option.{option_map}
 use Rattle.pawk_value.specs.Range.{in_range}
 use Rattle.pawk_array.specs.Entries.{Rise, found}

@@ -1,5 +1,5 @@
 -- What becomes of one cell, where what a chunk noted of it is joined to the globals.
-use Rattle.std.specs.Prelude.{ℤ, ◌+ℤ◌, ◌&&◌, Bool, true, false, Option, Some, None, Result, Ok, Err}
+use Rattle.std.specs.Prelude.{ℤ, ◌+ℤ◌, ◌&&◌, Bool, true, false, Option, Some, Result, Ok, Err}
 use Rattle.pawk_value.specs.Fault.{Fault}
 use Rattle.pawk_value.specs.Range.{in_range}
 use Rattle.pawk_value.specs.Value.{Val, Uninit, Num}

@@ -2,3 +2,5 @@ pub mod Joins
 pub mod Tables
 pub mod JoinLaws
 pub mod Stops
+pub mod Merges
+pub mod MergeViews

@@ -1,4 +1,4 @@
--- Why a join stops.
+-- What a join tells.
 use Rattle.std.specs.Prelude.{◌≡◌, ⊤, Bool, true, false, Result, Ok, Err}
 use Rattle.pawk_join.specs.declared.stop.JoinStop.{JoinStop}
 use Rattle.pawk_join.specs.declared.stop.JoinStop.TheVariants as code
@@ -7,4 +7,6 @@ use Rattle.pawk_join.specs.declared.stop.JoinStop.TheVariants as code
 abbrev pub Joins : {T : Type 0} → Bool → (T → Type 0) → Result T JoinStop → Type 0
 Joins takes P (Ok t) = (takes ≡ true) × P t
 Joins takes P (Err code.Cell) = takes ≡ false
+Joins takes P (Err code.Fault) = ⊥
+Joins takes P (Err code.Clash) = ⊥
 Joins takes P (Err code.Memory) = ⊤

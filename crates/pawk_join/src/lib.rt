@@ -4,8 +4,12 @@
 mod array;
 mod cell;
 pub mod laws;
+mod merging;
+mod parts;
 mod stop;
 mod table;
 
+pub use merging::{Merged, merge};
+pub use parts::{Leaving, Part};
 pub use stop::JoinStop;
 pub use table::join_table;

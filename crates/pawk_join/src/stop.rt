@@ -1,14 +1,18 @@
-//! Why a join stops.
+//! Why chunks are not joined.
 
 ghost use Rattle.std.specs.Prelude.{◌≡◌};
 
-use std::alloc::AllocError;
+use std::alloc::{AllocError, AllocFailed};
 
-/// Why what a chunk noted is not joined to the globals.
+/// Why what chunks noted is not joined to the globals.
 #[derive(Clone, Copy, PartialEq, Eq)]
 pub enum JoinStop {
     /// The value of a cell has no number, or a sum on the way is none of the language.
     Cell,
+    /// A chunk ended in a fault.
+    Fault,
+    /// A chunk did what its world does not allow.
+    Clash,
     /// Memory was refused.
     Memory,
 }
@@ -19,6 +23,16 @@ impl From<AllocError> for JoinStop {
     ghost from_gives = { λ _ stop. stop ≡ Memory };
 
     fn from(_error: AllocError) -> JoinStop {
+        JoinStop::Memory
+    }
+}
+
+impl<T: Drop> From<AllocFailed<T>> for JoinStop {
+    ghost use Rattle.pawk_join.specs.declared.stop.JoinStop.TheVariants.{Memory};
+
+    ghost from_gives = { λ _ stop. stop ≡ Memory };
+
+    fn from(_error: AllocFailed<T>) -> JoinStop {
         JoinStop::Memory
     }
 }

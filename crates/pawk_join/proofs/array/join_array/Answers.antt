@@ -1,13 +1,9 @@
-use Rattle.std.proofs.Common.{◌≡◌, ◌<◌, true, false, List, ℕ, Result, Ok, Err, sym, ◌∙◌, ap, arith, length, suc}
-use Rattle.pawk_array.specs.Entries.{Entries, found, value_of}
-use Rattle.pawk_frozen.specs.Marks.{Mark}
+use Rattle.std.proofs.Common.{◌≡◌, sym, ◌∙◌, ap, arith, length}
+use Rattle.pawk_array.specs.Entries.{found, value_of}
 use Rattle.pawk_frozen.specs.MarkViews.{mark_view}
 use Rattle.pawk_join.specs.Joins.{takes, joined_element}
 use Rattle.pawk_join.specs.Tables.{array_takes, with_element}
 use Rattle.pawk_join.specs.Tables as spec
-use Rattle.pawk_join.specs.Stops.{Joins}
-use Rattle.pawk_join.specs.declared.stop.JoinStop.{JoinStop}
-use Rattle.pawk_join.specs.declared.stop.JoinStop.TheVariants as code
 use Rattle.pawk_join.proofs.ArrayLemmas.{length-put_mark, one_taken, one_refused}
 use Rattle.pawk_join.proofs.StopLemmas.{stops_too}
 use Rattle.pawk_join.proofs.array.join_array.Goals as goal

@@ -1,9 +1,6 @@
-use Rattle.std.proofs.Common.{◌≡◌, true, refl}
-use Rattle.pawk_array.specs.Entries.{found, value_of}
-use Rattle.pawk_frozen.specs.Marks.{Mark, blank}
+use Rattle.std.proofs.Common.{◌≡◌, refl}
+use Rattle.pawk_frozen.specs.Marks.{blank}
 use Rattle.pawk_frozen.specs.MarkViews.{mark_view}
-use Rattle.pawk_join.specs.Joins.{takes, joined_element}
-use Rattle.pawk_join.specs.Tables.{with_element}
 use Rattle.pawk_join.proofs.ArrayLemmas.{with_element_found}
 use Rattle.pawk_join.proofs.array.join_element.Goals as goal
 

@@ -1,12 +1,11 @@
-use Rattle.std.proofs.Common.{◌≡◌, ◌<◌, ◌≤◌, ◌+◌, ◌∷◌, [], ℕ, true, false, List, drop, length, get_or, set, refl, sym, ◌∙◌, ap, arith}
+use Rattle.std.proofs.Common.{◌≡◌, ◌<◌, ◌≤◌, ◌∷◌, [], ℕ, true, drop, length, get_or, set, refl, sym, ◌∙◌, ap, arith}
 use Rattle.std.proofs.lemmas.List.{get_or_past}
 use Rattle.std.specs.Vec.Iter.{into_iter_items}
 use Rattle.pawk_array.specs.Entries.{Entries}
 use Rattle.pawk_store.specs.Globals.{Globals, array_at}
-use Rattle.pawk_frozen.specs.Marks.{Marks}
 use Rattle.pawk_join.specs.Tables.{array_marks, array_takes, arrays_take, join_array}
 use Rattle.pawk_join.specs.Tables as spec
-use Rattle.pawk_join.proofs.SlotLemmas.{done, done_more, done_all, later_slot, each_below_more, each_below_fewer, each_below_false, left_within, left_at, left_behind, same_globals}
+use Rattle.pawk_join.proofs.SlotLemmas.{done_more, done_all, later_slot, each_below_more, each_below_fewer, each_below_false, left_within, left_at, left_behind, same_globals}
 use Rattle.pawk_join.proofs.StopLemmas.{stops_too}
 use Rattle.pawk_join.proofs.table.join_arrays.Goals as goal
 
@@ -29,7 +28,7 @@ loop-of_elements-preserved c =
       left = sym (left_behind i ms rest c.in-Some.of_elements left);
       taken = each_below_more i (λ n. array_takes (array_marks ms n) (array_at c.args.globals.now n)) c.loop-of_elements.invariant.taken taken;
       arrays = ap (λ (g : Globals). g.arrays) c.put_array.ensures ∙ ap (λ (g : Globals). set g.arrays i c.join_array.new.elements) c.take_array-elements.ensures.globals ∙ change;
-      scalars = ap (λ (g : Globals). g.scalars) c.put_array.ensures ∙ ap (λ (g : Globals). g.scalars) c.take_array-elements.ensures.globals ∙ c.loop-of_elements.invariant.scalars
+      scalars = ap (λ (g : Globals). g.scalars) c.put_array.ensures ∙ ap (λ (g : Globals). g.scalars) c.take_array-elements.ensures.globals ∙ c.loop-of_elements.invariant.scalars;
     }
 
 pub returns : goal.returns

@@ -11,5 +11,5 @@ invariant-loop-of_elements l = record {
   left : into_iter_items l.of_elements-iterator ≡ drop l.slot l.fn.marks.items;
   taken : each_below l.slot (λ n. array_takes (array_marks l.fn.marks.items n) (array_at l.fn.globals n)) ≡ true;
   arrays : l.globals.arrays ≡ done [] (λ n es. join_array (array_marks l.fn.marks.items n) es) l.slot l.fn.globals.arrays;
-  scalars : l.globals.scalars ≡ l.fn.globals.scalars
+  scalars : l.globals.scalars ≡ l.fn.globals.scalars;
 }

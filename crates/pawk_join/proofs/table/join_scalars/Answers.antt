@@ -1,17 +1,17 @@
-use Rattle.std.proofs.Common.{◌≡◌, ◌<◌, ◌≤◌, ◌+◌, ◌∷◌, [], ℕ, true, false, List, drop, length, map, get_or, set, refl, sym, ◌∙◌, ap, arith}
+use Rattle.std.proofs.Common.{◌≡◌, ◌<◌, ◌≤◌, ◌∷◌, ℕ, true, drop, length, map, get_or, set, refl, sym, ◌∙◌, ap, arith}
 use Rattle.std.proofs.Math.ListN.{get_or-map}
 use Rattle.std.proofs.lemmas.List.{get_or_past, length-map}
 use Rattle.std.specs.Vec.Iter.{into_iter_items}
 use Rattle.pawk_value.specs.Value.{Val, Uninit, shown}
 use Rattle.pawk_world.specs.Worlds.{scalar}
 use Rattle.pawk_store.specs.Globals.{Globals, value_at}
-use Rattle.pawk_frozen.specs.Marks.{Mark, blank}
+use Rattle.pawk_frozen.specs.Marks.{blank}
 use Rattle.pawk_frozen.specs.MarkViews.{mark_view}
 use Rattle.pawk_frozen.specs.declared.mark.Mark.TheVariants as code
 use Rattle.pawk_join.specs.Joins.{takes, joined_value}
 use Rattle.pawk_join.specs.Tables.{by_place, each_below, scalar_mark, scalars_take}
 use Rattle.pawk_join.specs.Tables as spec
-use Rattle.pawk_join.proofs.SlotLemmas.{done, done_more, done_all, later_slot, each_below_more, each_below_fewer, each_below_false, left_within, left_at, left_behind, same_globals}
+use Rattle.pawk_join.proofs.SlotLemmas.{done_more, done_all, later_slot, each_below_more, each_below_fewer, each_below_false, left_within, left_at, left_behind, same_globals}
 use Rattle.pawk_join.proofs.StopLemmas.{stops_too}
 use Rattle.pawk_join.proofs.table.join_scalars.Goals as goal
 
@@ -35,7 +35,7 @@ loop-mark-preserved c =
       left = sym (left_behind i marks rest c.in-Some.mark left);
       taken = each_below_more i (λ n. takes (scalar_mark ms n) (value_at (scalar n) c.args.globals.now)) c.loop-mark.invariant.taken taken;
       scalars = ap (λ (g : Globals). g.scalars) c.put_scalar.ensures ∙ ap (λ (g : Globals). set g.scalars i (shown c.join_cell.new.cell)) c.take_scalar-value.ensures.globals ∙ change;
-      arrays = ap (λ (g : Globals). g.arrays) c.put_scalar.ensures ∙ ap (λ (g : Globals). g.arrays) c.take_scalar-value.ensures.globals ∙ c.loop-mark.invariant.arrays
+      arrays = ap (λ (g : Globals). g.arrays) c.put_scalar.ensures ∙ ap (λ (g : Globals). g.arrays) c.take_scalar-value.ensures.globals ∙ c.loop-mark.invariant.arrays;
     }
 
 pub returns : goal.returns

@@ -15,5 +15,5 @@ invariant-loop-mark l = record {
   left : into_iter_items l.mark-iterator ≡ drop l.slot l.fn.marks.items;
   taken : each_below l.slot (λ n. takes (scalar_mark (map mark_view l.fn.marks.items) n) (value_at (scalar n) l.fn.globals)) ≡ true;
   scalars : l.globals.scalars ≡ done Uninit (λ n v. joined_value (scalar_mark (map mark_view l.fn.marks.items) n) v) l.slot l.fn.globals.scalars;
-  arrays : l.globals.arrays ≡ l.fn.globals.arrays
+  arrays : l.globals.arrays ≡ l.fn.globals.arrays;
 }
