@@ -1,4 +1,4 @@
--- How the functions that are reached are found: what was found is walked from its front, and what stands in a function that
+-- How the functions that are reach_one are found: what was found is walked from its front, and what stands in a function that
 -- is called there is added behind it, once.
 use Rattle.std.proofs.Common.{◌≡◌, ◌≢◌, ℕ, zero, suc, ◌+◌, ◌-◌, ◌<◌, ◌≤◌, Bool, true, false, List, [], ◌∷◌, ◌++◌, length, get_or, set, replicate, refl, sym, ap, subst, ◌∙◌, inl, inr, arith, length-append, length-set}
 use Rattle.std.specs.Prelude.{◌↔◌, Contains}
@@ -43,17 +43,17 @@ begin code list flags e d =
       lengths = ap length d ∙ length-replicate (length code.functions) false;
       sound = λ o h. inl (subst (P o) e h);
       rules_in = λ o h. subst (P o) (sym e) h;
-      functions_in = λ f told o h. elim (cases_lt f (length code.functions)) [
-        | inl below ↦ absurd (not_both _ (sym (ap (λ l. get_or l f true) d) ∙ told) (get_or-replicate (length code.functions) f false true below))
+      functions_in = λ f flagged o h. elim (cases_lt f (length code.functions)) [
+        | inl below ↦ absurd (not_both _ (sym (ap (λ l. get_or l f true) d) ∙ flagged) (get_or-replicate (length code.functions) f false true below))
         | inr past ↦ absurd (none_past code.functions f o past h)
       ];
       calls_in = λ k f below within is. absurd (omega (arith, below));
     }
 
--- an occurrence that is passed is no call, or a call of a function that was added
-pub passed : (code : Code) (list : List Occurrence) (flags : List Bool) (next : ℕ) → IsUnderway code list flags next →
+-- an occurrence that is pass_one is no call, or a call of a function that was added
+pub pass_one : (code : Code) (list : List Occurrence) (flags : List Bool) (next : ℕ) → IsUnderway code list flags next →
     ((f : ℕ) → get_or list next (Call f) ≡ Call f → get_or flags f true ≡ true) → IsUnderway code list flags (next + 1)
-passed code list flags next u h = record {
+pass_one code list flags next u h = record {
   lengths = u.lengths;
   sound = u.sound;
   rules_in = u.rules_in;
@@ -66,11 +66,11 @@ passed code list flags next u h = record {
   ];
 }
 
-told_before : (flags : List Bool) (slot f : ℕ) → f ≢ slot → get_or (set flags slot true) f true ≡ true → get_or flags f true ≡ true
-told_before flags slot f other h = sym (get_or-set_other flags slot f true true other) ∙ h
+flag_before : (flags : List Bool) (slot f : ℕ) → f ≢ slot → get_or (set flags slot true) f true ≡ true → get_or flags f true ≡ true
+flag_before flags slot f other h = sym (get_or-set_other flags slot f true true other) ∙ h
 
-told_after : (flags : List Bool) (slot f : ℕ) → get_or flags f true ≡ true → get_or (set flags slot true) f true ≡ true
-told_after flags slot f h = elim (cases_eq f slot) [
+flag_after : (flags : List Bool) (slot f : ℕ) → get_or flags f true ≡ true → get_or (set flags slot true) f true ≡ true
+flag_after flags slot f h = elim (cases_eq f slot) [
   | inl same ↦ elim (cases_lt slot (length flags)) [
     | inl below ↦ subst (λ g. get_or (set flags slot true) g true ≡ true) (sym same) (get_or-set_same flags slot true true below)
     | inr past ↦ ap (λ l. get_or l f true) (set_past flags slot true past) ∙ h
@@ -99,17 +99,17 @@ one_call list next slot f within a b =
     let other : get_or list next (Call f) ≡ get_or list next (Call slot) = any_default list next (Call f) (Call slot) within in
     ap slot_of (sym a ∙ sym other ∙ b)
 
-told_itself : (flags : List Bool) (slot : ℕ) → get_or (set flags slot true) slot true ≡ true
-told_itself flags slot = elim (cases_lt slot (length flags)) [
+flag_itself : (flags : List Bool) (slot : ℕ) → get_or (set flags slot true) slot true ≡ true
+flag_itself flags slot = elim (cases_lt slot (length flags)) [
   | inl below ↦ get_or-set_same flags slot true true below
   | inr past ↦ ap (λ l. get_or l slot true) (set_past flags slot true past) ∙ past_default flags slot true past
 ]
 
 -- a function that is called and was not added is added
-pub reached : (code : Code) (list : List Occurrence) (flags : List Bool) (next slot : ℕ) → IsUnderway code list flags next →
+pub reach_one : (code : Code) (list : List Occurrence) (flags : List Bool) (next slot : ℕ) → IsUnderway code list flags next →
     next < length list → get_or list next (Call slot) ≡ Call slot →
     IsUnderway code (list ++ of_function code.functions slot) (set flags slot true) (next + 1)
-reached code list flags next slot u within call =
+reach_one code list flags next slot u within call =
     let new = of_function code.functions slot in
     let called : Contains list (Call slot) = (next, within, call) in
     let reach : Reached code slot = elim (u.sound (Call slot) called) [
@@ -123,19 +123,19 @@ reached code list flags next slot u within call =
         | inr more ↦ inr (slot, reach, more)
       ];
       rules_in = λ o h. Contains-append_left list new o (u.rules_in o h);
-      functions_in = λ f told o h. elim (cases_eq f slot) [
+      functions_in = λ f flagged o h. elim (cases_eq f slot) [
         | inl same ↦ Contains-append_right list new o (subst (λ g. Contains (of_function code.functions g) o) same h)
-        | inr other ↦ Contains-append_left list new o (u.functions_in f (told_before flags slot f other told) o h)
+        | inr other ↦ Contains-append_left list new o (u.functions_in f (flag_before flags slot f other flagged) o h)
       ];
       calls_in = λ k f below more is.
           let here : k < length list = omega (arith, below, within) in
           let old : get_or list k (Call f) ≡ Call f = sym (get_or_append_left list new (Call f) k here) ∙ is in
           elim (cases_lt k next) [
-            | inl less ↦ told_after flags slot f (u.calls_in k f less here old)
+            | inl less ↦ flag_after flags slot f (u.calls_in k f less here old)
             | inr past ↦
                 let same : k ≡ next = omega (arith, below, past) in
                 let at_next : get_or list next (Call f) ≡ Call f = subst (λ j. get_or list j (Call f) ≡ Call f) same old in
-                subst (λ g. get_or (set flags slot true) g true ≡ true) (one_call list next slot f within call at_next) (told_itself flags slot)
+                subst (λ g. get_or (set flags slot true) g true ≡ true) (one_call list next slot f within call at_next) (flag_itself flags slot)
           ];
     }
 
@@ -143,18 +143,18 @@ reached code list flags next slot u within call =
 pub again : (code : Code) (list : List Occurrence) (flags : List Bool) (next slot : ℕ) → IsUnderway code list flags next →
     next < length list → get_or list next (Call slot) ≡ Call slot → get_or flags slot true ≡ true →
     IsUnderway code list (set flags slot true) (next + 1)
-again code list flags next slot u within call told =
-    let kept : set flags slot true ≡ flags = set_again flags slot told in
+again code list flags next slot u within call flagged =
+    let kept : set flags slot true ≡ flags = set_again flags slot flagged in
     subst (λ l. IsUnderway code list l (next + 1)) (sym kept)
-    (passed code list flags next u (λ f is. subst (λ g. get_or flags g true ≡ true) (one_call list next slot f within call is) told))
+    (pass_one code list flags next u (λ f is. subst (λ g. get_or flags g true ≡ true) (one_call list next slot f within call is) flagged))
 
-told_reached : (code : Code) (list : List Occurrence) (flags : List Bool) (next : ℕ) → IsUnderway code list flags next →
+flag_of_reached : (code : Code) (list : List Occurrence) (flags : List Bool) (next : ℕ) → IsUnderway code list flags next →
     length list ≤ next → (f : ℕ) → Reached code f → get_or flags f true ≡ true
-told_reached code list flags next u end k (from_rules f h) =
+flag_of_reached code list flags next u end k (from_rules f h) =
     let here = u.rules_in (Call f) h in
     u.calls_in here.0 f (omega (arith, here.1, end)) here.1 here.2
-told_reached code list flags next u end k (from_function f g r h) =
-    let here = u.functions_in f (told_reached code list flags next u end f r) (Call g) h in
+flag_of_reached code list flags next u end k (from_function f g r h) =
+    let here = u.functions_in f (flag_of_reached code list flags next u end f r) (Call g) h in
     u.calls_in here.0 g (omega (arith, here.1, end)) here.1 here.2
 
 pub finish : (code : Code) (list : List Occurrence) (flags : List Bool) (next : ℕ) → IsUnderway code list flags next →
@@ -163,7 +163,7 @@ finish code list flags next u end o = (
   u.sound o,
   λ h. elim h [
     | inl old ↦ u.rules_in o old
-    | inr more ↦ u.functions_in more.0 (told_reached code list flags next u end more.0 more.1) o more.2
+    | inr more ↦ u.functions_in more.0 (flag_of_reached code list flags next u end more.0 more.1) o more.2
   ],
 )
 
@@ -199,22 +199,22 @@ IsStep code list flags next list' flags' =
 step_passed : (code : Code) (list : List Occurrence) (flags : List Bool) (next : ℕ) → IsUnderway code list flags next →
     next < length list → ((f : ℕ) → get_or list next (Call f) ≡ Call f → ⊥) → IsStep code list flags next list flags
 step_passed code list flags next u within other =
-    (passed code list flags next u (λ f is. absurd (other f is)), omega (arith, within))
+    (pass_one code list flags next u (λ f is. absurd (other f is)), omega (arith, within))
 
 step_by : (code : Code) (list list' : List Occurrence) (flags : List Bool) (next slot : ℕ) (b : Bool) → get_or flags slot true ≡ b →
     IsUnderway code list flags next → next < length list → get_or list next (Call slot) ≡ Call slot →
     MatchBool b (list' ≡ list) (list' ≡ list ++ of_function code.functions slot) →
     IsStep code list flags next list' (set flags slot true)
-step_by code list list' flags next slot true told u within call same =
+step_by code list list' flags next slot true flagged u within call same =
     let P : List Occurrence → Type 0 = λ l. IsUnderway code l (set flags slot true) (next + 1) in
-    let kept : left code.functions (set flags slot true) ≡ left code.functions flags = ap (left code.functions) (set_again flags slot told) in
+    let kept : left code.functions (set flags slot true) ≡ left code.functions flags = ap (left code.functions) (set_again flags slot flagged) in
     let long : length list' ≡ length list = ap length same in
-    (subst P (sym same) (again code list flags next slot u within call told), omega (arith, kept, long, within))
-step_by code list list' flags next slot false told u within call more =
+    (subst P (sym same) (again code list flags next slot u within call flagged), omega (arith, kept, long, within))
+step_by code list list' flags next slot false flagged u within call more =
     let P : List Occurrence → Type 0 = λ l. IsUnderway code l (set flags slot true) (next + 1) in
-    let less = left-set code.functions flags slot u.lengths told in
+    let less = left-set code.functions flags slot u.lengths flagged in
     let long : length list' ≡ length list + length (of_function code.functions slot) = ap length more ∙ length-append list _ in
-    (subst P (sym more) (reached code list flags next slot u within call), omega (arith, less, long, within))
+    (subst P (sym more) (reach_one code list flags next slot u within call), omega (arith, less, long, within))
 
 -- at a call, whose function was added or is added now
 pub step_of_call : (code : Code) (fs : List Function) (x : Occurrence) (list list' : List Occurrence) (flags flags' : List Bool) (next slot : ℕ) →
@@ -237,3 +237,13 @@ step_of_other code x list list' flags flags' next u within at other e d =
     step_passed code list flags next u within (λ f is. other f (at ∙ any_default list next x (Call f) within ∙ is)) in
     let second : IsStep code list flags next list' flags = subst (λ l. IsStep code list flags next l flags) (sym e) first in
     subst (λ l. IsStep code list flags next list' l) (sym d) second
+
+-- ---- a flag that is read
+
+pub unset : (flags : List Bool) (slot : ℕ) (b : Bool) → slot < length flags → b ≡ get_or flags slot b → b ≡ false →
+    get_or flags slot true ≡ false
+unset flags slot b within at is = any_default flags slot true b within ∙ sym at ∙ is
+
+pub second : (b : Bool) (P Q : Type 0) → b ≡ false → Q → MatchBool b P Q
+second true P Q e q = absurd (not_both true refl e)
+second false P Q e q = q

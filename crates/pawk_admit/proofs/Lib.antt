@@ -5,3 +5,4 @@ mod MarkTables
 mod ReasonLaws
 mod RoleLaws
 mod Shapes
+pub mod Suiting

@@ -54,23 +54,23 @@ by_class m Split = refl
 by_class m Pass = refl
 by_class m Delete = refl
 
-class_kept : (m : Marks) (k c : Class) → has c m ≡ true → has c (with_class m k) ≡ true
-class_kept m set set h = refl
-class_kept m set add h = h
-class_kept m set look h = h
-class_kept m set other h = h
-class_kept m add set h = h
-class_kept m add add h = refl
-class_kept m add look h = h
-class_kept m add other h = h
-class_kept m look set h = h
-class_kept m look add h = h
-class_kept m look look h = refl
-class_kept m look other h = h
-class_kept m other set h = h
-class_kept m other add h = h
-class_kept m other look h = h
-class_kept m other other h = refl
+class_keeps : (m : Marks) (k c : Class) → has c m ≡ true → has c (with_class m k) ≡ true
+class_keeps m set set h = refl
+class_keeps m set add h = h
+class_keeps m set look h = h
+class_keeps m set other h = h
+class_keeps m add set h = h
+class_keeps m add add h = refl
+class_keeps m add look h = h
+class_keeps m add other h = h
+class_keeps m look set h = h
+class_keeps m look add h = h
+class_keeps m look look h = refl
+class_keeps m look other h = h
+class_keeps m other set h = h
+class_keeps m other add h = h
+class_keeps m other look h = h
+class_keeps m other other h = refl
 
 class_here : (m : Marks) (k : Class) → has k (with_class m k) ≡ true
 class_here m set = refl
@@ -106,9 +106,9 @@ itself : (a : Name) → is_name a a ≡ true
 itself (Scalar n) = eq-eqb n n refl
 itself (Array n) = eq-eqb n n refl
 
-kept_if : (b : Bool) (m : Marks) (t : Touch) (c : Class) → has c m ≡ true → has c (if b then with_touch m t else m) ≡ true
-kept_if true m t c h = subst (λ x. has c x ≡ true) (sym (by_class m t)) (class_kept m (class_of t) c h)
-kept_if false m t c h = h
+keeps_if : (b : Bool) (m : Marks) (t : Touch) (c : Class) → has c m ≡ true → has c (if b then with_touch m t else m) ≡ true
+keeps_if true m t c h = subst (λ x. has c x ≡ true) (sym (by_class m t)) (class_keeps m (class_of t) c h)
+keeps_if false m t c h = h
 
 back_if : (name n : Name) (b : Bool) → is_name name n ≡ b → (m : Marks) (t : Touch) (c : Class) → has c (if b then with_touch m t else m) ≡ true →
     ((u : Touch) × (class_of u ≡ c) × (occurrence.Touch t n ≡ occurrence.Touch u name)) ⊎ (has c m ≡ true)
@@ -119,12 +119,12 @@ back_if name n true e m t c h = elim (class_back m (class_of t) c (subst (λ x. 
 back_if name n false e m t c h = inr h
 
 -- one occurrence
-kept_one : (m : Marks) (name : Name) (o : Occurrence) (c : Class) → has c m ≡ true → has c (with_occurrence m name o) ≡ true
-kept_one m name (occurrence.Touch t n) c h = kept_if (is_name name n) m t c h
-kept_one m name (occurrence.Call f) c h = h
-kept_one m name occurrence.Match c h = h
-kept_one m name occurrence.Range c h = h
-kept_one m name occurrence.NextFile c h = h
+keeps_one : (m : Marks) (name : Name) (o : Occurrence) (c : Class) → has c m ≡ true → has c (with_occurrence m name o) ≡ true
+keeps_one m name (occurrence.Touch t n) c h = keeps_if (is_name name n) m t c h
+keeps_one m name (occurrence.Call f) c h = h
+keeps_one m name occurrence.Match c h = h
+keeps_one m name occurrence.Range c h = h
+keeps_one m name occurrence.NextFile c h = h
 
 back_one : (m : Marks) (name : Name) (o : Occurrence) (c : Class) → has c (with_occurrence m name o) ≡ true →
     ((t : Touch) × (class_of t ≡ c) × (o ≡ occurrence.Touch t name)) ⊎ (has c m ≡ true)
@@ -138,22 +138,22 @@ here_one : (m : Marks) (name : Name) (t : Touch) → has (class_of t) (with_occu
 here_one m name t = rw (itself name, by_class m t) (class_here m (class_of t))
 
 -- all
-pub kept : (list : List Occurrence) (m : Marks) (name : Name) (c : Class) → has c m ≡ true → has c (marks_from m list name) ≡ true
-kept [] m name c h = h
-kept (o ∷ os) m name c h = kept os (with_occurrence m name o) name c (kept_one m name o c h)
+pub keeps : (list : List Occurrence) (m : Marks) (name : Name) (c : Class) → has c m ≡ true → has c (marks_from m list name) ≡ true
+keeps [] m name c h = h
+keeps (o ∷ os) m name c h = keeps os (with_occurrence m name o) name c (keeps_one m name o c h)
 
-told_from : (list : List Occurrence) (m : Marks) (name : Name) (t : Touch) (k : ℕ) → k < length list →
+mark_from : (list : List Occurrence) (m : Marks) (name : Name) (t : Touch) (k : ℕ) → k < length list →
     get_or list k (occurrence.Touch t name) ≡ occurrence.Touch t name → has (class_of t) (marks_from m list name) ≡ true
-told_from [] m name t k within is = absurd (omega (arith, within))
-told_from (o ∷ os) m name t zero within is =
-    kept os (with_occurrence m name o) name (class_of t)
+mark_from [] m name t k within is = absurd (omega (arith, within))
+mark_from (o ∷ os) m name t zero within is =
+    keeps os (with_occurrence m name o) name (class_of t)
     (subst (λ x. has (class_of t) (with_occurrence m name x) ≡ true) (sym is) (here_one m name t))
-told_from (o ∷ os) m name t (suc k) within is = told_from os (with_occurrence m name o) name t k (omega (arith, within)) is
+mark_from (o ∷ os) m name t (suc k) within is = mark_from os (with_occurrence m name o) name t k (omega (arith, within)) is
 
 -- what is done with a name is marked
-pub told : (list : List Occurrence) (name : Name) (t : Touch) → Contains list (occurrence.Touch t name) →
+pub mark_of_touch : (list : List Occurrence) (name : Name) (t : Touch) → Contains list (occurrence.Touch t name) →
     has (class_of t) (marks_among list name) ≡ true
-told list name t h = told_from list nothing name t h.0 h.1 h.2
+mark_of_touch list name t h = mark_from list nothing name t h.0 h.1 h.2
 
 Contains-cons : (o : Occurrence) (os : List Occurrence) (x : Occurrence) → Contains os x → Contains (o ∷ os) x
 Contains-cons o os x h = (suc h.0, omega (arith, h.1), h.2)
@@ -161,16 +161,16 @@ Contains-cons o os x h = (suc h.0, omega (arith, h.1), h.2)
 Contains-first : (o : Occurrence) (os : List Occurrence) (x : Occurrence) → o ≡ x → Contains (o ∷ os) x
 Contains-first o os x e = (0, omega arith, e)
 
-unmarked : (c : Class) → has c nothing ≡ true → ⊥
-unmarked set h = let e : false ≡ true = h in cc
-unmarked add h = let e : false ≡ true = h in cc
-unmarked look h = let e : false ≡ true = h in cc
-unmarked other h = let e : false ≡ true = h in cc
+no_mark_in_nothing : (c : Class) → has c nothing ≡ true → ⊥
+no_mark_in_nothing set h = let e : false ≡ true = h in cc
+no_mark_in_nothing add h = let e : false ≡ true = h in cc
+no_mark_in_nothing look h = let e : false ≡ true = h in cc
+no_mark_in_nothing other h = let e : false ≡ true = h in cc
 
-found_from : (list : List Occurrence) (m : Marks) (name : Name) (c : Class) → has c (marks_from m list name) ≡ true →
+touch_from : (list : List Occurrence) (m : Marks) (name : Name) (c : Class) → has c (marks_from m list name) ≡ true →
     ((t : Touch) × (class_of t ≡ c) × Contains list (occurrence.Touch t name)) ⊎ (has c m ≡ true)
-found_from [] m name c h = inr h
-found_from (o ∷ os) m name c h = elim (found_from os (with_occurrence m name o) name c h) [
+touch_from [] m name c h = inr h
+touch_from (o ∷ os) m name c h = elim (touch_from os (with_occurrence m name o) name c h) [
   | inl here ↦ inl (here.0, here.1, Contains-cons o os (occurrence.Touch here.0 name) here.2)
   | inr before ↦ elim (back_one m name o c before) [
     | inl now ↦ inl (now.0, now.1, Contains-first o os (occurrence.Touch now.0 name) now.2)
@@ -179,9 +179,9 @@ found_from (o ∷ os) m name c h = elim (found_from os (with_occurrence m name o
 ]
 
 -- what is marked is done with the name
-pub found : (list : List Occurrence) (name : Name) (c : Class) → has c (marks_among list name) ≡ true →
+pub touch_of_mark : (list : List Occurrence) (name : Name) (c : Class) → has c (marks_among list name) ≡ true →
     (t : Touch) × (class_of t ≡ c) × Contains list (occurrence.Touch t name)
-found list name c h = elim (found_from list nothing name c h) [
+touch_of_mark list name c h = elim (touch_from list nothing name c h) [
   | inl here ↦ here
-  | inr no_mark ↦ absurd (unmarked c no_mark)
+  | inr no_mark ↦ absurd (no_mark_in_nothing c no_mark)
 ]

@@ -14,8 +14,8 @@ use Rattle.pawk_admit.specs.declared.reason.Reason.TheVariants as reason
 use Rattle.pawk_admit.specs.declared.marks.Tables.{Tables}
 use Rattle.pawk_admit.specs.Marks.{marks_among, marks_at, AreTables}
 use Rattle.pawk_admit.specs.Admission.{IsSeparator, IsAddition, Touches, IsSetter, IsAssigned, IsAddedBeside, Holds}
-use Rattle.pawk_admit.specs.Decisions.{shown_by, separates, clashes}
-use Rattle.pawk_admit.proofs.MarkLaws.{Class, set, add, look, other, class_of, has, told, found}
+use Rattle.pawk_admit.specs.Decisions.{reason_of, separates, clashes}
+use Rattle.pawk_admit.proofs.MarkLaws.{Class, set, add, look, other, class_of, has, mark_of_touch, touch_of_mark}
 
 apart : true ≡ false → ⊥
 apart h = cc
@@ -136,19 +136,15 @@ addition_of Delete h = absurd (apart (sym h))
 
 -- ---- what the marks of one name show
 
--- a mark of this kind is set
-marked : List Occurrence → Name → Class → Type 0
-marked list name c = has c (marks_among list name) ≡ true
-
-found_class : (list : List Occurrence) (name : Name) (c : Class) → has c (marks_among list name) ≡ true →
+touch_of_class : (list : List Occurrence) (name : Name) (c : Class) → has c (marks_among list name) ≡ true →
     (k : Class → Bool) → (t : Touch) × (k (class_of t) ≡ k c) × Touches (Contains list) t name
-found_class list name c h k = let f = found list name c h in (f.0, ap k f.1, f.2)
+touch_of_class list name c h k = let f = touch_of_mark list name c h in (f.0, ap k f.1, f.2)
 
 -- another kind beside assignments
 beside_set : (list : List Occurrence) (name : Name) (c : Class) → is_set c ≡ false → has c (marks_among list name) ≡ true →
     ¬ IsSetter (Contains list) name
 beside_set list name c never h s =
-    let f = found_class list name c h is_set in
+    let f = touch_of_class list name c h is_set in
     let only : f.0 ≡ Set = s.0.1 f.0 f.2 in
     apart (ap (λ t. is_set (class_of t)) (sym only) ∙ f.1 ∙ never)
 
@@ -157,7 +153,7 @@ pub assigned_from : (list : List Occurrence) (name : Name) →
 assigned_from list name h =
     let m = marks_among list name in
     let both = and_parts m.sets (m.adds || m.looks || m.others || separating name) h in
-    let f = found list name set both.0 in
+    let f = touch_of_mark list name set both.0 in
     let sets : Touches (Contains list) Set name = subst (λ t. Touches (Contains list) t name) (only_set f.0 f.1) f.2 in
     let never : ¬ IsSetter (Contains list) name = elim (or_cases (m.adds || m.looks || m.others) (separating name) both.1) [
       | inr separated ↦ λ s. s.1 (separator_from name separated)
@@ -174,7 +170,7 @@ assigned_from list name h =
 beside_add : (list : List Occurrence) (name : Name) (c : Class) → is_add c ≡ false → has c (marks_among list name) ≡ true →
     (t : Touch) × Touches (Contains list) t name × ¬ IsAddition t
 beside_add list name c never h =
-    let f = found_class list name c h is_add in
+    let f = touch_of_class list name c h is_add in
     (f.0, f.2, no_addition f.0 (f.1 ∙ never))
 
 pub added_from : (list : List Occurrence) (name : Name) →
@@ -182,7 +178,7 @@ pub added_from : (list : List Occurrence) (name : Name) →
 added_from list name h =
     let m = marks_among list name in
     let both = and_parts m.adds (m.sets || m.looks || m.others || separating name) h in
-    let f = found list name add both.0 in
+    let f = touch_of_mark list name add both.0 in
     let adds : Touches (Contains list) Add name ⊎ Touches (Contains list) AddAndLook name = elim (only_add f.0 f.1) [
       | inl a ↦ inl (subst (λ t. Touches (Contains list) t name) a f.2)
       | inr b ↦ inr (subst (λ t. Touches (Contains list) t name) b f.2)
@@ -201,49 +197,49 @@ added_from list name h =
     )
 
 -- the mark that would be there is not
-unmarked_class : (list : List Occurrence) (name : Name) (t : Touch) (c : Class) → class_of t ≡ c → has c (marks_among list name) ≡ false →
+no_touch_of_class : (list : List Occurrence) (name : Name) (t : Touch) (c : Class) → class_of t ≡ c → has c (marks_among list name) ≡ false →
     Touches (Contains list) t name → ⊥
-unmarked_class list name t c e never h = apart (sym (subst (λ k. has k (marks_among list name) ≡ true) e (told list name t h)) ∙ never)
+no_touch_of_class list name t c e never h = apart (sym (subst (λ k. has k (marks_among list name) ≡ true) e (mark_of_touch list name t h)) ∙ never)
 
 -- where a name has marks of one kind alone, what is done with it is of that kind
 set_alone : (list : List Occurrence) (name : Name) → has add (marks_among list name) ≡ false → has look (marks_among list name) ≡ false →
     has other (marks_among list name) ≡ false → (t : Touch) → Touches (Contains list) t name → t ≡ Set
-set_alone list name a l o Look h = absurd (unmarked_class list name Look look refl l h)
+set_alone list name a l o Look h = absurd (no_touch_of_class list name Look look refl l h)
 set_alone list name a l o Set h = refl
-set_alone list name a l o Assign h = absurd (unmarked_class list name Assign other refl o h)
-set_alone list name a l o Add h = absurd (unmarked_class list name Add add refl a h)
-set_alone list name a l o AddAndLook h = absurd (unmarked_class list name AddAndLook add refl a h)
-set_alone list name a l o Test h = absurd (unmarked_class list name Test other refl o h)
-set_alone list name a l o Walk h = absurd (unmarked_class list name Walk other refl o h)
-set_alone list name a l o Split h = absurd (unmarked_class list name Split other refl o h)
-set_alone list name a l o Pass h = absurd (unmarked_class list name Pass other refl o h)
-set_alone list name a l o Delete h = absurd (unmarked_class list name Delete other refl o h)
+set_alone list name a l o Assign h = absurd (no_touch_of_class list name Assign other refl o h)
+set_alone list name a l o Add h = absurd (no_touch_of_class list name Add add refl a h)
+set_alone list name a l o AddAndLook h = absurd (no_touch_of_class list name AddAndLook add refl a h)
+set_alone list name a l o Test h = absurd (no_touch_of_class list name Test other refl o h)
+set_alone list name a l o Walk h = absurd (no_touch_of_class list name Walk other refl o h)
+set_alone list name a l o Split h = absurd (no_touch_of_class list name Split other refl o h)
+set_alone list name a l o Pass h = absurd (no_touch_of_class list name Pass other refl o h)
+set_alone list name a l o Delete h = absurd (no_touch_of_class list name Delete other refl o h)
 
 pub look_alone : (list : List Occurrence) (name : Name) → has set (marks_among list name) ≡ false → has add (marks_among list name) ≡ false →
     has other (marks_among list name) ≡ false → (t : Touch) → Touches (Contains list) t name → t ≡ Look
 look_alone list name s a o Look h = refl
-look_alone list name s a o Set h = absurd (unmarked_class list name Set set refl s h)
-look_alone list name s a o Assign h = absurd (unmarked_class list name Assign other refl o h)
-look_alone list name s a o Add h = absurd (unmarked_class list name Add add refl a h)
-look_alone list name s a o AddAndLook h = absurd (unmarked_class list name AddAndLook add refl a h)
-look_alone list name s a o Test h = absurd (unmarked_class list name Test other refl o h)
-look_alone list name s a o Walk h = absurd (unmarked_class list name Walk other refl o h)
-look_alone list name s a o Split h = absurd (unmarked_class list name Split other refl o h)
-look_alone list name s a o Pass h = absurd (unmarked_class list name Pass other refl o h)
-look_alone list name s a o Delete h = absurd (unmarked_class list name Delete other refl o h)
+look_alone list name s a o Set h = absurd (no_touch_of_class list name Set set refl s h)
+look_alone list name s a o Assign h = absurd (no_touch_of_class list name Assign other refl o h)
+look_alone list name s a o Add h = absurd (no_touch_of_class list name Add add refl a h)
+look_alone list name s a o AddAndLook h = absurd (no_touch_of_class list name AddAndLook add refl a h)
+look_alone list name s a o Test h = absurd (no_touch_of_class list name Test other refl o h)
+look_alone list name s a o Walk h = absurd (no_touch_of_class list name Walk other refl o h)
+look_alone list name s a o Split h = absurd (no_touch_of_class list name Split other refl o h)
+look_alone list name s a o Pass h = absurd (no_touch_of_class list name Pass other refl o h)
+look_alone list name s a o Delete h = absurd (no_touch_of_class list name Delete other refl o h)
 
 add_alone : (list : List Occurrence) (name : Name) → has set (marks_among list name) ≡ false → has look (marks_among list name) ≡ false →
     has other (marks_among list name) ≡ false → (t : Touch) → Touches (Contains list) t name → IsAddition t
-add_alone list name s l o Look h = absurd (unmarked_class list name Look look refl l h)
-add_alone list name s l o Set h = absurd (unmarked_class list name Set set refl s h)
-add_alone list name s l o Assign h = absurd (unmarked_class list name Assign other refl o h)
+add_alone list name s l o Look h = absurd (no_touch_of_class list name Look look refl l h)
+add_alone list name s l o Set h = absurd (no_touch_of_class list name Set set refl s h)
+add_alone list name s l o Assign h = absurd (no_touch_of_class list name Assign other refl o h)
 add_alone list name s l o Add h = tt
 add_alone list name s l o AddAndLook h = tt
-add_alone list name s l o Test h = absurd (unmarked_class list name Test other refl o h)
-add_alone list name s l o Walk h = absurd (unmarked_class list name Walk other refl o h)
-add_alone list name s l o Split h = absurd (unmarked_class list name Split other refl o h)
-add_alone list name s l o Pass h = absurd (unmarked_class list name Pass other refl o h)
-add_alone list name s l o Delete h = absurd (unmarked_class list name Delete other refl o h)
+add_alone list name s l o Test h = absurd (no_touch_of_class list name Test other refl o h)
+add_alone list name s l o Walk h = absurd (no_touch_of_class list name Walk other refl o h)
+add_alone list name s l o Split h = absurd (no_touch_of_class list name Split other refl o h)
+add_alone list name s l o Pass h = absurd (no_touch_of_class list name Pass other refl o h)
+add_alone list name s l o Delete h = absurd (no_touch_of_class list name Delete other refl o h)
 
 -- a name that is set, with no other mark, is a setter
 pub setter_from : (list : List Occurrence) (name : Name) → has set (marks_among list name) ≡ true →
@@ -254,14 +250,14 @@ setter_from list name sets never =
     let a = or_parts (m.adds || m.looks || m.others) (separating name) none in
     let b = or_parts (m.adds || m.looks) m.others a.0 in
     let c = or_parts m.adds m.looks b.0 in
-    let f = found list name set sets in (
+    let f = touch_of_mark list name set sets in (
       (subst (λ t. Touches (Contains list) t name) (only_set f.0 f.1) f.2, set_alone list name c.0 c.1 b.1),
       λ s. apart (sym (separator_to name s) ∙ a.1),
     )
 
 pub assigned_no : (list : List Occurrence) (name : Name) → Touches (Contains list) Set name → ¬ IsSetter (Contains list) name →
     clashes reason.Assignment (marks_among list name) (separating name) ≡ false → ⊥
-assigned_no list name h never e = never (setter_from list name (told list name Set h) e)
+assigned_no list name h never e = never (setter_from list name (mark_of_touch list name Set h) e)
 
 -- a name that is added to, with no other mark
 pub additions_from : (list : List Occurrence) (name : Name) → has add (marks_among list name) ≡ true →
@@ -279,8 +275,8 @@ pub added_no : (list : List Occurrence) (name : Name) → IsAddedBeside (Contain
     clashes reason.Addition (marks_among list name) (separating name) ≡ false → ⊥
 added_no list name h e =
     let adds : has add (marks_among list name) ≡ true = elim h.0 [
-      | inl a ↦ told list name Add a
-      | inr b ↦ told list name AddAndLook b
+      | inl a ↦ mark_of_touch list name Add a
+      | inr b ↦ mark_of_touch list name AddAndLook b
     ] in
     let all = additions_from list name adds e in
     elim h.1 [
@@ -308,7 +304,7 @@ missing r h = cc
 same_reason : (a r : Reason) → Some a ≡ Some r → a ≡ r
 same_reason a r h = cc
 
-pub shown_means : (list : List Occurrence) (r : Reason) (o : Occurrence) → Contains list o → shown_by o ≡ Some r → Holds (Contains list) r
+pub shown_means : (list : List Occurrence) (r : Reason) (o : Occurrence) → Contains list o → reason_of o ≡ Some r → Holds (Contains list) r
 shown_means list r (occurrence.Touch Look name) h e = absurd (missing r e)
 shown_means list r (occurrence.Touch Set name) h e = absurd (missing r e)
 shown_means list r (occurrence.Touch Assign name) h e = subst (Holds (Contains list)) (same_reason reason.Assignment r e) (name, inl h)
@@ -325,7 +321,7 @@ shown_means list r occurrence.Range h e = subst (Holds (Contains list)) (same_re
 shown_means list r occurrence.NextFile h e = subst (Holds (Contains list)) (same_reason reason.NextFile r e) h
 
 -- no occurrence alone shows it, nor do the marks of any name
-pub none_means : (list : List Occurrence) (r : Reason) → ((o : Occurrence) → Contains list o → shown_by o ≡ Some r → ⊥) →
+pub none_means : (list : List Occurrence) (r : Reason) → ((o : Occurrence) → Contains list o → reason_of o ≡ Some r → ⊥) →
     ((name : Name) → clashes r (marks_among list name) (separating name) ≡ false) → ¬ Holds (Contains list) r
 none_means list reason.Assignment never clash h = elim h.1 [
   | inl a ↦ never (occurrence.Touch Assign h.0) a refl
@@ -363,7 +359,7 @@ no_clash list tables are r s a (Scalar n) = subst (λ m. clashes r m (separates 
 no_clash list tables are r s a (Array n) = subst (λ m. clashes r m false ≡ false) (are (Array n)) (a n)
 
 pub tables_no : (list : List Occurrence) (tables : Tables) → AreTables list tables → (r : Reason) →
-    ((o : Occurrence) → Contains list o → shown_by o ≡ Some r → ⊥) →
+    ((o : Occurrence) → Contains list o → reason_of o ≡ Some r → ⊥) →
     ((n : ℕ) → clashes r (marks_at tables.scalars.items n) (separates n) ≡ false) →
     ((n : ℕ) → clashes r (marks_at tables.arrays.items n) false ≡ false) → ¬ Holds (Contains list) r
 tables_no list tables are r never s a = none_means list r never (no_clash list tables are r s a)

@@ -13,9 +13,9 @@ use Rattle.pawk_admit.specs.declared.role.Role.TheVariants.{Fixed, Adder, Setter
 use Rattle.pawk_admit.specs.declared.marks.Tables.{Tables}
 use Rattle.pawk_admit.specs.Roles.{Roles, role_of_scalar, role_of_array}
 use Rattle.pawk_admit.specs.Marks.{nothing, marks_among, AreTables}
-use Rattle.pawk_admit.specs.Admission.{IsSeparator, IsAddition, Touches, OnlyTouches, IsSetter, IsAdder, IsReader, IsRole, IsAssigned, Holds, IsFirst, IsTold, AreRoles}
+use Rattle.pawk_admit.specs.Admission.{IsSeparator, IsAddition, Touches, OnlyTouches, IsSetter, IsAdder, IsReader, IsRole, IsAssigned, Holds, IsFirst, IsAnswer, AreRoles}
 use Rattle.pawk_admit.specs.Decisions.{clashes, scalar_role, array_role}
-use Rattle.pawk_admit.proofs.MarkLaws.{Class, set, add, look, other, class_of, has, told, found}
+use Rattle.pawk_admit.proofs.MarkLaws.{Class, set, add, look, other, class_of, has, mark_of_touch, touch_of_mark}
 use Rattle.pawk_admit.proofs.ReasonLaws.{separating, only_look, only_add, look_alone, setter_from, additions_from, clash_means}
 
 apart : true ≡ false → ⊥
@@ -71,22 +71,22 @@ holds_along P Q to from reason.Value h = (h.0, to _ h.1)
 holds_along P Q to from reason.Memory h = h
 holds_along P Q to from reason.NextFile h = to _ h
 
-first_told : (P : Occurrence → Type 0) (r : Reason) → IsFirst P r → IsTold P r
-first_told P reason.Assignment h = h
-first_told P reason.Addition h = h
-first_told P reason.Range h = h
-first_told P reason.Match h = h
-first_told P reason.Split h = h
-first_told P reason.Passing h = h
-first_told P reason.Value h = h
-first_told P reason.Memory h = tt
-first_told P reason.NextFile h = h
+first_answers : (P : Occurrence → Type 0) (r : Reason) → IsFirst P r → IsAnswer P r
+first_answers P reason.Assignment h = h
+first_answers P reason.Addition h = h
+first_answers P reason.Range h = h
+first_answers P reason.Match h = h
+first_answers P reason.Split h = h
+first_answers P reason.Passing h = h
+first_answers P reason.Value h = h
+first_answers P reason.Memory h = tt
+first_answers P reason.NextFile h = h
 
-pub told_along : (P Q : Occurrence → Type 0) → ((o : Occurrence) → P o ↔ Q o) → (r : Reason) → IsFirst P r → IsTold Q r
-told_along P Q both r h =
+pub answer_along : (P Q : Occurrence → Type 0) → ((o : Occurrence) → P o ↔ Q o) → (r : Reason) → IsFirst P r → IsAnswer Q r
+answer_along P Q both r h =
     let to : (o : Occurrence) → P o → Q o = λ o. (both o).0 in
     let from : (o : Occurrence) → Q o → P o = λ o. (both o).1 in
-    first_told Q r (holds_along P Q to from r h.0, λ s less q. h.1 s less (holds_along Q P from to s q))
+    first_answers Q r (holds_along P Q to from r h.0, λ s less q. h.1 s less (holds_along Q P from to s q))
 
 pub none_along : (P Q : Occurrence → Type 0) → ((o : Occurrence) → P o ↔ Q o) → ((r : Reason) → ¬ Holds P r) → (r : Reason) → ¬ Holds Q r
 none_along P Q both none r q =
@@ -128,14 +128,14 @@ either Delete h = absurd h
 adder_by : (list : List Occurrence) → ((r : Reason) → ¬ Holds (Contains list) r) → (name : Name) →
     has add (marks_among list name) ≡ true → IsAdder (Contains list) name
 adder_by list none name h =
-    let f = found list name add h in
+    let f = touch_of_mark list name add h in
     let all = additions_from list name h (no_clash list none reason.Addition name) in
     let first : f.0 ≡ Add = add_not_value list none name f.0 f.2 (only_add f.0 f.1) in
     (subst (λ t. Touches (Contains list) t name) first f.2, λ t u. add_not_value list none name t u (either t (all.0 t u)))
 
 not_only : (list : List Occurrence) (name : Name) (t : Touch) → has (class_of t) (marks_among list name) ≡ false →
     ¬ OnlyTouches (Contains list) t name
-not_only list name t h only = apart (sym (told list name t only.0) ∙ h)
+not_only list name t h only = apart (sym (mark_of_touch list name t only.0) ∙ h)
 
 scalar_by : (list : List Occurrence) → ((r : Reason) → ¬ Holds (Contains list) r) → (n : ℕ) (sets adds : Bool) →
     has set (marks_among list (Scalar n)) ≡ sets → has add (marks_among list (Scalar n)) ≡ adds →
@@ -154,7 +154,7 @@ is_other other = true
 reader_not : (list : List Occurrence) (name : Name) → has other (marks_among list name) ≡ true → ¬ IsReader (Contains list) name
 unfolding is_other
 reader_not list name h r =
-    let f = found list name other h in
+    let f = touch_of_mark list name other h in
     let only : f.0 ≡ Look = r.1.1 f.0 f.2 in
     apart (sym (ap (λ t. is_other (class_of t)) (sym only) ∙ ap is_other f.1))
 
@@ -169,30 +169,28 @@ array_by list none n false false false others s a l o =
 array_by list none n false false true true s a l o =
     (not_only list (Array n) Add a, λ h. not_only list (Array n) Set s h.0, reader_not list (Array n) o)
 array_by list none n false false true false s a l o =
-    let f = found list (Array n) look l in
+    let f = touch_of_mark list (Array n) look l in
     let first = subst (λ t. Touches (Contains list) t (Array n)) (only_look f.0 f.1) f.2 in
     (tt, (first, look_alone list (Array n) s a o))
 
-mapped : {A B : Type 0} (f : A → B) (xs : List A) (n : ℕ) (d : A) → get_or (map f xs) n (f d) ≡ f (get_or xs n d)
-mapped f [] n d = refl
-mapped f (x ∷ xs) zero d = refl
-mapped f (x ∷ xs) (suc n) d = mapped f xs n d
+get_or-map_at : {A B : Type 0} (f : A → B) (xs : List A) (n : ℕ) (d : A) → get_or (map f xs) n (f d) ≡ f (get_or xs n d)
+get_or-map_at f [] n d = refl
+get_or-map_at f (x ∷ xs) zero d = refl
+get_or-map_at f (x ∷ xs) (suc n) d = get_or-map_at f xs n d
 
 -- the roles of tables are those of the names
 pub roles_by : (list : List Occurrence) (tables : Tables) (Q : Occurrence → Type 0) (roles : Roles) → AreTables list tables →
     ((o : Occurrence) → Contains list o ↔ Q o) → ((r : Reason) → ¬ Holds (Contains list) r) →
     roles.scalars ≡ map scalar_role tables.scalars.items → roles.arrays ≡ map array_role tables.arrays.items → AreRoles Q roles
-roles_by list tables Q roles are both none s a n =
-    let to : (o : Occurrence) → Contains list o → Q o = λ o. (both o).0 in
-    let from : (o : Occurrence) → Q o → Contains list o = λ o. (both o).1 in
+roles_by list tables Q roles are both none s a (Scalar n) =
     let m = marks_among list (Scalar n) in
-    let first : role_of_scalar roles n ≡ scalar_role m =
-    ap (λ l. get_or l n Fixed) s ∙ mapped scalar_role tables.scalars.items n nothing ∙ ap scalar_role (are (Scalar n)) in
-    let k = marks_among list (Array n) in
-    let second : role_of_array roles n ≡ array_role k =
-    ap (λ l. get_or l n Fixed) a ∙ mapped array_role tables.arrays.items n nothing ∙ ap array_role (are (Array n)) in (
-      subst (λ r. IsRole Q r (Scalar n)) (sym first)
-          (role_along (Contains list) Q to from (scalar_role m) (Scalar n) (scalar_by list none n m.sets m.adds refl refl)),
-      subst (λ r. IsRole Q r (Array n)) (sym second)
-          (role_along (Contains list) Q to from (array_role k) (Array n) (array_by list none n k.sets k.adds k.looks k.others refl refl refl refl)),
-    )
+    let role : role_of_scalar roles n ≡ scalar_role m =
+    ap (λ l. get_or l n Fixed) s ∙ get_or-map_at scalar_role tables.scalars.items n nothing ∙ ap scalar_role (are (Scalar n)) in
+    subst (λ r. IsRole Q r (Scalar n)) (sym role)
+    (role_along (Contains list) Q (λ o. (both o).0) (λ o. (both o).1) (scalar_role m) (Scalar n) (scalar_by list none n m.sets m.adds refl refl))
+roles_by list tables Q roles are both none s a (Array n) =
+    let m = marks_among list (Array n) in
+    let role : role_of_array roles n ≡ array_role m =
+    ap (λ l. get_or l n Fixed) a ∙ get_or-map_at array_role tables.arrays.items n nothing ∙ ap array_role (are (Array n)) in
+    subst (λ r. IsRole Q r (Array n)) (sym role)
+    (role_along (Contains list) Q (λ o. (both o).0) (λ o. (both o).1) (array_role m) (Array n) (array_by list none n m.sets m.adds m.looks m.others refl refl refl refl))

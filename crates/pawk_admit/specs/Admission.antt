@@ -48,6 +48,17 @@ IsAddition Split = ⊥
 IsAddition Pass = ⊥
 IsAddition Delete = ⊥
 
+abbrev pub role_of : Roles → Name → Role
+role_of roles (Scalar n) = role_of_scalar roles n
+role_of roles (Array n) = role_of_array roles n
+
+-- what is done with a name of a role
+abbrev pub Suits : Role → Touch → Type 0
+Suits Fixed touch = (touch ≡ Look) ⊎ (touch ≡ Test) ⊎ (touch ≡ Walk)
+Suits Adder touch = touch ≡ Add
+Suits Setter touch = touch ≡ Set
+Suits Reader touch = touch ≡ Look
+
 -- what stands in the text that the records come to
 module _ (Stands : Occurrence → Type 0) where
   -- this is done with the name
@@ -101,22 +112,34 @@ module _ (Stands : Occurrence → Type 0) where
   abbrev pub IsFirst : Reason → Type 0
   IsFirst r = Holds r × ((other : Reason) → number other < number r → ¬ Holds other)
 
-  -- a reason that is told: the first that holds, or want of memory
-  abbrev pub IsTold : Reason → Type 0
-  IsTold reason.Memory = Unit {0}
-  IsTold reason.Assignment = IsFirst reason.Assignment
-  IsTold reason.Addition = IsFirst reason.Addition
-  IsTold reason.Range = IsFirst reason.Range
-  IsTold reason.Match = IsFirst reason.Match
-  IsTold reason.Split = IsFirst reason.Split
-  IsTold reason.Passing = IsFirst reason.Passing
-  IsTold reason.Value = IsFirst reason.Value
-  IsTold reason.NextFile = IsFirst reason.NextFile
+  -- a reason that is answered: the first that holds, or want of memory
+  abbrev pub IsAnswer : Reason → Type 0
+  IsAnswer reason.Memory = Unit {0}
+  IsAnswer reason.Assignment = IsFirst reason.Assignment
+  IsAnswer reason.Addition = IsFirst reason.Addition
+  IsAnswer reason.Range = IsFirst reason.Range
+  IsAnswer reason.Match = IsFirst reason.Match
+  IsAnswer reason.Split = IsFirst reason.Split
+  IsAnswer reason.Passing = IsFirst reason.Passing
+  IsAnswer reason.Value = IsFirst reason.Value
+  IsAnswer reason.NextFile = IsFirst reason.NextFile
 
-  -- the roles that are told are those of the names
+  -- the roles that are answered are those of the names
   abbrev pub AreRoles : Roles → Type 0
-  AreRoles roles = (n : ℕ) → IsRole (role_of_scalar roles n) (Scalar n) × IsRole (role_of_array roles n) (Array n)
+  AreRoles roles = (name : Name) → IsRole (role_of roles name) name
 
 -- the program may run in chunks
 abbrev pub IsAdmissible : Code → Type 0
 IsAdmissible code = (r : Reason) → ¬ Holds (Occurs code) r
+
+-- in a program that may run in chunks, all that the records do with a name suits its role
+abbrev pub KeepToRoles : Type 0
+KeepToRoles =
+    (code : Code) (roles : Roles) → IsAdmissible code → AreRoles (Occurs code) roles →
+    (touch : Touch) (name : Name) → Occurs code (occurrence.Touch touch name) → Suits (role_of roles name) touch
+
+-- and a name that separates is never changed
+abbrev pub SeparatorsAreFixed : Type 0
+SeparatorsAreFixed =
+    (code : Code) (roles : Roles) → IsAdmissible code → AreRoles (Occurs code) roles →
+    (name : Name) → IsSeparator name → role_of roles name ≡ Fixed

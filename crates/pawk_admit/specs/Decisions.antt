@@ -10,21 +10,21 @@ use Rattle.pawk_admit.specs.declared.role.Role.{Role}
 use Rattle.pawk_admit.specs.declared.role.Role.TheVariants.{Fixed, Adder, Setter, Reader}
 use Rattle.pawk_admit.specs.declared.marks.Marks.{Marks}
 
-abbrev pub shown_by : Occurrence → Option Reason
-shown_by (occurrence.Touch Assign name) = Some reason.Assignment
-shown_by (occurrence.Touch Delete name) = Some reason.Assignment
-shown_by (occurrence.Touch AddAndLook name) = Some reason.Value
-shown_by (occurrence.Touch Split name) = Some reason.Split
-shown_by (occurrence.Touch Pass name) = Some reason.Passing
-shown_by (occurrence.Touch Look name) = None
-shown_by (occurrence.Touch Set name) = None
-shown_by (occurrence.Touch Add name) = None
-shown_by (occurrence.Touch Test name) = None
-shown_by (occurrence.Touch Walk name) = None
-shown_by (occurrence.Call f) = None
-shown_by occurrence.Match = Some reason.Match
-shown_by occurrence.Range = Some reason.Range
-shown_by occurrence.NextFile = Some reason.NextFile
+abbrev pub reason_of : Occurrence → Option Reason
+reason_of (occurrence.Touch Assign name) = Some reason.Assignment
+reason_of (occurrence.Touch Delete name) = Some reason.Assignment
+reason_of (occurrence.Touch AddAndLook name) = Some reason.Value
+reason_of (occurrence.Touch Split name) = Some reason.Split
+reason_of (occurrence.Touch Pass name) = Some reason.Passing
+reason_of (occurrence.Touch Look name) = None
+reason_of (occurrence.Touch Set name) = None
+reason_of (occurrence.Touch Add name) = None
+reason_of (occurrence.Touch Test name) = None
+reason_of (occurrence.Touch Walk name) = None
+reason_of (occurrence.Call f) = None
+reason_of occurrence.Match = Some reason.Match
+reason_of occurrence.Range = Some reason.Range
+reason_of occurrence.NextFile = Some reason.NextFile
 
 abbrev pub separates : ℕ → Bool
 separates n = nat_eq n fs_slot || nat_eq n ofs_slot || nat_eq n ors_slot || nat_eq n subsep_slot

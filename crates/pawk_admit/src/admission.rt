@@ -3,7 +3,7 @@
 ghost use Rattle.std.specs.Prelude.{◌≡◌, ◌≤◌, IfOk, IfErr, map, vec_len};
 ghost use Rattle.pawk_code.specs.ProgramViews.{code_view};
 ghost use Rattle.pawk_admit.specs.Reaches.{Occurs};
-ghost use Rattle.pawk_admit.specs.Admission.{IsAdmissible, IsTold, AreRoles};
+ghost use Rattle.pawk_admit.specs.Admission.{IsAdmissible, IsAnswer, AreRoles};
 ghost use Rattle.pawk_admit.specs.Roles.{roles_view};
 ghost use Rattle.pawk_admit.specs.Decisions as spec;
 
@@ -61,10 +61,11 @@ fn array_roles(alloc: Global, table: &[Marks]) -> Result<Vec<Role>, AllocError>
 /// against it, or that memory was refused. There are at least as many roles as slots.
 pub fn admit(alloc: Global, code: &Code) -> Result<Roles, Reason>
     ensures admissible { IfOk result (λ roles. IsAdmissible (code_view code.now)) }
-    ensures roles { IfOk result (λ roles. AreRoles (Occurs (code_view code.now)) (roles_view roles)) }
+    ensures roles { IfOk result (λ roles.
+        AreRoles (Occurs (code_view code.now)) (roles_view roles)) }
     ensures scalars { IfOk result (λ roles. vec_len code.now.scalars ≤ vec_len roles.scalars) }
     ensures arrays { IfOk result (λ roles. vec_len code.now.arrays ≤ vec_len roles.arrays) }
-    ensures reason { IfErr result (IsTold (Occurs (code_view code.now))) }
+    ensures reason { IfErr result (IsAnswer (Occurs (code_view code.now))) }
 {
     let list = occurrences(alloc, code)?;
     let tables = Tables::new(alloc, &list, code.scalars.len(), code.arrays.len())?;

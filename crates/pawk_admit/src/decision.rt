@@ -13,8 +13,8 @@ use crate::occurrence::{Occurrence, Touch};
 use crate::reason::Reason;
 
 /// The reason that an occurrence alone shows, whatever else stands in the text.
-fn shown_by(occurrence: Occurrence) -> Option<Reason>
-    ensures { result ≡ spec.shown_by occurrence }
+fn reason_of(occurrence: Occurrence) -> Option<Reason>
+    ensures { result ≡ spec.reason_of occurrence }
 {
     match occurrence {
         Occurrence::Touch(Touch::Assign | Touch::Delete, _) => Some(Reason::Assignment),
@@ -31,12 +31,12 @@ fn shown_by(occurrence: Occurrence) -> Option<Reason>
 /// Whether some occurrence alone shows the reason.
 fn is_shown(list: &[Occurrence], reason: Reason) -> bool
     ensures yes { IsTrue result →
-        (o : OccurrenceOfText) × Contains list.now o × (spec.shown_by o ≡ Some reason) }
+        (o : OccurrenceOfText) × Contains list.now o × (spec.reason_of o ≡ Some reason) }
     ensures no { result ≡ false →
-        (o : OccurrenceOfText) → Contains list.now o → ¬ (spec.shown_by o ≡ Some reason) }
+        (o : OccurrenceOfText) → Contains list.now o → ¬ (spec.reason_of o ≡ Some reason) }
 {
     for occurrence in list {
-        if let Some(shown) = shown_by(*occurrence) {
+        if let Some(shown) = reason_of(*occurrence) {
             if shown == reason {
                 return true;
             }

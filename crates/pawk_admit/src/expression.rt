@@ -71,7 +71,8 @@ fn touch_by(op: Op) -> Touch
 /// Adds what stands in an expression.
 #[cycle(expression)]
 pub fn expression(list: &mut Vec<Occurrence>, e: &Expr) -> Result<(), AllocError>
-    ensures { OnOk result (list.new.items ≡ list.old.items ++ spec.of_expression (code.view e.now)) }
+    ensures { OnOk result (list.new.items ≡ list.old.items ++
+        spec.of_expression (code.view e.now)) }
 {
     match e {
         Expr::Leaf(a) => leaf(list, a),

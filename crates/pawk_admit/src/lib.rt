@@ -3,9 +3,10 @@
 
 mod admission;
 mod decision;
-pub mod expression;
+mod expression;
+pub mod laws;
 mod marks;
-pub mod occurrence;
+mod occurrence;
 mod reach;
 mod reason;
 mod role;

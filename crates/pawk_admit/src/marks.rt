@@ -8,7 +8,7 @@ use crate::occurrence::{Name, Occurrence, Touch};
 use std::alloc::{AllocError, Global};
 
 /// What is done with a global.
-#[derive(Clone, Copy, PartialEq, Eq)]
+#[derive(Clone, Copy)]
 pub struct Marks {
     /// It is assigned by `=` whose value is dropped.
     pub sets: bool,

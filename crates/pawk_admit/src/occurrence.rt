@@ -1,14 +1,14 @@
 //! What stands in the text of a program that decides whether its records may run in chunks.
 
 /// What a text does with a global name.
-#[derive(Clone, Copy, PartialEq, Eq)]
+#[derive(Clone, Copy)]
 pub enum Touch {
     /// It looks at its value; at that of an element by subscripts.
     Look,
     /// It assigns it by `=`, and drops the value.
     Set,
-    /// It assigns it otherwise: by `=` whose value is used, by `*= /= %= ^=`, by `sub` or `gsub`, or
-    /// as the variable of a walk.
+    /// It assigns it otherwise: by `=` whose value is used, by `*= /= %= ^=`, by `sub` or `gsub`,
+    /// or as the variable of a walk.
     Assign,
     /// It adds to it by `+= -= ++ --`, and drops the value.
     Add,
@@ -27,14 +27,14 @@ pub enum Touch {
 }
 
 /// A global name, by its slot.
-#[derive(Clone, Copy, PartialEq, Eq)]
+#[derive(Clone, Copy)]
 pub enum Name {
     Scalar(usize),
     Array(usize),
 }
 
 /// What stands in a text.
-#[derive(Clone, Copy, PartialEq, Eq)]
+#[derive(Clone, Copy)]
 pub enum Occurrence {
     /// A global name, and what is done with it.
     Touch(Touch, Name),

@@ -6,7 +6,7 @@ ghost use Rattle.pawk_admit.specs.Admission as spec;
 
 use std::alloc::AllocError;
 
-/// Why a program may not run in chunks, in the order in which reasons are told.
+/// Why a program may not run in chunks, in the order in which they are answered.
 #[derive(Clone, Copy, PartialEq, Eq)]
 pub enum Reason {
     /// A global is assigned that is not only assigned by statements `=`, or an element is deleted.

@@ -120,9 +120,9 @@ fn run_from<'a>(
     })
 }
 
-/// Runs the records of the chunk at a place of a plan, counted from 0, over the globals that `BEGIN`
-/// left; `input` and `rs` are those that the plan was made of. The records change no global: what they
-/// would change is noted.
+/// Runs the records of the chunk at a place of a plan, counted from 0, over the globals that
+/// `BEGIN` left; `input` and `rs` are those that the plan was made of. No global is changed: what
+/// the records would change is noted.
 ///
 /// POSIX.1-2017, awk, "Overall Program Structure".
 pub fn run_chunk<'a>(
@@ -137,12 +137,12 @@ pub fn run_chunk<'a>(
     requires plan { IsPlanOf rs.now (files_of input.now) plan.now }
     requires one_byte { length rs.now ≤ 1 }
     requires ready { IsReady rs.now input.now }
-    ensures { IfOk result (λ result. IfSome (slice_get plan.now place) (λ c. Leaves (records_from calls
-        (code_view begun.entry.job.code.now).expressions (code_view begun.entry.job.code.now)
-        begun.entry.job.budget None
+    ensures { IfOk result (λ left. IfSome (slice_get plan.now place) (λ c. Leaves
+        (records_from calls (code_view begun.entry.job.code.now).expressions
+        (code_view begun.entry.job.code.now) begun.entry.job.budget None
         (chunk_begin begun.entry.globals.now (roles_view begun.entry.roles.now) c.nr
         (state_of begun.entry.state.now))
-        (chunk_items rs.now (files_of input.now) c)) result)) }
+        (chunk_items rs.now (files_of input.now) c)) left)) }
 {
     let records = plan.walk(input, rs, place);
     run_from(alloc, begun, records, plan.chunk(place).nr)

@@ -57,14 +57,6 @@ module _ (i : Setting) (no : IsAdmissible i.code) (are : AreRoles (Occurs i.code
 
   -- ---- what stands in the text and the roles
 
-  abbrev role_at : Name → Role
-  role_at (name.Scalar n) = role_of_scalar i.roles n
-  role_at (name.Array n) = role_of_array i.roles n
-
-  is_role : (n : Name) → IsRole Stands (role_at n) n
-  is_role (name.Scalar n) = (are n).0
-  is_role (name.Array n) = (are n).1
-
   set_by : (n : Name) (r : Role) → IsRole Stands r n → Touched touch.Set n → r ≡ Setter
   set_by n Fixed k h = absurd (no reason.Assignment (n, inr (inr (h, k.1))))
   set_by n Adder k h = absurd (let e = k.1 touch.Set h in cc)
@@ -120,7 +112,7 @@ module _ (i : Setting) (no : IsAdmissible i.code) (are : AreRoles (Occurs i.code
   separator_by n Reader k s = absurd k.0
 
   looks_at : (n : ℕ) → IsSeparator (name.Scalar n) → LooksAt P n
-  looks_at n s = separator_by n (role_of_scalar i.roles n) (are n).0 s
+  looks_at n s = separator_by n (role_of_scalar i.roles n) (are (name.Scalar n)) s
 
   fs : LooksAt P fs_slot
   fs = looks_at fs_slot (inl refl)
@@ -182,23 +174,23 @@ module _ (i : Setting) (no : IsAdmissible i.code) (are : AreRoles (Occurs i.code
   -- ---- places
 
   reads_place : (p : Place) → Among (of_place touch.Look p) → Touches P reads p
-  reads_place (to_global n) h = looked_by n (role_of_scalar i.roles n) (are n).0 (head _ [] h)
+  reads_place (to_global n) h = looked_by n (role_of_scalar i.roles n) (are (name.Scalar n)) (head _ [] h)
   reads_place (to_local k) h = tt
-  reads_place (to_element (array.Global n) ks) h = read_by n (role_of_array i.roles n) (are n).1 (head _ _ h)
+  reads_place (to_element (array.Global n) ks) h = read_by n (role_of_array i.roles n) (are (name.Array n)) (head _ _ h)
   reads_place (to_element (array.Local k) ks) h = tt
   reads_place (to_field e) h = tt
 
   sets_place : (p : Place) → Among (of_place touch.Set p) → Touches P writes p
-  sets_place (to_global n) h = set_by (name.Scalar n) (role_of_scalar i.roles n) (are n).0 (head _ [] h)
+  sets_place (to_global n) h = set_by (name.Scalar n) (role_of_scalar i.roles n) (are (name.Scalar n)) (head _ [] h)
   sets_place (to_local k) h = tt
-  sets_place (to_element (array.Global n) ks) h = set_by (name.Array n) (role_of_array i.roles n) (are n).1 (head _ _ h)
+  sets_place (to_element (array.Global n) ks) h = set_by (name.Array n) (role_of_array i.roles n) (are (name.Array n)) (head _ _ h)
   sets_place (to_element (array.Local k) ks) h = tt
   sets_place (to_field e) h = (fs, ofs)
 
   adds_to_place : (s : Sign) (p : Place) → Among (of_place touch.Add p) → Touches P (changes s) p
-  adds_to_place s (to_global n) h = added_by (name.Scalar n) (role_of_scalar i.roles n) (are n).0 (head _ [] h)
+  adds_to_place s (to_global n) h = added_by (name.Scalar n) (role_of_scalar i.roles n) (are (name.Scalar n)) (head _ [] h)
   adds_to_place s (to_local k) h = tt
-  adds_to_place s (to_element (array.Global n) ks) h = added_by (name.Array n) (role_of_array i.roles n) (are n).1 (head _ _ h)
+  adds_to_place s (to_element (array.Global n) ks) h = added_by (name.Array n) (role_of_array i.roles n) (are (name.Array n)) (head _ _ h)
   adds_to_place s (to_element (array.Local k) ks) h = tt
   adds_to_place s (to_field e) h = (fs, ofs)
 
@@ -224,11 +216,11 @@ module _ (i : Setting) (no : IsAdmissible i.code) (are : AreRoles (Occurs i.code
   never_array t access (array.Local k) never h = tt
 
   tests_array : (a : Array) → Among (of_array touch.Test a) → TouchesArray P tests a
-  tests_array (array.Global n) h = tested_by (name.Array n) (role_of_array i.roles n) (are n).1 (head _ [] h)
+  tests_array (array.Global n) h = tested_by (name.Array n) (role_of_array i.roles n) (are (name.Array n)) (head _ [] h)
   tests_array (array.Local k) h = tt
 
   walks_array : (a : Array) → Among (of_array touch.Walk a) → TouchesArray P walks a
-  walks_array (array.Global n) h = walked_by (name.Array n) (role_of_array i.roles n) (are n).1 (head _ [] h)
+  walks_array (array.Global n) h = walked_by (name.Array n) (role_of_array i.roles n) (are (name.Array n)) (head _ [] h)
   walks_array (array.Local k) h = tt
 
   joins : (ks : Exprs) → AllowsJoining P ks
@@ -241,7 +233,7 @@ module _ (i : Setting) (no : IsAdmissible i.code) (are : AreRoles (Occurs i.code
   leaf_in : (l : Leaf) → Among (of_leaf l) → AllowsLeaf P l
   leaf_in (number z) h = tt
   leaf_in (text t) h = tt
-  leaf_in (global n) h = looked_by n (role_of_scalar i.roles n) (are n).0 (head _ [] h)
+  leaf_in (global n) h = looked_by n (role_of_scalar i.roles n) (are (name.Scalar n)) (head _ [] h)
   leaf_in (local k) h = tt
   leaf_in (special x) h = tt
   leaf_in (field n) h = tt

@@ -7,3 +7,4 @@ pub mod EndLemmas
 pub mod MergeLemmas
 pub mod AdmissionLemmas
 pub mod TracedLemmas
+pub mod ChunkLemmas

@@ -16,7 +16,7 @@ use Rattle.pawk_commute.specs.Settings.{FitsIfOk}
 use Rattle.pawk_commute.specs.Agreement.{Suits, Becomes}
 use Rattle.pawk_commute.specs.Commutation.{has_sum}
 
-fits_from : (z : ℤ) → in_range z ≡ true → FitsWord z
+pub fits_from : (z : ℤ) → in_range z ≡ true → FitsWord z
 fits_from (pos n) h = let k : n < 2 ^ 63 = search (rules, tests) in (omega (arith, ints), omega (arith, ints))
 fits_from (negsuc n) h = let k : n < 2 ^ 63 = search (rules, tests) in (omega (arith, ints), omega (arith, ints))
 

@@ -5,3 +5,4 @@ pub mod Commutation
 pub mod TracedRuns
 pub mod Merging
 pub mod Admitted
+pub mod Chunks

@@ -1,12 +1,15 @@
 // The laws.
 
 ghost use Rattle.std.specs.Prelude.{List};
+ghost use Rattle.pawk_commute.specs.Chunks.{ChunkLaw, ChunksLaw};
 ghost use Rattle.pawk_commute.specs.Commutation.{Commutation, StartsAgain};
 ghost use Rattle.pawk_commute.specs.Admitted.{AdmissionAllows};
 ghost use Rattle.pawk_commute.specs.TracedRuns.{TraceIsAppendedLaw, TracedLaw};
 ghost use Rattle.pawk_commute.specs.Merging.{MergeTells};
 
-use pawk_meaning::law::{Pairing, lockstep_records};
+use pawk_meaning::law::{
+    Pairing, Policy, lockstep_records, reads_anew, records_follow, records_keep,
+};
 
 /// The globals that keep a trace, and those of a chunk.
 pub struct StoreAndChunk;
@@ -43,7 +46,23 @@ impl Pairing for TracedAndPlain {
     ghost pair = { traced_pair };
 }
 
-/// Records over globals that keep a trace end as over globals that keep none. A law, which takes and
+/// The globals that keep no trace, and what a program that runs in chunks may do to them.
+pub struct Store;
+
+impl Policy for Store {
+    ghost use Rattle.pawk_commute.specs.Settings.{Setting as Settings, Permits};
+    ghost use Rattle.pawk_store.specs.Globals as globals;
+
+    ghost Setting = { Settings };
+
+    ghost State = { globals.Globals };
+
+    ghost calls = { λ i. globals.calls };
+
+    ghost permits = { Permits };
+}
+
+/// Records over globals that keep a trace end as over globals that keep none. A law, which takes
 /// leaves nothing.
 pub fn trace_changes_nothing()
     ensures { TracedLaw }
@@ -74,9 +93,9 @@ pub fn trace_is_appended()
     lockstep_records::<LongerTrace>();
 }
 
-/// A chunk of records over the globals that BEGIN left ends as the same records over the globals as
-/// they are then: the same record state, output and way of ending, and the table is what the trace
-/// says; or up to the first event, which is named. A law, which takes and leaves nothing.
+/// A chunk of records over the globals that BEGIN left ends as the same records over the globals
+/// as they are then: the same record state, output and way of ending, and the table is what the
+/// trace says; or up to the first event, which is named. A law, which takes and leaves nothing.
 pub fn commutes()
     ensures { Commutation }
 {
@@ -88,14 +107,36 @@ pub fn starts_again()
     ensures { StartsAgain }
 {}
 
-/// A chunk that is left well and whose cells all pass the test of the merge ends as the same records
-/// in order, and no other does.
+/// A chunk that is left well and whose cells all pass the test of the merge ends as the same
+/// records in order, and no other does.
 pub fn merge_tells()
     ensures { MergeTells }
 {}
 
-/// What the main rules of an admissible program and the functions that they reach ask is permitted by
-/// the roles of its globals.
+/// What the main rules of an admissible program and the functions that they reach ask is permitted
+/// by the roles of its globals.
 pub fn admission_allows()
     ensures { AdmissionAllows }
 {}
+
+/// Records in order end as a chunk of them that is left well and whose cells all pass, with the
+/// globals to which its table is joined.
+pub fn chunk_joins()
+    ensures { ChunkLaw }
+{
+    commutes();
+    merge_tells();
+    starts_again();
+    trace_changes_nothing();
+}
+
+/// Records in order come to the end to which their chunks join, each of which is run from what
+/// BEGIN left.
+pub fn chunks_join()
+    ensures { ChunksLaw }
+{
+    chunk_joins();
+    records_follow::<Store>();
+    records_keep::<Store>();
+    reads_anew::<Store>();
+}

@@ -16,8 +16,8 @@ use pawk_world::{Halt, World};
 use std::alloc::{AllocError, Global};
 use std::marker::Model;
 
-/// The globals of a chunk: those that `BEGIN` left, which the chunk does not change, and what it notes in
-/// place of changing them.
+/// The globals of a chunk: those that `BEGIN` left, which the chunk does not change, and what it
+/// notes in place of changing them.
 #[derive(Drop)]
 pub struct Frozen<'a> {
     fixed: &'a Globals,
@@ -71,13 +71,11 @@ impl<'a> Frozen<'a> {
     /// Creates an element that is not there, uninitialised, where the array allows it.
     fn create_missing(&mut self, array: usize, key: &[u8]) -> Result<(), Halt>
         ensures { Answers (λ _. Uninit)
-            (spec.missing array key.now (role_of_array self.old.roles array) self.old) result self.new }
+            (spec.missing array key.now (role_of_array self.old.roles array) self.old)
+            result self.new }
     {
         match self.role_of_array(array) {
-            Role::Reader => {
-                self.table.create_element(array, key)?;
-                Ok(())
-            }
+            Role::Reader => Ok(self.table.create_element(array, key)?),
             Role::Fixed | Role::Adder | Role::Setter => Err(Halt::Clash),
         }
     }

@@ -1,4 +1,4 @@
-//! The globals of a chunk: those that BEGIN left, and what the chunk notes in place of changing them.
+//! The globals of a chunk: those that `BEGIN` left, and what it notes in place of changing them.
 #![tactic(auto)]
 
 mod frozen;

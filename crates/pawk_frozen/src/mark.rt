@@ -1,6 +1,7 @@
 //! What a chunk notes of one cell.
 
-ghost use Rattle.std.specs.Prelude.{◌≡◌, ◌≢◌, ◌+ℤ◌, true, false, IfSome, IfNone, OnErr, OnOk, OnSome};
+ghost use Rattle.std.specs.Prelude.{◌≡◌, ◌≢◌, ◌+ℤ◌, true, false};
+ghost use Rattle.std.specs.Prelude.{IfNone, IfSome, OnErr, OnOk, OnSome};
 ghost use Rattle.pawk_value.specs.Value.{lent_value};
 ghost use Rattle.pawk_world.specs.Answers.{Answers};
 ghost use Rattle.pawk_frozen.specs.Marks.{blank, last_put, with_amount};
@@ -13,8 +14,8 @@ use pawk_value::{Fault, Value, ValueRef, assign, copy_lent};
 use pawk_world::Halt;
 use std::alloc::{AllocError, Global};
 
-/// A sum of amounts, and the least and the greatest of the sums of the first one, of the first two, and
-/// so on to all.
+/// A sum of amounts, and the least and the greatest of the sums of the first one, of the first two,
+/// and so on to all.
 #[derive(Clone, Copy)]
 pub struct Sums {
     pub total: i128,
@@ -93,8 +94,8 @@ fn next_sums(sums: &Sums, amount: i128) -> Option<Sums>
 impl Mark {
     /// Notes an amount that is added, or taken away.
     ///
-    /// Fault `overflow` where the total passes 2^64 in size; then amounts were added before, and the mark
-    /// is as it was.
+    /// Fault `overflow` where the total passes 2^64 in size; then amounts were added before, and
+    /// the mark is as it was.
     #[inline]
     pub(crate) fn add(&mut self, sign: Sign, amount: i64) -> Result<(), Halt>
         ensures answer { let mark = with_amount (signed_amount sign amount) (mark_view self.old) in

@@ -20,8 +20,8 @@ use pawk_world::Halt;
 use std::alloc::{AllocError, Global};
 use std::marker::Model;
 
-/// What a chunk notes of the elements of an array, by their keys. Contracts see the marks in the order
-/// of the bytes of the keys.
+/// What a chunk notes of the elements of an array, by their keys. Contracts see the marks in the
+/// order of the bytes of the keys.
 #[derive(Drop)]
 pub struct Marks {
     alloc: Global,
@@ -45,7 +45,8 @@ fn place_of(
 ) -> Result<usize, AllocError>
     ensures place { IfOk result (λ place. HasKeyAt map.new.entries place key.now) }
     ensures named { OnOk result (marks_of map.new.entries
-        ≡ put_mark key.now (mark_found key.now (marks_of map.old.entries)) (marks_of map.old.entries)) }
+        ≡ put_mark key.now (mark_found key.now (marks_of map.old.entries))
+        (marks_of map.old.entries)) }
     ensures err { OnErr result (map.new.entries ≡ map.old.entries) }
 {
     match map.get_index_of(key) {
@@ -84,7 +85,8 @@ impl Marks {
         self.map.get(key)
     }
 
-    /// Takes out an element's key and mark; each that is left has another key. None where there is none.
+    /// Takes out an element's key and mark, the latest new one first; each that is left has another
+    /// key. None where there is none.
     pub fn pop(&mut self) -> Option<(Vec<u8>, Mark)>
         ensures { MatchOption result ((self.old ≡ []) × (self.new ≡ [])) (λ pair.
             (self.old ≡ put_mark pair.0.items (mark_view pair.1) self.new)
@@ -93,8 +95,8 @@ impl Marks {
         self.map.pop()
     }
 
-    /// The mark of an element, lent for a change. One that is missing is made blank; memory is refused
-    /// only then, and the marks are as before.
+    /// The mark of an element, lent for a change. One that is missing is made blank; memory is
+    /// refused only then, and the marks are as before.
     fn entry(&mut self, key: &[u8]) -> Result<&mut Mark, AllocError>
         ensures* writes_back { sem 𝓛 (LendsMark self.entry key.now result) }
         ensures value { IfOk result (λ mark. mark_view mark.now ≡ mark_found key.now self.old) }
@@ -109,8 +111,10 @@ impl Marks {
     /// Fault `overflow` where the total passes 2^64 in size; then the marks are as before.
     #[inline]
     pub(crate) fn add(&mut self, key: &[u8], sign: Sign, amount: i64) -> Result<(), Halt>
-        ensures { let mark = with_amount (signed_amount sign amount) (mark_found key.now self.old) in
-            Answers (λ _. tt) (kept mark (put_mark key.now mark self.old) self.old) result self.new }
+        ensures { let mark
+            = with_amount (signed_amount sign amount) (mark_found key.now self.old) in
+            Answers (λ _. tt) (kept mark (put_mark key.now mark self.old) self.old)
+            result self.new }
     {
         let mark = self.entry(key)?;
         mark.add(sign, amount)

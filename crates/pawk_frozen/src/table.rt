@@ -4,7 +4,8 @@ ghost use Rattle.std.specs.Prelude.{◌≡◌, map, replicate, [], IfOk, OnOk};
 ghost use Rattle.pawk_value.specs.Value.{lent_value};
 ghost use Rattle.pawk_world.specs.Answers.{Answers};
 ghost use Rattle.pawk_world.specs.Worlds.{element, scalar};
-ghost use Rattle.pawk_frozen.specs.Marks.{blank, blank_table, created, last_put, mark_at, with_amount, with_mark};
+ghost use Rattle.pawk_frozen.specs.Marks.{blank, blank_table, created, last_put, mark_at};
+ghost use Rattle.pawk_frozen.specs.Marks.{with_amount, with_mark};
 ghost use Rattle.pawk_frozen.specs.Frozens.{signed_amount};
 ghost use Rattle.pawk_frozen.specs.MarkViews.{kept, mark_view};
 
@@ -98,7 +99,8 @@ impl Table {
     /// Fault `overflow` where the total passes 2^64 in size; then the table is as before.
     #[inline]
     pub(crate) fn add_scalar(&mut self, slot: usize, sign: Sign, amount: i64) -> Result<(), Halt>
-        ensures { let mark = with_amount (signed_amount sign amount) (mark_at (scalar slot) self.old) in
+        ensures { let mark
+            = with_amount (signed_amount sign amount) (mark_at (scalar slot) self.old) in
             Answers (λ _. tt) (kept mark (with_mark (scalar slot) mark self.old) self.old)
             result self.new }
     {

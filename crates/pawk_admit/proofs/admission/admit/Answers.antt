@@ -7,7 +7,7 @@ use Rattle.pawk_admit.specs.Admission.{Holds, IsFirst}
 use Rattle.pawk_admit.specs.Roles.{Roles, roles_view}
 use Rattle.pawk_admit.specs.Marks.{AreTables}
 use Rattle.pawk_admit.specs.Decisions.{scalar_role, array_role}
-use Rattle.pawk_admit.proofs.RoleLaws.{told_along, none_along, roles_by}
+use Rattle.pawk_admit.proofs.RoleLaws.{answer_along, none_along, roles_by}
 use Rattle.pawk_admit.proofs.admission.admit.Goals as goal
 
 pub returns-in-Some-clause-reason : goal.returns-in-Some-clause-reason
@@ -15,7 +15,7 @@ returns-in-Some-clause-reason c =
     let list = c.in_ok-list.list.items in
     let r = c.in-Some.reason in
     let first : IsFirst (Contains list) r = subst (λ l. IsFirst (Contains l) r) c.deref-2.ensures.value c.in-Some.ensures.some in
-    told_along (Contains list) (Occurs (code_view c.args.code.now)) c.in_ok-list.ensures r first
+    answer_along (Contains list) (Occurs (code_view c.args.code.now)) c.in_ok-list.ensures r first
 
 pub returns-clause-admissible : goal.returns-clause-admissible
 returns-clause-admissible c =

@@ -1,0 +1,2 @@
+pub mod JoinedTables
+pub mod MergedChunks
