@@ -1,16 +1,15 @@
 -- Where nothing parts a chunk from the records in order, the merge takes its table, and gives the globals that these leave.
-use Rattle.std.proofs.Common.{◌≡◌, ◌<◌, ◌^◌, ℕ, zero, suc, ℤ, pos, negsuc, ◌+ℤ◌, ◌&&◌, List, [], ◌∷◌, length, Option, Some, None, Bool, true, false, Result, Ok, Err, refl, ap, sym, ◌∙◌, subst, arith, rules, tests}
+use Rattle.std.proofs.Common.{◌≡◌, ℕ, zero, suc, ℤ, ◌+ℤ◌, ◌&&◌, List, [], ◌∷◌, length, Option, Some, Bool, true, false, Result, Ok, Err, refl, ap, sym, ◌∙◌, subst, arith, rules, tests}
 use Rattle.std.proofs.lemmas.List.{get_or_default}
-use Rattle.std.proofs.lemmas.Int.{ints}
-use Rattle.std.specs.Prelude.{◌≤ℤ◌, slice_get, slice_index_or}
+use Rattle.std.specs.Prelude.{slice_get, slice_index_or}
 use Rattle.std.specs.Option.{option_map}
 use Rattle.pawk_value.specs.Fault.{Fault}
 use Rattle.pawk_value.specs.Range.{FitsWord, in_range}
-use Rattle.pawk_value.specs.Value.{Val, Uninit, Num}
+use Rattle.pawk_value.specs.Value.{Val, Uninit}
 use Rattle.pawk_value.specs.Conversion.{num_of}
-use Rattle.pawk_array.specs.Entries.{Entries, Rise, value_of}
+use Rattle.pawk_array.specs.Entries.{Rise, value_of}
 use Rattle.pawk_world.specs.Worlds.{Cell, scalar, element}
-use Rattle.pawk_store.specs.Globals.{Globals, array_at, value_at}
+use Rattle.pawk_store.specs.Globals.{Globals, value_at}
 use Rattle.pawk_frozen.specs.Marks.{Mark, blank, summed, last_put, created, mark_at}
 use Rattle.pawk_frozen.specs.Frozens.{Frozen}
 use Rattle.pawk_commute.specs.Traces.{Traced}

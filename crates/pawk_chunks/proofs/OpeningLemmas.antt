@@ -1,15 +1,13 @@
 -- What the records of a phase begin with, and what each of its chunks begins with beside them.
-use Rattle.std.proofs.Common.{◌≡◌, ℕ, ◌+◌, List, Option, Some, None, refl, ap, sym, ◌∙◌, subst, inl, inr, length}
+use Rattle.std.proofs.Common.{◌≡◌, ℕ, ◌+◌, List, Option, Some, None, refl, ap, sym, ◌∙◌, inl, length}
 use Rattle.pawk_value.specs.Value.{Val}
-use Rattle.pawk_world.specs.Worlds.{Cell}
 use Rattle.pawk_input.specs.Input.{Item}
 use Rattle.pawk_store.specs.Globals.{Globals}
 use Rattle.pawk_store.specs.RecordStates.{RecordState}
 use Rattle.pawk_admit.specs.declared.role.Role.{Role}
 use Rattle.pawk_admit.specs.declared.role.Role.TheVariants.{Fixed, Adder, Setter, Reader}
-use Rattle.pawk_meaning.specs.Records.{Left, through, End}
+use Rattle.pawk_meaning.specs.Records.{Left, through}
 use Rattle.pawk_meaning.specs.Steady.{IsSteady, state_behind_records, AreSameButRecord}
-use Rattle.pawk_commute.specs.Traces.{Traced}
 use Rattle.pawk_commute.specs.Settings.{Setting, PermitsFor, role_of_cell, Extends, Agrees, entry_at, MayBegin}
 use Rattle.pawk_chunks.specs.Phases.{Phase, MayRun}
 

@@ -1,5 +1,5 @@
 -- The globals with a trace in lockstep with those without.
-use Rattle.std.proofs.Common.{◌≡◌, ℤ, true, List, ◌++◌, append_assoc, Option, Some, None, Result, Ok, Err, refl, ap, sym, ◌∙◌, subst, inl, ⊎_elim}
+use Rattle.std.proofs.Common.{◌≡◌, ℤ, true, List, ◌++◌, append_assoc, Option, Some, None, Result, Ok, Err, refl, ap, ◌∙◌, subst, inl, ⊎_elim}
 use Rattle.pawk_value.specs.Fault.{Fault}
 use Rattle.pawk_world.specs.Halts.{Halt}
 use Rattle.pawk_world.specs.Worlds.{Cell, Request, Answer, gives, halts}

@@ -1,13 +1,9 @@
-use Rattle.std.proofs.Common.{◌≡◌, List, None, Result, Ok, Err, refl, ap, sym, subst, inl, inr, ⊎_elim}
-use Rattle.pawk_input.specs.Input.{Item}
-use Rattle.pawk_store.specs.Globals.{Globals}
-use Rattle.pawk_meaning.specs.Records.{End}
-use Rattle.pawk_join.specs.Merges.{Stop, merge}
-use Rattle.pawk_commute.specs.TracedRuns.{TracedLaw}
-use Rattle.pawk_chunks.specs.Phases.{Phase, MayRun, opening, traced_opening, in_order_traced}
+use Rattle.std.proofs.Common.{refl}
+use Rattle.pawk_join.specs.Merges.{merge}
+use Rattle.pawk_chunks.specs.Phases.{opening}
 use Rattle.pawk_chunks.specs.Chunks.{all_of}
 use Rattle.pawk_chunks.proofs.OpeningLemmas.{begins}
-use Rattle.pawk_chunks.proofs.StepLemmas.{Laws, Meets, chunks_meet, untraced}
+use Rattle.pawk_chunks.proofs.StepLemmas.{Laws, chunks_meet, untraced}
 use Rattle.pawk_chunks.proofs.law.chunks_merge.Goals as goal
 
 pub returns : goal.returns
