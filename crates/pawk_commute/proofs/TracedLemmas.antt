@@ -1,5 +1,5 @@
 -- The globals with a trace in lockstep with those without.
-use Rattle.std.proofs.Common.{◌≡◌, ℤ, true, List, Option, Some, None, Result, Ok, Err, refl, ap, subst, inl, ⊎_elim}
+use Rattle.std.proofs.Common.{◌≡◌, ℤ, true, List, ◌++◌, append_assoc, Option, Some, None, Result, Ok, Err, refl, ap, ◌∙◌, subst, inl, ⊎_elim}
 use Rattle.pawk_value.specs.Fault.{Fault}
 use Rattle.pawk_world.specs.Halts.{Halt}
 use Rattle.pawk_world.specs.Worlds.{Cell, Request, Answer, gives, halts}
@@ -11,7 +11,7 @@ use Rattle.pawk_meaning.specs.Records.{Left, through, next_file, exit, fault, cl
 use Rattle.pawk_meaning.specs.Lockstep.{refusal_of, RefusesIn, SameAnswer, AreInLockstep, FirstGoesOn, SecondGoesOn}
 use Rattle.pawk_meaning.specs.Laws.{SameEnd, EndsInStep, LeftBy, IsFinal, RefusalsAreFinal}
 use Rattle.pawk_commute.specs.Traces.{Event, Traced, events_of, traced_answer, traced}
-use Rattle.pawk_commute.specs.TracedRuns.{plain, traced_pair}
+use Rattle.pawk_commute.specs.TracedRuns.{plain, traced_pair, with_trace_before, longer_pair}
 
 same_answer : {X : Type 0} (trace more : List Event) (a : Answer Globals X) → SameAnswer (λ (s : Traced) g. s.globals ≡ g) (traced_answer trace more a) a
 same_answer trace more (gives x g) = (refl, refl)
@@ -82,3 +82,25 @@ same_end e f h = λ i. record { world = h.worlds i; state = h.states i; output =
 
 pub in_step : (e : End Traced) (f : End Globals) → EndsInStep (traced_pair tt) e f → plain e ≡ f
 in_step e f = ⊎_elim (λ h. same_end e f h) (λ p. absurd p.parts_there)
+
+-- ---- the same with more in front of the trace
+
+module _ (before : List Event) where
+  longer_answer : {X : Type 0} (s t : List Event) (more : List Event) (a : Answer Globals X) → s ≡ before ++ t → SameAnswer (λ (u v : Traced). (u.globals ≡ v.globals) × (u.trace ≡ before ++ v.trace)) (traced_answer s more a) (traced_answer t more a)
+  longer_answer s t more (gives x g) h = (refl, (refl, ap (λ x. x ++ more) h ∙ append_assoc before t more))
+  longer_answer s t more (halts k g) h = (refl, (refl, h))
+
+  pub longer_lockstep : AreInLockstep (longer_pair before)
+  longer_lockstep = record {
+    look = λ n may s t h. ap (calls.look n) h.0;
+    ask = λ q may s t h. inl (subst (λ g. SameAnswer (λ (u v : Traced). (u.globals ≡ v.globals) × (u.trace ≡ before ++ v.trace)) ((traced calls).ask q s) (traced_answer t.trace (events_of q g) (calls.ask q g))) h.0 (longer_answer s.trace t.trace (events_of q s.globals) (calls.ask q s.globals) h.1));
+  }
+
+  pub longer_alike : (e : End Traced) → SameEnd (longer_pair before) (with_trace_before before e) e
+  longer_alike e = record { worlds = (refl, refl); states = refl; outputs = refl; lefts = refl }
+
+  longer_end : (e f : End Traced) → SameEnd (longer_pair before) e f → e ≡ with_trace_before before f
+  longer_end e f h = λ i. record { world = record { globals = h.worlds.0 i; trace = h.worlds.1 i }; state = h.states i; output = h.outputs i; left = h.lefts i }
+
+  pub longer_in_step : (e f : End Traced) → EndsInStep (longer_pair before) e f → e ≡ with_trace_before before f
+  longer_in_step e f = ⊎_elim (λ h. longer_end e f h) (λ p. absurd p.parts_there)

@@ -42,15 +42,18 @@ MayRead Reader = Unit {0}
 
 -- what a program may do that runs in chunks: look at, test and walk what is fixed, read fixed arrays and reader arrays,
 -- put values into setters, add to adders, call what its records reach
+abbrev pub PermitsFor : Code → Roles → Access → Resource → Type 0
+PermitsFor code roles looks (variable_slot n) = role_of_scalar roles n ≡ Fixed
+PermitsFor code roles reads (array_slot n) = MayRead (role_of_array roles n)
+PermitsFor code roles writes r = role_of roles r ≡ Setter
+PermitsFor code roles (changes sign) r = role_of roles r ≡ Adder
+PermitsFor code roles tests (array_slot n) = role_of_array roles n ≡ Fixed
+PermitsFor code roles walks (array_slot n) = role_of_array roles n ≡ Fixed
+PermitsFor code roles runs (function_slot f) = Reached code f
+PermitsFor code roles _ _ = ⊥
+
 abbrev pub Permits : Setting → Access → Resource → Type 0
-Permits i looks (variable_slot n) = role_of_scalar i.roles n ≡ Fixed
-Permits i reads (array_slot n) = MayRead (role_of_array i.roles n)
-Permits i writes r = role_of i.roles r ≡ Setter
-Permits i (changes sign) r = role_of i.roles r ≡ Adder
-Permits i tests (array_slot n) = role_of_array i.roles n ≡ Fixed
-Permits i walks (array_slot n) = role_of_array i.roles n ≡ Fixed
-Permits i runs (function_slot f) = Reached i.code f
-Permits i _ _ = ⊥
+Permits i = PermitsFor i.code i.roles
 
 -- what is at a cell; an element may be missing
 abbrev pub entry_at : Cell → Globals → Option Val

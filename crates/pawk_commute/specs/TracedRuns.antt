@@ -1,12 +1,12 @@
--- A run that keeps a trace is the run that keeps none.
-use Rattle.std.specs.Prelude.{◌≡◌, ℕ, List, [], Option}
+-- A run that keeps a trace is the run that keeps none, whatever was in the trace before.
+use Rattle.std.specs.Prelude.{◌≡◌, ℕ, List, [], ◌++◌, Option}
 use Rattle.pawk_code.specs.Programs.{Code}
 use Rattle.pawk_input.specs.Input.{Item}
 use Rattle.pawk_store.specs.Globals.{Globals, calls}
 use Rattle.pawk_meaning.specs.Records.{End}
 use Rattle.pawk_meaning.specs.Runs.{records_from}
 use Rattle.pawk_meaning.specs.Lockstep.{Pair}
-use Rattle.pawk_commute.specs.Traces.{Traced, traced}
+use Rattle.pawk_commute.specs.Traces.{Event, Traced, traced}
 
 -- an end without its trace
 abbrev pub plain : End Traced → End Globals
@@ -31,3 +31,29 @@ TracedLaw =
     (eres : List (List ℕ)) (code : Code) (budget : ℕ) (skip : Option ℕ) (items : List Item) (e : End Traced) →
     plain (records_from (traced calls) eres code budget skip e items)
     ≡ records_from calls eres code budget skip (plain e) items
+
+-- an end with these events in front of its trace
+abbrev pub with_trace_before : List Event → End Traced → End Traced
+with_trace_before before e =
+    record e { world = record { globals = e.world.globals; trace = before ++ e.world.trace } }
+
+-- the same globals, of which the first have more in front of their trace; the two do not part
+abbrev pub longer_pair : List Event → Pair Traced Traced
+longer_pair before = record {
+  first_calls = traced calls;
+  second_calls = traced calls;
+  alike = λ s t. (s.globals ≡ t.globals) × (s.trace ≡ before ++ t.trace);
+  before = λ s t. Unit {0};
+  before_second = λ s t. Unit {0};
+  permits = λ access resource. Unit {0};
+  parts = λ q s t. ⊥;
+  ahead = [];
+}
+
+-- records of any program
+abbrev pub TraceIsAppendedLaw : Type 0
+TraceIsAppendedLaw =
+    (eres : List (List ℕ)) (code : Code) (budget : ℕ) (skip : Option ℕ) (items : List Item)
+    (before : List Event) (e : End Traced) →
+    records_from (traced calls) eres code budget skip (with_trace_before before e) items
+    ≡ with_trace_before before (records_from (traced calls) eres code budget skip e items)

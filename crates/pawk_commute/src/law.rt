@@ -1,9 +1,10 @@
 // The laws.
 
+ghost use Rattle.std.specs.Prelude.{List};
 ghost use Rattle.pawk_commute.specs.Chunks.{ChunkLaw, ChunksLaw};
 ghost use Rattle.pawk_commute.specs.Commutation.{Commutation, StartsAgain};
 ghost use Rattle.pawk_commute.specs.Admitted.{AdmissionAllows};
-ghost use Rattle.pawk_commute.specs.TracedRuns.{TracedLaw};
+ghost use Rattle.pawk_commute.specs.TracedRuns.{TraceIsAppendedLaw, TracedLaw};
 ghost use Rattle.pawk_commute.specs.Merging.{MergeTells};
 
 use pawk_meaning::law::{
@@ -67,6 +68,29 @@ pub fn trace_changes_nothing()
     ensures { TracedLaw }
 {
     lockstep_records::<TracedAndPlain>();
+}
+
+/// The globals that keep a trace, with more or less in front of it.
+pub struct LongerTrace;
+
+impl Pairing for LongerTrace {
+    ghost use Rattle.pawk_commute.specs.Traces.{Event, Traced};
+    ghost use Rattle.pawk_commute.specs.TracedRuns.{longer_pair};
+
+    ghost Setting = { List Event };
+
+    ghost First = { Traced };
+
+    ghost Second = { Traced };
+
+    ghost pair = { longer_pair };
+}
+
+/// What was in the trace before records stays in front of what they tell.
+pub fn trace_is_appended()
+    ensures { TraceIsAppendedLaw }
+{
+    lockstep_records::<LongerTrace>();
 }
 
 /// A chunk of records over the globals that BEGIN left ends as the same records over the globals

@@ -6,3 +6,4 @@ pub mod InRecords
 pub mod InRuns
 pub mod Alone
 pub mod Everything
+pub mod Framing

@@ -9,3 +9,4 @@ pub mod Lockstep
 pub mod Allows
 pub mod Laws
 pub mod Steady
+pub mod Outputs

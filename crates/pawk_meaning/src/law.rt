@@ -6,6 +6,7 @@ ghost use Rattle.pawk_meaning.specs.Laws.{StatementsLaw, RecordLaw, ActionsLaw, 
 ghost use Rattle.pawk_meaning.specs.Laws.{RunLaw, NeverDisallowsLaw};
 ghost use Rattle.pawk_meaning.specs.Steady.{RecordKeepsLaw, RecordsKeepLaw, RecordsFollowLaw};
 ghost use Rattle.pawk_meaning.specs.Steady.{RecordsResumeLaw, ReadsAnewLaw};
+ghost use Rattle.pawk_meaning.specs.Outputs.{OutputIsAppendedLaw};
 
 /// Two worlds for each setting, as their definitions have them: the meaning of each one's calls, a
 /// relation of their states, an order of each one's states in which its calls go on, what a program
@@ -105,4 +106,10 @@ pub fn reads_anew<P: Policy>()
 /// Over a world that answers no request with a clash no run of any program is disallowed.
 pub fn never_disallows<P: Policy>()
     ensures { (i : P.Setting) → NeverDisallowsLaw (P.calls i) }
+{}
+
+/// What was written before records stays in front of what they write, and no record of any program
+/// looks at it.
+pub fn output_is_appended<P: Policy>()
+    ensures { (i : P.Setting) → OutputIsAppendedLaw (P.calls i) }
 {}

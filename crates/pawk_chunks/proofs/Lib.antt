@@ -1,0 +1,3 @@
+pub mod JoinLemmas
+pub mod OpeningLemmas
+pub mod StepLemmas

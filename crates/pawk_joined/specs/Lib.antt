@@ -1,2 +1,0 @@
-pub mod JoinedTables
-pub mod MergedChunks
