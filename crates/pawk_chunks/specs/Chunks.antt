@@ -9,7 +9,8 @@ use Rattle.pawk_meaning.specs.Steady.{AreSameButRecord}
 use Rattle.pawk_join.specs.Merges.{Chunk, merge}
 use Rattle.pawk_chunks.specs.Phases.{Phase, MayRun, opening, in_order, FaultsOrCreates}
 
--- how a chunk ends that is run from this record state over the globals that BEGIN left: nothing is noted, and nothing written
+-- how a chunk ends that is run from this record state over the globals that BEGIN left, with nothing noted and nothing
+-- written
 abbrev pub chunk_end : Phase → RecordState → List Item → End Frozen
 chunk_end p state items =
     records_from calls p.eres p.code p.budget None
