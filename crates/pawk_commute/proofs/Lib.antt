@@ -7,4 +7,3 @@ pub mod EndLemmas
 pub mod MergeLemmas
 pub mod AdmissionLemmas
 pub mod TracedLemmas
-pub mod ChunkLemmas

@@ -5,4 +5,3 @@ pub mod Commutation
 pub mod TracedRuns
 pub mod Merging
 pub mod Admitted
-pub mod Chunks

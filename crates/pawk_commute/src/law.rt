@@ -1,15 +1,12 @@
 // The laws.
 
 ghost use Rattle.std.specs.Prelude.{List};
-ghost use Rattle.pawk_commute.specs.Chunks.{ChunkLaw, ChunksLaw};
 ghost use Rattle.pawk_commute.specs.Commutation.{Commutation, StartsAgain};
 ghost use Rattle.pawk_commute.specs.Admitted.{AdmissionAllows};
 ghost use Rattle.pawk_commute.specs.TracedRuns.{TraceIsAppendedLaw, TracedLaw};
 ghost use Rattle.pawk_commute.specs.Merging.{MergeTells};
 
-use pawk_meaning::law::{
-    Pairing, Policy, lockstep_records, reads_anew, records_follow, records_keep,
-};
+use pawk_meaning::law::{Pairing, lockstep_records};
 
 /// The globals that keep a trace, and those of a chunk.
 pub struct StoreAndChunk;
@@ -46,24 +43,8 @@ impl Pairing for TracedAndPlain {
     ghost pair = { traced_pair };
 }
 
-/// The globals that keep no trace, and what a program that runs in chunks may do to them.
-pub struct Store;
-
-impl Policy for Store {
-    ghost use Rattle.pawk_commute.specs.Settings.{Setting as Settings, Permits};
-    ghost use Rattle.pawk_store.specs.Globals as globals;
-
-    ghost Setting = { Settings };
-
-    ghost State = { globals.Globals };
-
-    ghost calls = { λ i. globals.calls };
-
-    ghost permits = { Permits };
-}
-
 /// Records over globals that keep a trace end as over globals that keep none. A law, which takes
-/// leaves nothing.
+/// and leaves nothing.
 pub fn trace_changes_nothing()
     ensures { TracedLaw }
 {
@@ -118,25 +99,3 @@ pub fn merge_tells()
 pub fn admission_allows()
     ensures { AdmissionAllows }
 {}
-
-/// Records in order end as a chunk of them that is left well and whose cells all pass, with the
-/// globals to which its table is joined.
-pub fn chunk_joins()
-    ensures { ChunkLaw }
-{
-    commutes();
-    merge_tells();
-    starts_again();
-    trace_changes_nothing();
-}
-
-/// Records in order come to the end to which their chunks join, each of which is run from what
-/// BEGIN left.
-pub fn chunks_join()
-    ensures { ChunksLaw }
-{
-    chunk_joins();
-    records_follow::<Store>();
-    records_keep::<Store>();
-    reads_anew::<Store>();
-}
