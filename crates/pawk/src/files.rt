@@ -16,10 +16,36 @@ fn known_size<R: Files>(rt: &R, name: &str) -> usize {
     }
 }
 
-/// Reads a file to its end, into room for the size that is known of it.
+/// How many bytes of a file are read at once.
+const PART: usize = 65_536;
+
+/// Reads the bytes that are known of a file, a part at a time, as far as they come. What is left, and
+/// a read that was interrupted, is for who reads on.
+fn read_known<F: Read>(
+    alloc: Global,
+    file: &mut F,
+    size: usize,
+    bytes: &mut Vec<u8>,
+) -> io::Result<()> {
+    let mut part = Vec::new(alloc);
+    part.resize(PART, 0)?;
+    for _ in 0..size / PART + 1 {
+        match file.read(part.as_mut_slice()) {
+            Ok(count) => bytes.extend_from_slice(&part[..count])?,
+            Err(error) if error.kind() == io::ErrorKind::Interrupted => return Ok(()),
+            Err(error) => return Err(error),
+        }
+    }
+    Ok(())
+}
+
+/// Reads a file to its end, into room for the size that is known of it, and one byte more, in which
+/// its end is seen.
 pub(crate) fn read_file<R: Files + AllocGlobal>(rt: &R, name: &str) -> io::Result<Vec<u8>> {
     let mut file = File::open(rt, name)?;
-    let mut bytes = Vec::with_capacity(rt.alloc(), known_size(rt, name))?;
+    let size = known_size(rt, name);
+    let mut bytes = Vec::with_capacity(rt.alloc(), size.saturating_add(1))?;
+    read_known(rt.alloc(), &mut file, size, &mut bytes)?;
     file.read_to_end(&mut bytes)?;
     Ok(bytes)
 }

@@ -19,7 +19,7 @@ use pawk_builtins::{Expression, related, same_truth};
 use pawk_code::expression::{Expr, Pattern, Test};
 use pawk_code::leaf::Leaf;
 use pawk_code::word::Relation;
-use pawk_places::{Run, compare_leaves, element_exists, table_of};
+use pawk_places::{Run, compare_leaves, element_exists, give_back, table_of, take_buffer};
 use pawk_value::lend_held;
 use pawk_world::{Halt, World};
 
@@ -93,11 +93,14 @@ pub(crate) fn compare<W: World>(
             return compare_leaves(relation, x, y, world, run);
         }
     }
-    let mut left = Vec::new(run.alloc);
+    let mut left = take_buffer(run.alloc, &mut run.spare);
     let x = eval(context, depth, a, &mut left, world, run)?;
-    let mut right = Vec::new(run.alloc);
+    let mut right = take_buffer(run.alloc, &mut run.spare);
     let y = eval(context, depth, b, &mut right, world, run)?;
-    Ok(related(relation, lend_held(x, &left), lend_held(y, &right))?)
+    let holds = related(relation, lend_held(x, &left), lend_held(y, &right))?;
+    give_back(&mut run.spare, left);
+    give_back(&mut run.spare, right);
+    Ok(holds)
 }
 
 /// Whether a text matches, or, where no match is wanted, does not match. A field that is held

@@ -21,7 +21,10 @@ use crate::operations::value_with;
 use crate::places::place;
 use crate::strings::textual;
 use pawk_code::expression::{Expr, Place};
-use pawk_places::{Run, leaf_number, leaf_text, leaf_truth, leaf_value, read_place, write_place};
+use pawk_places::{
+    Run, give_back, give_back_target, leaf_number, leaf_text, leaf_truth, leaf_value, read_place,
+    take_buffer, write_place,
+};
 use pawk_value::{Fault, Held, Value, lend_held, push_text_lent, to_num_lent, truth_lent};
 use pawk_world::{Halt, World};
 
@@ -56,7 +59,9 @@ pub(crate) fn eval<W: World>(
         }
         Expr::Read(from) => {
             let target = place(context, depth, from, world, run)?;
-            read_place(&target, out, world, run)
+            let held = read_place(&target, out, world, run)?;
+            give_back_target(&mut run.spare, target);
+            Ok(held)
         }
         Expr::Choice(c, a, b) => {
             let truth = truth(context, depth, c, world, run)?;
@@ -99,6 +104,7 @@ pub(crate) fn assign<W: World>(
     let start = out.len();
     let held = eval(context, depth, e, out, world, run)?;
     write_place(&target, lend_held(held, &out[start..]), world, run)?;
+    give_back_target(&mut run.spare, target);
     Ok(held)
 }
 
@@ -121,9 +127,11 @@ pub(crate) fn number<W: World>(
         Expr::Leaf(leaf) => leaf_number(leaf, world, run),
         Expr::Numeric(n) => Ok(Ok(numeric(context, depth, n, world, run)?)),
         e => {
-            let mut bytes = Vec::new(run.alloc);
+            let mut bytes = take_buffer(run.alloc, &mut run.spare);
             let held = eval(context, depth, e, &mut bytes, world, run)?;
-            Ok(to_num_lent(lend_held(held, &bytes)))
+            let number = to_num_lent(lend_held(held, &bytes));
+            give_back(&mut run.spare, bytes);
+            Ok(number)
         }
     }
 }
@@ -151,9 +159,11 @@ pub fn truth<W: World>(
         Expr::Leaf(leaf) => leaf_truth(leaf, world, run),
         Expr::Test(t) => Ok(Ok(test(context, depth, t, world, run)?)),
         e => {
-            let mut bytes = Vec::new(run.alloc);
+            let mut bytes = take_buffer(run.alloc, &mut run.spare);
             let held = eval(context, depth, e, &mut bytes, world, run)?;
-            Ok(truth_lent(lend_held(held, &bytes)))
+            let truth = truth_lent(lend_held(held, &bytes));
+            give_back(&mut run.spare, bytes);
+            Ok(truth)
         }
     }
 }
@@ -179,9 +189,10 @@ pub(crate) fn text_into<W: World>(
         Expr::Leaf(leaf) => leaf_text(leaf, out, world, run),
         Expr::Textual(t) => textual(context, depth, t, out, world, run),
         e => {
-            let mut bytes = Vec::new(run.alloc);
+            let mut bytes = take_buffer(run.alloc, &mut run.spare);
             let held = eval(context, depth, e, &mut bytes, world, run)?;
             push_text_lent(lend_held(held, &bytes), out)?;
+            give_back(&mut run.spare, bytes);
             Ok(())
         }
     }
@@ -202,7 +213,7 @@ pub(crate) fn text<W: World>(
         (view e.now))
         (moment (W.state world.old) run.old)) result (moment (W.state world.new) run.new) }
 {
-    let mut text = Vec::new(run.alloc);
+    let mut text = take_buffer(run.alloc, &mut run.spare);
     text_into(context, depth, e, &mut text, world, run)?;
     Ok(text)
 }

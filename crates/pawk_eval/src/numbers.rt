@@ -24,7 +24,10 @@ use crate::places::place;
 use pawk_builtins::{Expression, step_side, step_sign};
 use pawk_code::expression::{Expr, FieldsBy, Numeric, NumericFunction, Pattern};
 use pawk_code::name::Array;
-use pawk_places::{Run, Separator, change_place, set_match_place, split_into, table_of};
+use pawk_places::{
+    Run, Separator, change_place, give_back, give_back_target, leaf_length, set_match_place,
+    split_into, table_of,
+};
 use pawk_world::{Halt, World, sum};
 
 /// What gives a number.
@@ -56,12 +59,14 @@ pub(crate) fn numeric<W: World>(
             let target = place(context, depth, to, world, run)?;
             let y = number(context, depth, a, world, run)?;
             let numbers = change_place(*op, &target, y, world, run)?;
+            give_back_target(&mut run.spare, target);
             Ok(numbers.1)
         }
         Numeric::Step(step, to) => {
             let target = place(context, depth, to, world, run)?;
             let op = sign_op(step_sign(*step));
             let numbers = change_place(op, &target, Ok(1), world, run)?;
+            give_back_target(&mut run.spare, target);
             Ok(step_side(*step, numbers.0, numbers.1))
         }
         Numeric::Function(f) => function(context, depth, f, world, run),
@@ -97,13 +102,21 @@ pub(crate) fn function<W: World>(
 {
     match f {
         NumericFunction::Length(e) => {
+            if let Expr::Leaf(leaf) = &**e {
+                return leaf_length(leaf, world, run);
+            }
             let text = text(context, depth, e, world, run)?;
-            Ok(text.len() as i64)
+            let length = text.len() as i64;
+            give_back(&mut run.spare, text);
+            Ok(length)
         }
         NumericFunction::Index(e, sought) => {
             let text_e = text(context, depth, e, world, run)?;
             let text_sought = text(context, depth, sought, world, run)?;
-            Ok(place_in(&text_e, &text_sought))
+            let place = place_in(&text_e, &text_sought);
+            give_back(&mut run.spare, text_e);
+            give_back(&mut run.spare, text_sought);
+            Ok(place)
         }
         NumericFunction::Whole(e) => {
             let whole = number(context, depth, e, world, run)?;
@@ -199,5 +212,6 @@ pub(crate) fn find<W: World>(
         text: &ere,
     };
     let found = find_first(expression, &text, world, run)?;
+    give_back(&mut run.spare, text);
     set_match_place(found, world, run)
 }

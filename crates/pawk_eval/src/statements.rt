@@ -25,7 +25,7 @@ ghost use Rattle.pawk_eval.specs.Contexts.{enter_of, eres_of};
 ghost use Rattle.pawk_eval.specs.Flows.{way_of};
 
 use crate::context::Context;
-use crate::expressions::{eval, number, truth, value};
+use crate::expressions::{eval, number, text, truth, value};
 use crate::flow::Flow;
 use crate::loops::{count, turns, turns_after, walk};
 use crate::operands::texts;
@@ -36,8 +36,8 @@ use pawk_builtins::{exit_status, step_sign};
 use pawk_code::expression::{Expr, Format, Place};
 use pawk_code::statement::{Leave, Simple, Statement};
 use pawk_places::{
-    Run, add_to_place, clear_array, print_bytes, print_line, remove_element, table_of, tick,
-    write_place,
+    Run, add_to_place, clear_array, give_back, give_back_target, print_alone, print_bytes,
+    print_line, remove_element, table_of, take_buffer, tick, write_place,
 };
 use pawk_value::{Value, lend_held};
 use pawk_world::{Halt, World};
@@ -122,19 +122,24 @@ pub(crate) fn perform<W: World>(
 {
     match s {
         Simple::Drop(e) => {
-            let mut bytes = Vec::new(run.alloc);
+            let mut bytes = take_buffer(run.alloc, &mut run.spare);
             let _ = eval(context, depth, e, &mut bytes, world, run)?;
+            give_back(&mut run.spare, bytes);
             Ok(())
         }
         Simple::Set(to, e) => set(context, depth, to, e, world, run),
         Simple::Add(sign, to, e) => {
             let target = place(context, depth, to, world, run)?;
             let amount = number(context, depth, e, world, run)?;
-            add_to_place(*sign, &target, amount, world, run)
+            add_to_place(*sign, &target, amount, world, run)?;
+            give_back_target(&mut run.spare, target);
+            Ok(())
         }
         Simple::Count(step, to) => {
             let target = place(context, depth, to, world, run)?;
-            add_to_place(step_sign(*step), &target, Ok(1), world, run)
+            add_to_place(step_sign(*step), &target, Ok(1), world, run)?;
+            give_back_target(&mut run.spare, target);
+            Ok(())
         }
         Simple::Print(operands) => print(context, depth, &operands.values, world, run),
         Simple::Printf(format, operands) => {
@@ -142,7 +147,9 @@ pub(crate) fn perform<W: World>(
         }
         Simple::Delete(array, keys) => {
             let key = key(context, depth, keys, world, run)?;
-            remove_element(table_of(&run.frame, *array), &key, world, run)
+            remove_element(table_of(&run.frame, *array), &key, world, run)?;
+            give_back(&mut run.spare, key);
+            Ok(())
         }
         Simple::Clear(array) => clear_array(table_of(&run.frame, *array), world, run),
     }
@@ -166,9 +173,12 @@ pub(crate) fn set<W: World>(
         (moment (W.state world.old) run.old)) result (moment (W.state world.new) run.new) }
 {
     let target = place(context, depth, to, world, run)?;
-    let mut bytes = Vec::new(run.alloc);
+    let mut bytes = take_buffer(run.alloc, &mut run.spare);
     let held = eval(context, depth, e, &mut bytes, world, run)?;
-    write_place(&target, lend_held(held, &bytes), world, run)
+    write_place(&target, lend_held(held, &bytes), world, run)?;
+    give_back(&mut run.spare, bytes);
+    give_back_target(&mut run.spare, target);
+    Ok(())
 }
 
 /// Prints the values of expressions.
@@ -189,9 +199,16 @@ pub(crate) fn print<W: World>(
         (exprs (views es.now)) []) (spec.print_line W.calls)
         (moment (W.state world.old) run.old)) result (moment (W.state world.new) run.new) }
 {
+    if let [only] = es {
+        let text = text(context, depth, only, world, run)?;
+        print_alone(&text, world, run)?;
+        give_back(&mut run.spare, text);
+        return Ok(());
+    }
     let mut parts = Texts::new(run.alloc);
-    let mut scratch = Vec::new(run.alloc);
+    let mut scratch = take_buffer(run.alloc, &mut run.spare);
     texts(context, depth, es, &mut parts, &mut scratch, world, run)?;
+    give_back(&mut run.spare, scratch);
     print_line(&parts, world, run)
 }
 
@@ -216,7 +233,9 @@ pub(crate) fn printf<W: World>(
         (moment (W.state world.old) run.old)) result (moment (W.state world.new) run.new) }
 {
     let text = formatted(context, depth, format, es, world, run)?;
-    print_bytes(&text, world, run)
+    print_bytes(&text, world, run)?;
+    give_back(&mut run.spare, text);
+    Ok(())
 }
 
 /// Runs a statement that leaves what it stands in.

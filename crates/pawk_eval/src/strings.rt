@@ -18,7 +18,7 @@ use crate::operands::{format_operand, values};
 use crate::operations::fill_format;
 use pawk_builtins::{Values, both, push_letters, substring, suffix, within_limit};
 use pawk_code::expression::{Expr, Format, Textual};
-use pawk_places::Run;
+use pawk_places::{Run, give_back};
 use pawk_world::{Halt, World};
 
 /// Appends what gives a text.
@@ -45,6 +45,7 @@ pub(crate) fn textual<W: World>(
             let text = text(context, depth, e, world, run)?;
             let from = number(context, depth, a, world, run)?;
             out.extend_from_slice(suffix(&text, from?))?;
+            give_back(&mut run.spare, text);
             Ok(())
         }
         Textual::Substring(e, a, b) => {
@@ -53,11 +54,13 @@ pub(crate) fn textual<W: World>(
             let count = number(context, depth, b, world, run)?;
             let places = both(from, count)?;
             out.extend_from_slice(substring(&text, places.0, places.1))?;
+            give_back(&mut run.spare, text);
             Ok(())
         }
         Textual::Case(case, e) => {
             let text = text(context, depth, e, world, run)?;
             push_letters(*case, &text, out)?;
+            give_back(&mut run.spare, text);
             Ok(())
         }
         Textual::Format(format, es) => {

@@ -40,6 +40,7 @@ fn opening_run<'a>(alloc: Global, job: Job<'_>) -> Result<Run<'a>, AllocError>
         output: Vec::new(alloc),
         left: job.budget,
         matchers: Matchers::new(alloc, job.code.expressions.len())?,
+        spare: Vec::new(alloc),
     })
 }
 

@@ -1,11 +1,11 @@
 //! Leaves of expressions: what is read without an effect and without a fault.
 
-ghost use Rattle.std.specs.Prelude.{◌≡◌, ◌≤◌, ◌++◌, OnOk};
+ghost use Rattle.std.specs.Prelude.{◌≡◌, ◌≤◌, ◌++◌, [], OnOk, length, pos};
 ghost use Rattle.pawk_value.specs.Held.{added, held_value};
 ghost use Rattle.pawk_value.specs.Value.{lent_value};
 ghost use Rattle.pawk_code.specs.ExpressionViews.{leaf_view};
 ghost use Rattle.pawk_store.specs.StateViews.{state_of};
-ghost use Rattle.pawk_meaning.specs.Parts.{as_number, as_text, as_truth, bind, local_at, settle};
+ghost use Rattle.pawk_meaning.specs.Parts.{as_number, as_text, as_truth, bind, give, local_at, settle};
 ghost use Rattle.pawk_meaning.specs.Builtins.{related};
 ghost use Rattle.pawk_meaning.specs.Builtins as builtins;
 ghost use Rattle.pawk_meaning.specs.Meaning.{value_of_leaf};
@@ -15,11 +15,13 @@ ghost use Rattle.pawk_places.specs.Ready.{IsReady};
 ghost use Rattle.pawk_places.specs.Yields.{Yields};
 
 use crate::run::{Parameter, Run};
+use itoa::Buffer;
 use pawk_code::leaf::Leaf;
 use pawk_code::word::Relation;
 use pawk_store::RecordState;
 use pawk_value::{
-    Fault, Held, ValueRef, compare_lent, hold, lend, push_text_lent, to_num_lent, truth_lent,
+    Fault, Held, ValueRef, compare_lent, hold, lend, push_text_lent, text_in, to_num_lent,
+    truth_lent,
 };
 use pawk_world::{Halt, World};
 use std::alloc::AllocError;
@@ -107,6 +109,20 @@ pub fn leaf_truth<W: World>(
 {
     prepare_leaf(leaf, &mut run.state)?;
     Ok(truth_lent(lend_leaf(leaf, world, run)))
+}
+
+/// The length of the text of a leaf in bytes. Nothing is copied.
+///
+/// POSIX.1-2017, awk, "String Functions" (`length`).
+pub fn leaf_length<W: World>(leaf: &Leaf, world: &W, run: &mut Run<'_>) -> Result<i64, Halt>
+    ensures left { run.new.left ≤ run.old.left }
+    ensures outcome { Yields (λ number. number)
+        (bind (as_text [] (value_of_leaf W.calls (leaf_view leaf.now))) (λ s. give (pos (length s)))
+        (moment (W.state world.now) run.old)) result (moment (W.state world.now) run.new) }
+{
+    prepare_leaf(leaf, &mut run.state)?;
+    let mut buffer = Buffer::new();
+    Ok(text_in(lend_leaf(leaf, world, run), &mut buffer).len() as i64)
 }
 
 /// Appends the text of a leaf.

@@ -12,9 +12,9 @@ mod target;
 mod writing;
 
 pub use arrays::{Separator, array_keys, clear_array, element_exists, remove_element, split_into};
-pub use leaves::{compare_leaves, leaf_number, leaf_text, leaf_truth, leaf_value};
-pub use outputs::{key_of_texts, print_bytes, print_line, tick};
+pub use leaves::{compare_leaves, leaf_length, leaf_number, leaf_text, leaf_truth, leaf_value};
+pub use outputs::{key_of_texts, print_alone, print_bytes, print_line, tick};
 pub use reading::read_place;
-pub use run::{Parameter, Run, parameters};
-pub use target::{Table, Target, element_target, table_of, variable_target};
+pub use run::{Parameter, Run, give_back, parameters, take_buffer};
+pub use target::{Table, Target, element_target, give_back_target, table_of, variable_target};
 pub use writing::{add_to_place, change_place, put_text, set_match_place, write_place};

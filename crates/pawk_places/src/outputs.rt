@@ -1,6 +1,6 @@
 //! Steps, keys and output.
 
-ghost use Rattle.std.specs.Prelude.{◌≡◌, ◌≤◌, ◌<◌, OnOk};
+ghost use Rattle.std.specs.Prelude.{◌≡◌, ◌≤◌, ◌<◌, ◌∷◌, [], OnOk};
 ghost use Rattle.pawk_meaning.specs.Meaning.{key_of, print_line, print_text};
 ghost use Rattle.pawk_meaning.specs.Parts.{tick};
 ghost use Rattle.pawk_places.specs.Moments.{moment};
@@ -75,6 +75,22 @@ pub fn print_line<W: World>(texts: &Texts, world: &W, run: &mut Run<'_>) -> Resu
         scalar_text(OFS, world, &mut between),
         &mut run.output,
     )?;
+    run.output
+        .extend_from_slice(scalar_text(ORS, world, &mut behind))?;
+    Ok(())
+}
+
+/// Prints a text with ORS behind.
+///
+/// POSIX.1-2017, awk, "Output Statements" (`print`).
+pub fn print_alone<W: World>(text: &[u8], world: &W, run: &mut Run<'_>) -> Result<(), Halt>
+    ensures left { run.new.left ≤ run.old.left }
+    ensures outcome { Yields (λ _. tt)
+        (print_line W.calls (text.now ∷ [])
+        (moment (W.state world.now) run.old)) result (moment (W.state world.now) run.new) }
+{
+    let mut behind = Buffer::new();
+    run.output.extend_from_slice(text)?;
     run.output
         .extend_from_slice(scalar_text(ORS, world, &mut behind))?;
     Ok(())

@@ -10,7 +10,7 @@ ghost use Rattle.pawk_places.specs.Yields.{Yields};
 
 use crate::leaves::lend_parameter;
 use crate::locals;
-use crate::run::Run;
+use crate::run::{Run, give_back, take_buffer};
 use crate::target::Target;
 use pawk_value::{Fault, Held, hold, lend_held, to_num_lent};
 use pawk_world::{Halt, World};
@@ -64,9 +64,11 @@ fn old_element_number<W: World>(
         (as_number (old_at W.calls (cell (element slot key.now)))
         (moment (W.state world.old) run.old)) result (moment (W.state world.new) run.new) }
 {
-    let mut bytes = Vec::new(run.alloc);
+    let mut bytes = take_buffer(run.alloc, &mut run.spare);
     let held = world.old_element(slot, key, &mut bytes)?;
-    Ok(to_num_lent(lend_held(held, bytes.as_slice())))
+    let number = to_num_lent(lend_held(held, bytes.as_slice()));
+    give_back(&mut run.spare, bytes);
+    Ok(number)
 }
 
 /// The number of the old value of a place that is assigned, or the fault of its conversion. An

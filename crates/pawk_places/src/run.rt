@@ -35,6 +35,31 @@ pub struct Run<'a> {
     /// How many steps are left.
     pub left: u64,
     pub matchers: Matchers,
+    /// Buffers that were given back.
+    pub spare: Vec<Vec<u8>>,
+}
+
+/// An empty buffer, if there is one that was given back.
+#[inline]
+pub fn take_buffer(alloc: Global, spare: &mut Vec<Vec<u8>>) -> Vec<u8>
+    ensures { result.items ≡ [] }
+{
+    match spare.pop() {
+        Some(buffer) => {
+            let mut buffer = buffer;
+            buffer.clear();
+            buffer
+        }
+        None => Vec::new(alloc),
+    }
+}
+
+/// Gives a buffer back.
+#[inline]
+pub fn give_back(spare: &mut Vec<Vec<u8>>, buffer: Vec<u8>) {
+    if spare.len() < 64 {
+        let _ = spare.push(buffer);
+    }
 }
 
 /// A parameter that got no argument: a scalar without a value, or an empty array that is opened.

@@ -4,7 +4,7 @@ ghost use Rattle.std.specs.Prelude.{◌≡◌};
 ghost use Rattle.pawk_meaning.specs.Places.{array_at, element_of, variable_aim};
 ghost use Rattle.pawk_places.specs.Moments.{aim_view, holds_of, table_view};
 
-use crate::run::Parameter;
+use crate::run::{Parameter, give_back};
 use pawk_code::name::{Array, Variable};
 
 /// Where a place is.
@@ -56,6 +56,16 @@ pub fn element_target(table: Table, key: Vec<u8>) -> Target
         Table::None => Target::Nowhere,
         Table::Global(slot) => Target::Element(slot, key),
         Table::Local(number) => Target::LocalElement(number, key),
+    }
+}
+
+/// Gives the key of a target back.
+#[inline]
+pub fn give_back_target(spare: &mut Vec<Vec<u8>>, target: Target) {
+    match target {
+        Target::Element(_, key) => give_back(spare, key),
+        Target::LocalElement(_, key) => give_back(spare, key),
+        _ => {}
     }
 }
 
