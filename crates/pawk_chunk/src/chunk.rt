@@ -91,6 +91,7 @@ fn opening_run<'a>(alloc: Global, begun: Begun<'_, 'a>, nr: u64) -> Result<Run<'
         arrays: Vec::new(alloc),
         output: Vec::new(alloc),
         left: begun.job.budget,
+        spare: Vec::new(alloc),
         matchers: Matchers::new(alloc, begun.job.code.expressions.len())?,
     })
 }
