@@ -2,15 +2,13 @@
 
 ghost use Rattle.std.specs.Prelude.{◌≡◌, ◌<◌, ◌≤◌, [], None, length, slice_get, IfOk, IfSome};
 ghost use Rattle.std.specs.Option.{option_map};
-ghost use Rattle.pawk_code.specs.ProgramViews.{code_view};
 ghost use Rattle.pawk_input.specs.Input.{IsReady, files_of};
-ghost use Rattle.pawk_input.specs.Plan.{IsPlanOf, chunk_items};
+ghost use Rattle.pawk_input.specs.Plan.{IsPlanOf};
 ghost use Rattle.pawk_input.specs.Walk.{items_left};
 ghost use Rattle.pawk_store.specs.StateViews.{state_of};
-ghost use Rattle.pawk_admit.specs.Roles.{roles_view};
 ghost use Rattle.pawk_frozen.specs.Frozens.{calls};
 ghost use Rattle.pawk_meaning.specs.Runs.{records_from};
-ghost use Rattle.pawk_chunk.specs.Chunks.{Leaves, chunk_begin};
+ghost use Rattle.pawk_chunk.specs.Chunks.{Leaves, chunk_begin, chunk_end, opening_view};
 ghost use Rattle.pawk_chunk.specs.Chunks as spec;
 
 use pawk_admit::Roles;
@@ -25,7 +23,7 @@ use std::alloc::{AllocError, Global};
 
 /// What the chunks of a run begin with.
 #[derive(Clone, Copy)]
-pub struct Begun<'p, 'a> {
+pub struct Opening<'p, 'a> {
     pub job: Job<'p>,
     /// The globals that `BEGIN` left.
     pub globals: &'p Globals,
@@ -79,40 +77,39 @@ fn chunk_state<'a>(
 }
 
 /// What the run of a chunk begins with that comes after so many records.
-fn opening_run<'a>(alloc: Global, begun: Begun<'_, 'a>, nr: u64) -> Result<Run<'a>, AllocError>
+fn opening_run<'a>(alloc: Global, opening: Opening<'_, 'a>, nr: u64) -> Result<Run<'a>, AllocError>
     ensures output { IfOk result (λ run. run.output.items ≡ []) }
     ensures state { IfOk result (λ run.
-        state_of run.state ≡ spec.chunk_state nr (state_of begun.entry.state.now)) }
+        state_of run.state ≡ spec.chunk_state nr (state_of opening.entry.state.now)) }
 {
     Ok(Run {
         alloc,
-        state: chunk_state(alloc, begun.state, nr)?,
+        state: chunk_state(alloc, opening.state, nr)?,
         frame: Vec::new(alloc),
         arrays: Vec::new(alloc),
         output: Vec::new(alloc),
-        left: begun.job.budget,
+        left: opening.job.budget,
         spare: Vec::new(alloc),
-        matchers: Matchers::new(alloc, begun.job.code.expressions.len())?,
+        matchers: Matchers::new(alloc, opening.job.code.expressions.len())?,
     })
 }
 
 /// Runs the records of a chunk that comes after so many records.
 fn run_from<'a>(
     alloc: Global,
-    begun: Begun<'_, 'a>,
+    opening: Opening<'_, 'a>,
     records: Records<'a>,
     nr: u64,
 ) -> Result<ChunkResult<'a>, AllocError>
     ensures { IfOk result (Leaves (records_from calls
-        (code_view begun.entry.job.code.now).expressions (code_view begun.entry.job.code.now)
-        begun.entry.job.budget None
-        (chunk_begin begun.entry.globals.now (roles_view begun.entry.roles.now) nr
-        (state_of begun.entry.state.now))
-        (items_left records.entry))) }
+        (opening_view opening.entry).code.expressions (opening_view opening.entry).code
+        (opening_view opening.entry).budget None
+        (chunk_begin (opening_view opening.entry).globals (opening_view opening.entry).roles nr
+        (opening_view opening.entry).state) (items_left records.entry))) }
 {
-    let mut world = Frozen::new(alloc, begun.globals, begun.roles)?;
-    let mut run = opening_run(alloc, begun, nr)?;
-    let left = run_records(begun.job, records, &mut world, &mut run)?;
+    let mut world = Frozen::new(alloc, opening.globals, opening.roles)?;
+    let mut run = opening_run(alloc, opening, nr)?;
+    let left = run_records(opening.job, records, &mut world, &mut run)?;
     Ok(ChunkResult {
         output: run.output,
         table: world.table(),
@@ -128,7 +125,7 @@ fn run_from<'a>(
 /// POSIX.1-2017, awk, "Overall Program Structure".
 pub fn run_chunk<'a>(
     alloc: Global,
-    begun: Begun<'_, 'a>,
+    opening: Opening<'_, 'a>,
     plan: &Plan,
     input: &'a Input,
     rs: &[u8],
@@ -138,13 +135,9 @@ pub fn run_chunk<'a>(
     requires plan { IsPlanOf rs.now (files_of input.now) plan.now }
     requires one_byte { length rs.now ≤ 1 }
     requires ready { IsReady rs.now input.now }
-    ensures { IfOk result (λ left. IfSome (slice_get plan.now place) (λ c. Leaves
-        (records_from calls (code_view begun.entry.job.code.now).expressions
-        (code_view begun.entry.job.code.now) begun.entry.job.budget None
-        (chunk_begin begun.entry.globals.now (roles_view begun.entry.roles.now) c.nr
-        (state_of begun.entry.state.now))
-        (chunk_items rs.now (files_of input.now) c)) left)) }
+    ensures { IfOk result (λ left. IfSome (slice_get plan.now place) (λ c.
+        Leaves (chunk_end (opening_view opening.entry) rs.now (files_of input.now) c) left)) }
 {
     let records = plan.walk(input, rs, place);
-    run_from(alloc, begun, records, plan.chunk(place).nr)
+    run_from(alloc, opening, records, plan.chunk(place).nr)
 }

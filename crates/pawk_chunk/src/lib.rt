@@ -3,4 +3,4 @@
 
 mod chunk;
 
-pub use chunk::{Begun, ChunkResult, run_chunk};
+pub use chunk::{ChunkResult, Opening, run_chunk};
