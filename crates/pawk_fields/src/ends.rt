@@ -1,6 +1,6 @@
 //! Where words end.
 
-ghost use Rattle.std.specs.Prelude.{◌≡◌, ◌+◌, ◌≤◌, length, take, drop};
+ghost use Rattle.std.specs.Prelude.{◌≡◌, ◌+◌, ◌<◌, ◌≤◌, length, take, drop};
 ghost use Rattle.std.specs.List.{prefix_len};
 ghost use Rattle.pawk_fields.specs.Fields.{is_not_blank};
 
@@ -29,13 +29,19 @@ fn lane_run(text: &[u8], place: usize, skip: usize) -> usize
     (bits >> skip).trailing_zeros() as usize
 }
 
-/// Where the word ends that goes on at a place, one byte after the other.
-#[inline(never)]
-fn far_end(text: &[u8], from: usize) -> usize
-    requires { from ≤ length text.now }
+/// Where the word ends that goes on at a place near the end of a text: the last bytes are looked at
+/// side by side where there are so many.
+#[inline(always)]
+fn late_end(text: &[u8], from: usize) -> usize
+    requires near { length text.now < from + LANES }
+    requires within { from ≤ length text.now }
     ensures { result ≡ from + prefix_len is_not_blank (drop from text.now) }
 {
-    from + word_length(&text[from..])
+    if text.len() < LANES {
+        return from + word_length(&text[from..]);
+    }
+    let last = text.len() - LANES;
+    from + lane_run(text, last, from - last)
 }
 
 /// Where the word ends that goes on at a place: the first blank from there on, or the end.
@@ -44,16 +50,13 @@ pub(crate) fn word_end(text: &[u8], from: usize) -> usize
     requires { from ≤ length text.now }
     ensures { result ≡ from + prefix_len is_not_blank (drop from text.now) }
 {
-    if LANES <= text.len() - from {
-        let run = lane_run(text, from, 0);
+    let mut place = from;
+    while LANES <= text.len() - place {
+        let run = lane_run(text, place, 0);
         if run < LANES {
-            return from + run;
+            return place + run;
         }
-        return far_end(text, from + LANES);
+        place += LANES;
     }
-    if text.len() < LANES {
-        return far_end(text, from);
-    }
-    let last = text.len() - LANES;
-    from + lane_run(text, last, from - last)
+    late_end(text, place)
 }
