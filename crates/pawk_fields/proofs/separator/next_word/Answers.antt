@@ -1,6 +1,4 @@
 use Rattle.std.proofs.Common.{◌+◌, ◌<◌, ◌∷◌, None, drop, refl, sym, ap, ◌∙◌, arith}
-use Rattle.std.proofs.lemmas.List.{length-drop}
-use Rattle.std.proofs.lemmas.List.Sums.{prefix_len-le-length}
 use Rattle.std.specs.List.{prefix_len}
 use Rattle.pawk_value.specs.Bytes.{is_blank}
 use Rattle.pawk_fields.specs.Fields.{is_not_blank}
