@@ -3,3 +3,4 @@ pub mod FieldWalkLemmas
 pub mod FieldsLawLemmas
 pub mod SplitLemmas
 pub mod WordLanes
+pub mod EndLanes

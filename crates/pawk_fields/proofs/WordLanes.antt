@@ -30,7 +30,7 @@ blank_lane a = bit_or (equal_lane a 32) (bit_or (equal_lane a 9) (equal_lane a 1
 abbrev pub no_blank_lane : ℕ → ℕ
 no_blank_lane a = bit_and (other_lane a 32) (bit_and (other_lane a 9) (other_lane a 10))
 
-either_lane : (p q r : Bool) → bit_or (cond p 255 0) (bit_or (cond q 255 0) (cond r 255 0)) ≡ cond (p || (q || r)) 255 0
+pub either_lane : (p q r : Bool) → bit_or (cond p 255 0) (bit_or (cond q 255 0) (cond r 255 0)) ≡ cond (p || (q || r)) 255 0
 either_lane true true true = refl
 either_lane true true false = refl
 either_lane true false true = refl

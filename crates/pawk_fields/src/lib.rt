@@ -3,6 +3,7 @@
 
 mod blanks;
 mod count;
+mod ends;
 mod field_walk;
 mod separator;
 mod words;

@@ -6,7 +6,8 @@ ghost use Rattle.memchr.specs.Find.{IsFirstByte};
 ghost use Rattle.pawk_fields.specs.Splits.{pieces_after, pieces_from, separates, words_from};
 ghost use Rattle.pawk_fields.specs.FieldSeparator.{ranges_by, ranges_from};
 
-use crate::blanks::{blank_length, word_length};
+use crate::blanks::blank_length;
+use crate::ends::word_end;
 use memchr::{memchr, memchr2};
 
 const NEWLINE: u8 = b'\n';
@@ -35,7 +36,7 @@ pub struct FieldStep {
 }
 
 /// The first byte of a text that separates.
-#[inline]
+#[inline(never)]
 fn find_separator(text: &[u8], byte: u8, paragraph: bool) -> Option<usize>
     ensures { IsFirstByte (separates byte paragraph) text.now result }
 {
@@ -62,8 +63,7 @@ fn next_word(text: &[u8], from: usize) -> Option<FieldStep>
     if start >= text.len() {
         return None;
     }
-    let (_, word) = text.split_at(start);
-    let end = start + word_length(word);
+    let end = word_end(text, start);
     Some(FieldStep {
         start,
         end,
@@ -109,7 +109,7 @@ impl FieldSeparator {
 
     /// The first field from a place of the record on, in bytes counted from 0, or `None` where
     /// none is left. Takes no memory.
-    #[inline]
+    #[inline(always)]
     pub fn next_field(self, text: &[u8], from: usize) -> Option<FieldStep>
         requires { from ≤ length text.now }
         ensures step { MatchOption result (ranges_from self text.now (Some from) ≡ [])

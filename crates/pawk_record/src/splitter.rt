@@ -51,7 +51,7 @@ fn by_fs(alloc: Global, fs: &[u8], paragraph: bool) -> Result<By, AllocError>
 }
 
 /// Looks for the field from a place on, and adds its range. Where the next one is looked for.
-#[inline]
+#[inline(always)]
 fn find_field(
     separator: FieldSeparator,
     text: &[u8],
@@ -74,8 +74,8 @@ fn find_field(
 }
 
 /// Looks for fields until there are so many, or none is left.
-#[inline]
-fn find_fields(
+#[inline(always)]
+fn find_until(
     separator: FieldSeparator,
     text: &[u8],
     ranges: &mut Vec<Range<usize>>,
@@ -98,7 +98,30 @@ fn find_fields(
     Ok(())
 }
 
+/// The same. The place stands in a register meanwhile.
+#[inline]
+fn find_fields(
+    separator: FieldSeparator,
+    text: &[u8],
+    ranges: &mut Vec<Range<usize>>,
+    next: &mut Option<usize>,
+    count: usize,
+) -> Result<(), AllocError>
+    requires { ForSome next.old (λ p. p ≤ length text.now) }
+    ensures same { ranges.new.items ++ map range_of (ranges_from separator text.now next.new)
+        ≡ ranges.old.items ++ map range_of (ranges_from separator text.now next.old) }
+    ensures within { ForSome next.new (λ p. p ≤ length text.now) }
+    ensures enough { OnOk result ((count ≤ length ranges.new.items) ⊎ (next.new ≡ None)) }
+    ensures more { length ranges.old.items ≤ length ranges.new.items }
+{
+    let mut place = *next;
+    let answer = find_until(separator, text, ranges, &mut place, count);
+    *next = place;
+    answer
+}
+
 /// Adds the ranges of all fields by an expression.
+#[inline(never)]
 fn find_all(
     matcher: &mut Matcher,
     ranges: &mut Vec<Range<usize>>,

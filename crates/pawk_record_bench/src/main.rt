@@ -1,4 +1,5 @@
-//! Adds up a field, or NF, of each line of a file, as `awk '{ s += $1 } END { print s }'` does, and tells the time.
+//! Adds up a field, or NF, of each line of a file, as `awk '{ s += $1 } END { print s }'` does, and tells the time:
+//! `$1`, `$10` and NF, or the one field alone that is named.
 #![tactic(auto)]
 
 use memchr::memchr;
@@ -58,6 +59,14 @@ fn sum_lines(alloc: Global, question: Question, text: &[u8]) -> Result<i64, Stop
     Ok(sum)
 }
 
+/// The field of that index, or NF by any other word.
+fn question_of(word: &str) -> Question {
+    match word.parse::<usize>() {
+        Ok(n) => Question::Field(n),
+        Err(_) => Question::Count,
+    }
+}
+
 /// Adds up over the lines, and prints the sum and the time.
 fn measure(rt: &HostRuntime, question: Question, text: &[u8]) -> io::Result<()> {
     let start = Instant::now(rt)?;
@@ -72,9 +81,12 @@ fn measure(rt: &HostRuntime, question: Question, text: &[u8]) -> io::Result<()> 
 fn main(rt: HostRuntime) -> io::Result<()> {
     let mut args = env::args(&rt)?.skip(1);
     let Some(path) = args.next() else {
-        return println!(rt; "usage: pawk_record_bench FILE");
+        return println!(rt; "usage: pawk_record_bench FILE [FIELD]");
     };
     let text = fs::read(&rt, path.as_str())?;
+    if let Some(word) = args.next() {
+        return measure(&rt, question_of(word.as_str()), &text);
+    }
     for question in [Question::Field(1), Question::Field(10), Question::Count] {
         measure(&rt, question, &text)?;
     }
