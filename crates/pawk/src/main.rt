@@ -4,6 +4,7 @@
 mod chunks;
 mod command;
 mod command_line;
+mod deep;
 mod files;
 mod reports;
 mod whole;

@@ -1,10 +1,11 @@
 //! Programs that are run on one thread.
 
 use crate::command_line::Request;
+use crate::deep::run_deep;
 use crate::files::{read_files, read_stream};
 use crate::reports::{End, Stop};
 use pawk_code::program::Code;
-use pawk_one::{Job, run_one};
+use pawk_one::Job;
 use pawk_par::Input;
 use pawk_resolve_program::program::resolve;
 use pawk_settings::{Settings, SettingsRefusal};
@@ -12,6 +13,8 @@ use pawk_syntax::{Program, SyntaxRefusal, parse};
 use std::alloc::{AllocError, Global};
 use std::io::{Read, Write};
 use std::rt::Files;
+use std::sync::Wait;
+use std::thread::Threads;
 
 /// The program of a text.
 fn read_program(alloc: Global, text: &[u8]) -> Result<Program, Stop> {
@@ -84,7 +87,7 @@ pub(crate) fn run_whole<R, I, O>(
     output: &mut O,
 ) -> Result<End, Stop>
 where
-    R: Files + AllocGlobal,
+    R: Files + AllocGlobal + Threads + Wait,
     I: Read + Drop,
     O: Write,
 {
@@ -97,9 +100,9 @@ where
         code: &code,
         budget: settings.budget(),
     };
-    let outcome = run_one(alloc, job, settings.assignments(), &mut input)?;
-    if output.write_all(&outcome.output).is_err() {
+    let (shown, ending) = run_deep(rt, alloc, job, settings.assignments(), &mut input)?;
+    if output.write_all(&shown).is_err() {
         return Err(Stop::Write);
     }
-    End::of_one(outcome.ending, &code)
+    End::of_one(ending, &code)
 }
