@@ -1,3 +1,4 @@
 pub mod JoinLemmas
 pub mod OpeningLemmas
 pub mod StepLemmas
+pub mod ReadyLemmas

@@ -1,8 +1,8 @@
 -- One chunk beside its records in order, and all chunks by induction.
-use Rattle.std.proofs.Common.{◌≡◌, ℕ, zero, suc, ◌+◌, List, [], ◌∷◌, ◌++◌, length, None, Bool, true, false, if◌then◌else◌, Result, Ok, Err, refl, ap, sym, ◌∙◌, subst, inl, inr, ⊎_elim, arith}
+use Rattle.std.proofs.Common.{◌≡◌, ℕ, zero, suc, ◌+◌, ◌<◌, List, [], ◌∷◌, ◌++◌, length, None, Bool, true, false, if◌then◌else◌, Result, Ok, Err, refl, ap, sym, ◌∙◌, subst, inl, inr, ⊎_elim, arith}
 use Rattle.std.proofs.lemmas.List.{append-nil}
-use Rattle.std.proofs.lemmas.List.Elements.{Contains-append_left, Contains-append_right}
-use Rattle.std.specs.Prelude.{◌⊎◌, All, Contains, MatchResult}
+use Rattle.std.proofs.lemmas.List.Elements.{Contains-append_left, Contains-append_right, Contains-append_cases}
+use Rattle.std.specs.Prelude.{◌⊎◌, All, Contains, MatchResult, slice_index_or}
 use Rattle.pawk_input.specs.Input.{Item}
 use Rattle.pawk_store.specs.Globals.{Globals, calls}
 use Rattle.pawk_store.specs.RecordStates.{RecordState}
@@ -18,6 +18,7 @@ use Rattle.pawk_commute.specs.Traces.{Event, created, Traced, traced}
 use Rattle.pawk_commute.specs.TracedRuns.{plain, TracedLaw, with_trace_before, TraceIsAppendedLaw}
 use Rattle.pawk_commute.specs.Settings.{PermitsFor, MayBegin}
 use Rattle.pawk_commute.specs.Commutation.{pair_of, store_opening, chunk_opening, Commuted, no_event, amount_fault, missed_key, add_fault, Commutation, StartsAgain}
+use Rattle.pawk_commute.specs.Agreement.{IsLawful, AreLawful}
 use Rattle.pawk_commute.specs.Merging.{IsLeftWell, MergeTells}
 use Rattle.pawk_commute.proofs.OrderLemmas.{store_final}
 use Rattle.pawk_join.specs.JoinLaws.{OneJoinLaw, TakesLaw}
@@ -45,9 +46,21 @@ pub record Laws (p : Phase) : Type 0 where
 abbrev pub IsBad : Roles → End Traced → Type 0
 IsBad roles w = IsFault w.left ⊎ CreatesElement roles w.world.trace
 
--- a merge gives this end, or stops where it is bad
+-- a merge gives this end where it is not bad, or stops where it is
 abbrev pub Meets : Roles → End Traced → Result (End Globals) Stop → Type 0
-Meets roles w r = MatchResult r (λ e. plain w ≡ e) (λ s. IsBad roles w)
+Meets roles w r = MatchResult r (λ e. (plain w ≡ e) × ¬ IsBad roles w) (λ s. IsBad roles w)
+
+lawful_at : (roles : Roles) (es : List Event) (k : ℕ) (d : Event) → k < length es → AreLawful roles es → IsLawful roles (slice_index_or es k d)
+lawful_at roles [] k d within h = absurd (omega (arith, within))
+lawful_at roles (e ∷ es) zero d within h = h.0
+lawful_at roles (e ∷ es) (suc k) d within h = lawful_at roles es k d (omega (arith, within)) h.1
+
+-- lawful events create elements of reader arrays alone
+no_creation : (roles : Roles) (es : List Event) → AreLawful roles es → ¬ CreatesElement roles es
+no_creation roles es h k = k.2 (subst (IsLawful roles) k.3.2 (lawful_at roles es k.3.0 (created k.0 k.1) k.3.1 h))
+
+not_bad : (roles : Roles) (w : End Traced) → ¬ IsFault w.left → AreLawful roles w.world.trace → ¬ IsBad roles w
+not_bad roles w stays lawful bad = ⊎_elim stays (no_creation roles w.world.trace lawful) bad
 
 -- how a merge goes on with a chunk that was left so, where each cell takes what was noted or not
 abbrev merge_on : Bool → Left → List Chunk → End Globals → Result (End Globals) Stop
@@ -79,9 +92,14 @@ module _ (p : Phase) (may : MayRun p) (law : Laws p) where
       ap (λ e. run e rest) (same_opening x on)
       ∙ law.appended p.eres p.code p.budget None rest x.world.trace (store_at x.state x.world.globals x.output)
 
-  meets_longer : (before : List Event) (v : End Traced) (r : Result (End Globals) Stop) → Meets p.roles v r → Meets p.roles (with_trace_before before v) r
-  meets_longer before v (Ok e) h = h
-  meets_longer before v (Err s) h = ⊎_elim (λ k. inl k) (λ k. inr (k.0, k.1, k.2, Contains-append_right before v.world.trace (created k.0 k.1) k.3)) h
+  meets_longer : (before : List Event) (v : End Traced) (r : Result (End Globals) Stop) → AreLawful p.roles before → Meets p.roles v r → Meets p.roles (with_trace_before before v) r
+  meets_longer before v (Ok e) lawful h = (
+    h.0,
+    λ bad. ⊎_elim (λ k. h.1 (inl k))
+        (λ k. ⊎_elim (λ there. no_creation p.roles before lawful (k.0, k.1, k.2, there)) (λ there. h.1 (inr (k.0, k.1, k.2, there)))
+        (Contains-append_cases before v.world.trace (created k.0 k.1) k.3)) bad,
+  )
+  meets_longer before v (Err s) lawful h = ⊎_elim (λ k. inl k) (λ k. inr (k.0, k.1, k.2, Contains-append_right before v.world.trace (created k.0 k.1) k.3)) h
 
   bad_onward : (x : End Traced) (rest : List Item) (left : Left) → x.left ≡ left → IsBad p.roles x → IsBad p.roles (onward (λ e. run e rest) left x)
   bad_onward x rest through on h = ⊎_elim
@@ -106,12 +124,12 @@ module _ (p : Phase) (may : MayRun p) (law : Laws p) where
   stops w h true clash cs f never = h
 
   -- where nothing parted them, the merge goes on as the records do
-  goes : (x : End Traced) (rest : List Item) (cs : List Chunk) (left : Left) → x.left ≡ left → (left ≡ clash → ⊥) → LeftBy StaysInFile left → (x.left ≡ through → Meets p.roles (run x rest) (merge cs (plain x))) → Meets p.roles (onward (λ e. run e rest) left x) (behind left (λ f. merge cs f) (plain x))
-  goes x rest cs through on clean stay next = next on
-  goes x rest cs next_file on clean stay next = absurd stay
-  goes x rest cs (exit n) on clean stay next = refl
-  goes x rest cs (fault f) on clean stay next = inl (subst IsFault (sym on) tt)
-  goes x rest cs clash on clean stay next = absurd (clean refl)
+  goes : (x : End Traced) (rest : List Item) (cs : List Chunk) (left : Left) → x.left ≡ left → (left ≡ clash → ⊥) → LeftBy StaysInFile left → AreLawful p.roles x.world.trace → (x.left ≡ through → Meets p.roles (run x rest) (merge cs (plain x))) → Meets p.roles (onward (λ e. run e rest) left x) (behind left (λ f. merge cs f) (plain x))
+  goes x rest cs through on clean stay lawful next = next on
+  goes x rest cs next_file on clean stay lawful next = absurd stay
+  goes x rest cs (exit n) on clean stay lawful next = (refl, not_bad p.roles x (subst IsFault on) lawful)
+  goes x rest cs (fault f) on clean stay lawful next = inl (subst IsFault (sym on) tt)
+  goes x rest cs clash on clean stay lawful next = absurd (clean refl)
 
   module _ (nr : ℕ) (g : Globals) (out : List ℕ) (begin : MayBegin (setting p g out)) (i : Item) (is : List Item) where
     abbrev x : End Traced
@@ -136,7 +154,7 @@ module _ (p : Phase) (may : MayRun p) (law : Laws p) where
         let w = onward (λ e. run e rest) x.left x in
         subst (λ b. Meets p.roles w (merge_on b y.left cs joined)) (sym (table_taken (setting p g out) begin x.world y.world same.worlds law.takes_law))
         (subst (λ (z : End Globals). Meets p.roles w (behind z.left (λ f. merge cs f) z)) (same_joined same)
-        (goes x rest cs x.left refl (λ e. clean (sym same.lefts ∙ e)) kept.in_file (next same)))
+        (goes x rest cs x.left refl (λ e. clean (sym same.lefts ∙ e)) kept.in_file same.worlds.lawful (next same)))
     chunk_meets rest cs next (amount_fault k) =
         stops (onward (λ e. run e rest) x.left x)
         (bad_onward x rest x.left refl (inl (subst (λ (e : End Traced). IsFault e.left) (sym k.store_ends) tt)))
@@ -160,7 +178,7 @@ module _ (p : Phase) (may : MayRun p) (law : Laws p) where
   -- ---- all chunks
 
   pub chunks_meet : (chunks : List (List Item)) (told : List Chunk) (nr : ℕ) (g : Globals) (state : RecordState) (out : List ℕ) → MayBegin (setting p g out) → AreSameButRecord (state_at p nr) state → All HasRecord chunks → Ran p nr chunks told → Meets p.roles (run (store_at state g out) (all_of chunks)) (merge told (record { world = g; state = state; output = out; left = through }))
-  chunks_meet [] [] nr g state out begin same each ran = refl
+  chunks_meet [] [] nr g state out begin same each ran = (refl, not_bad p.roles (store_at state g out) (λ k. k) tt)
   chunks_meet [] (c ∷ cs) nr g state out begin same each ran = absurd ran
   chunks_meet (is ∷ iss) [] nr g state out begin same each ran = absurd ran
   chunks_meet ([] ∷ iss) (c ∷ cs) nr g state out begin same each ran = absurd (first_has iss each)
@@ -188,10 +206,16 @@ module _ (p : Phase) (may : MayRun p) (law : Laws p) where
       subst (λ w. Meets p.roles w (merge cs (plain a))) (sym (resumed a rest on))
       (subst (λ e. Meets p.roles (with_trace_before a.world.trace (run (store_at a.state a.world.globals a.output) rest)) (merge cs e))
       (λ j. record { world = a.world.globals; state = a.state; output = a.output; left = sym on j })
-      (meets_longer a.world.trace (run (store_at a.state a.world.globals a.output) rest) (merge cs (record { world = a.world.globals; state = a.state; output = a.output; left = through })) next)))
+      (meets_longer a.world.trace (run (store_at a.state a.world.globals a.output) rest) (merge cs (record { world = a.world.globals; state = a.state; output = a.output; left = through })) alike.worlds.lawful next)))
       (law.commute (setting p g out) begin may.allows p.eres p.budget None (i ∷ is) (state_at p nr))))
 
 -- what is met with a trace is met without one
-pub untraced : (p : Phase) → TracedLaw → (items : List Item) (r : Result (End Globals) Stop) → Meets p.roles (in_order_traced p items) r → MatchResult r (λ e. in_order p items ≡ e) (λ stop. FaultsOrCreates p items)
-untraced p law items (Ok e) h = sym (law p.eres p.code p.budget None items (traced_opening p)) ∙ h
-untraced p law items (Err s) h = ⊎_elim (λ k. inl (subst (λ (e : End Globals). IsFault e.left) (law p.eres p.code p.budget None items (traced_opening p)) k)) (λ k. inr k) h
+pub untraced : (p : Phase) → TracedLaw → (items : List Item) (r : Result (End Globals) Stop) → Meets p.roles (in_order_traced p items) r → MatchResult r (λ e. (in_order p items ≡ e) × ¬ FaultsOrCreates p items) (λ stop. FaultsOrCreates p items)
+untraced p law items r h = by r h
+  where
+    same : plain (in_order_traced p items) ≡ in_order p items
+    same = law p.eres p.code p.budget None items (traced_opening p)
+
+    by : (r : Result (End Globals) Stop) → Meets p.roles (in_order_traced p items) r → MatchResult r (λ e. (in_order p items ≡ e) × ¬ FaultsOrCreates p items) (λ stop. FaultsOrCreates p items)
+    by (Ok e) h = (sym same ∙ h.0, λ bad. h.1 (⊎_elim (λ k. inl (subst (λ (e : End Globals). IsFault e.left) (sym same) k)) (λ k. inr k) bad))
+    by (Err s) h = ⊎_elim (λ k. inl (subst (λ (e : End Globals). IsFault e.left) same k)) (λ k. inr k) h

@@ -44,12 +44,12 @@ abbrev pub all_of : List (List Item) → List Item
 all_of chunks = flat_map (λ items. items) chunks
 
 -- Chunks of records, each of which has one, are merged: then the records in order end with the same globals, record state,
--- output and way of leaving. Or the merge stops: then the records in order end in a fault, or create an element of an array
--- that is no reader array.
+-- output and way of leaving. Or the merge stops; it does so exactly where the records in order end in a fault, or create an
+-- element of an array that is no reader array.
 abbrev pub ChunksLaw : Type 0
 ChunksLaw =
     (p : Phase) → MayRun p →
     (chunks : List (List Item)) (told : List Chunk) → All HasRecord chunks → Ran p p.state.nr chunks told →
     MatchResult (merge told (opening p))
-    (λ e. in_order p (all_of chunks) ≡ e)
+    (λ e. (in_order p (all_of chunks) ≡ e) × ¬ FaultsOrCreates p (all_of chunks))
     (λ stop. FaultsOrCreates p (all_of chunks))

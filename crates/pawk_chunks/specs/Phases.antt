@@ -12,7 +12,7 @@ use Rattle.pawk_meaning.specs.Records.{Left, through, next_file, exit, fault, cl
 use Rattle.pawk_meaning.specs.Runs.{records_from}
 use Rattle.pawk_meaning.specs.Allows.{AllowsMain}
 use Rattle.pawk_commute.specs.Traces.{Event, created, Traced, traced}
-use Rattle.pawk_commute.specs.Settings.{PermitsFor, role_of_cell, HasSlots, AreInOrder, FitsIfOk}
+use Rattle.pawk_commute.specs.Settings.{PermitsFor, role_of_cell, FitSlots, AreInOrder, FitsIfOk}
 
 -- A program and the roles of its globals, the texts of its regular expressions, the steps that each record may take, and
 -- what BEGIN left: the globals, the record state with RS taken, and the output.
@@ -25,11 +25,11 @@ pub record Phase : Type 0 where
   pub state : RecordState
   pub output : List ℕ
 
--- The records may be run in chunks: the roles permit what the program asks, the keys of each array rise, and an adder's
--- value, where it has a number, has one of 64 bits.
+-- The records may be run in chunks: the roles permit what the program asks and are no more than there are slots, the keys of
+-- each array rise, and an adder's value, where it has a number, has one of 64 bits.
 pub record MayRun (p : Phase) : Type 0 where
   pub allows : AllowsMain (PermitsFor p.code p.roles) p.code.functions p.code.rules
-  pub role_slots : HasSlots p.roles.scalars p.roles.arrays p.globals
+  pub role_slots : FitSlots p.roles.scalars p.roles.arrays p.globals
   pub in_order : AreInOrder p.globals
   pub numbers : (c : Cell) → role_of_cell p.roles c ≡ Adder → FitsIfOk (num_of (value_at c p.globals))
 

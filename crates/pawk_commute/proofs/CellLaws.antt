@@ -18,7 +18,7 @@ use Rattle.pawk_admit.specs.declared.role.Role.TheVariants.{Fixed}
 use Rattle.pawk_admit.specs.Roles.{Roles}
 use Rattle.pawk_meaning.specs.Lockstep.{Resource, variable_slot, array_slot, function_slot, last_match, rule_ranges, rest_of_file, resource_of_cell}
 use Rattle.pawk_commute.specs.Traces.{same_cell}
-use Rattle.pawk_commute.specs.Settings.{role_of, entry_at, HasSlots, AreInOrder}
+use Rattle.pawk_commute.specs.Settings.{role_of, entry_at, HasSlots, FitSlots, AreInOrder}
 
 -- there is a slot
 abbrev pub IsThere : Resource → Globals → Type 0
@@ -32,9 +32,9 @@ role_there [] n h = absurd (h refl)
 role_there (r ∷ roles) zero h = omega arith
 role_there (r ∷ roles) (suc n) h = let k = role_there roles n h in omega (arith, k)
 
-pub there_by_role : (roles : Roles) (fixed : Globals) → HasSlots roles.scalars roles.arrays fixed → (r : Resource) → (role_of roles r ≡ Fixed → ⊥) → IsThere r fixed
-there_by_role roles fixed h (variable_slot n) k = subst (λ j. n < j) h.0 (role_there roles.scalars n k)
-there_by_role roles fixed h (array_slot n) k = subst (λ j. n < j) h.1 (role_there roles.arrays n k)
+pub there_by_role : (roles : Roles) (fixed : Globals) → FitSlots roles.scalars roles.arrays fixed → (r : Resource) → (role_of roles r ≡ Fixed → ⊥) → IsThere r fixed
+there_by_role roles fixed h (variable_slot n) k = omega (arith, h.0, role_there roles.scalars n k)
+there_by_role roles fixed h (array_slot n) k = omega (arith, h.1, role_there roles.arrays n k)
 there_by_role roles fixed h (function_slot f) k = k refl
 there_by_role roles fixed h last_match k = k refl
 there_by_role roles fixed h rule_ranges k = k refl

@@ -1,5 +1,5 @@
 -- What a chunk of records and the store are run from, and what a program may do that runs in chunks.
-use Rattle.std.specs.Prelude.{◌≡◌, ℕ, ℤ, ◌⊎◌, List, length, Option, Some, None, Result, Ok, Err}
+use Rattle.std.specs.Prelude.{◌≡◌, ◌≤◌, ℕ, ℤ, ◌⊎◌, List, length, Option, Some, None, Result, Ok, Err}
 use Rattle.pawk_value.specs.Fault.{Fault}
 use Rattle.pawk_value.specs.Range.{FitsWord}
 use Rattle.pawk_value.specs.Value.{Val, Uninit}
@@ -76,6 +76,10 @@ Agrees Reader was now = Extends was now
 abbrev pub HasSlots : {X Y : Type 0} → List X → List Y → Globals → Type 0
 HasSlots scalars arrays g = (length scalars ≡ length g.scalars) × (length arrays ≡ length g.arrays)
 
+-- no more than there are slots
+abbrev pub FitSlots : {X Y : Type 0} → List X → List Y → Globals → Type 0
+FitSlots scalars arrays g = (length scalars ≤ length g.scalars) × (length arrays ≤ length g.arrays)
+
 -- the keys of each array rise
 abbrev pub AreInOrder : Globals → Type 0
 AreInOrder g = (n : ℕ) → Rise (array_at g n)
@@ -94,7 +98,7 @@ FitsIfOk (Err f) = Unit {0}
 
 -- what a chunk and the store may begin from
 pub record MayBegin (i : Setting) : Type 0 where
-  pub role_slots : HasSlots i.roles.scalars i.roles.arrays i.fixed
+  pub role_slots : FitSlots i.roles.scalars i.roles.arrays i.fixed
   pub in_order : AreInOrder i.fixed
   pub agrees : AgreesBut i.roles i.fixed i.start
   pub numbers : (c : Cell) → role_of_cell i.roles c ≡ Adder → FitsIfOk (num_of (value_at c i.start))

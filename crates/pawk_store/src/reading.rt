@@ -1,15 +1,24 @@
 //! What is read of globals without a change.
 
-ghost use Rattle.std.specs.Prelude.{◌≡◌, length, IfOk};
+ghost use Rattle.std.specs.Prelude.{◌≡◌, length, All, IfOk};
 ghost use Rattle.std.specs.Option.{option_map};
 ghost use Rattle.pawk_value.specs.Value.{lent_value};
-ghost use Rattle.pawk_array.specs.Entries.{found, keys};
+ghost use Rattle.pawk_array.specs.Entries.{found, keys, Rise};
 ghost use Rattle.pawk_store.specs.Globals.{array_at};
 
 use crate::globals::Globals;
 use pawk_array::{Array, Texts};
 use pawk_value::ValueRef;
 use std::alloc::AllocError;
+
+/// In each array the keys rise.
+fn order_of_arrays(arrays: &[Array])
+    ensures { All Rise arrays.now }
+{
+    for elements in arrays {
+        elements.order_law();
+    }
+}
 
 impl Globals {
     /// How many scalars there are.
@@ -24,6 +33,13 @@ impl Globals {
         ensures { result ≡ length self.now.arrays }
     {
         self.arrays.len()
+    }
+
+    /// In each array the keys rise: each stands once, in the order of the bytes. It changes nothing.
+    pub fn order_law(&self)
+        ensures { All Rise self.now.arrays }
+    {
+        order_of_arrays(self.arrays.as_slice());
     }
 
     /// The value of an element, if it is there. None is made.
