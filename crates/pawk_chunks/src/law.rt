@@ -47,9 +47,9 @@ impl Policy for OfChunk {
 
 /// Chunks of records that are run over the globals as BEGIN left them, and the merge of what they
 /// noted: where it succeeds, the records in order end with the merged globals, the record state and
-/// the way of leaving of the last chunk, and the outputs in order; it stops exactly where the records
-/// in order end in a fault or create an element of an array that is no reader array. A law, which
-/// takes and leaves nothing.
+/// the way of leaving of the last chunk, and the outputs in order; it stops exactly where the
+/// records in order end in a fault or create an element of an array that is no reader array. A law,
+/// which takes and leaves nothing.
 ///
 /// POSIX.1-2017, awk, "Overall Program Structure".
 pub fn chunks_merge()

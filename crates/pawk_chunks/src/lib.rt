@@ -1,5 +1,5 @@
-//! The law that chunks of records and the merge of what they noted give the records in order, and whether
-//! records may be run so.
+//! The law that chunks of records and the merge of what they noted give the records in order, and
+//! whether records may be run so.
 #![tactic(auto)]
 
 pub mod law;

@@ -19,15 +19,17 @@ fn fit_slots(roles: &Roles, globals: &Globals) -> bool
     roles.scalars.len() <= globals.scalar_count() && roles.arrays.len() <= globals.array_count()
 }
 
-/// Whether the records of an admissible program whose names have these roles may be run in chunks over
-/// these globals: they may, unless there is a role without a slot. The numbers of all scalars and of the
-/// elements of all adders are read; where there are such elements, their keys are copied. Memory may be refused.
+/// Whether the records of an admissible program whose names have these roles may be run in chunks
+/// over these globals: they may, unless there is a role without a slot. The numbers of all scalars
+/// and of the elements of all adders are read; the keys of those elements are copied, for which
+/// memory may be refused.
 ///
 /// POSIX.1-2017, awk, "Overall Program Structure".
 pub fn may_run(roles: &Roles, globals: &Globals) -> Result<bool, AllocError>
     ensures slots { IfOk result (λ may. IsTrue may
         ↔ FitSlots (roles_view roles.now).scalars (roles_view roles.now).arrays globals.now) }
-    ensures ready { IfOk result (λ may. IsTrue may → MayRunFrom (roles_view roles.now) globals.now) }
+    ensures ready { IfOk result (λ may.
+        IsTrue may → MayRunFrom (roles_view roles.now) globals.now) }
 {
     admission_allows();
     globals.order_law();

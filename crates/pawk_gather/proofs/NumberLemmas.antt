@@ -29,7 +29,7 @@ all_numbered rs file nr (f ∷ fs) =
     (subst (λ n. AreNumbered (nr + n) (items_from rs (file + 1) (nr + length records) fs)) (sym (length-file_items file f.name nr 0 records))
     (all_numbered rs (file + 1) (nr + length records) fs))
 
--- before the first of some records came as many as their file's walk has told
+-- where the first of some records of a file is numbered from here, as many came before it
 pub first_number : (file : ℕ) (name : List ℕ) (from nr fnr : ℕ) (records : List (List ℕ)) (later : List Item) → 0 < length (file_items file name from fnr records) → AreNumbered nr (file_items file name from fnr records ++ later) → from ≡ nr
 first_number file name from nr fnr [] later some h = absurd (omega (arith, some))
 first_number file name from nr fnr (r ∷ records) later some h = omega (arith, h.0)

@@ -51,14 +51,14 @@ fn parts_of<'a>(alloc: Global, chunks: Vec<ChunkResult<'a>>) -> Result<Vec<Part<
     chunks.into_iter().map(part_of).collect(alloc)
 }
 
-/// Merges the results of the chunks of a plan, in their order, into the globals that `BEGIN` left, which
-/// it left with this record state.
+/// Merges the results of the chunks of a plan, in their order, into the globals that `BEGIN` left,
+/// which it left with this record state.
 ///
-/// Chunk by chunk, what it noted is joined to the globals, its output is handed on behind those before,
-/// and its record state and way of leaving are those of the end; the one that ended in `exit` is the
-/// last. Else the stop that is met first: `Cell` where a cell does not take what a chunk noted of it,
-/// then `Fault` or `Clash` where that chunk ended so, `Clash` too where it left the rest of a file
-/// unread. After a stop nothing is said of the globals.
+/// Chunk by chunk, what it noted is joined to the globals, its output is handed on behind those
+/// before, and its record state and way of leaving are those of the end; the one that ended in
+/// `exit` is the last. Else the stop that is met first: `Cell` where a cell does not take what a
+/// chunk noted of it, then `Fault` or `Clash` where that chunk ended so, `Clash` too where it left
+/// the rest of a file unread. After a stop nothing is said of the globals.
 ///
 /// POSIX.1-2017, awk, "Overall Program Structure".
 pub fn merge_results<'a>(
