@@ -75,6 +75,7 @@ pub fn execute<W: World>(
 
 /// Runs a statement, after its step.
 #[cycle(evaluate)]
+#[inline(always)]
 pub(crate) fn statement<W: World>(
     context: Context<'_>,
     depth: u64,
