@@ -20,4 +20,7 @@ pub use outputs::{key_of_texts, print_alone, print_bytes, print_line, tick};
 pub use reading::read_place;
 pub use run::{Parameter, Run, give_back, parameters, take_buffer};
 pub use target::{Table, Target, element_target, give_back_target, table_of, variable_target};
-pub use writing::{add_to_place, change_place, put_text, set_match_place, write_place};
+pub use writing::{
+    add_to_field_key, add_to_number, add_to_place, change_place, put_text, set_match_place,
+    write_place,
+};

@@ -115,6 +115,12 @@ decreases-functions::call g l = rank (functions_of l.context) l.depth (0)
 abbrev pub decreases-statements::perform : goal.decreases-statements::perform
 decreases-statements::perform g l = rank (functions_of l.context) l.depth (simple_weight (simple_view l.s.now))
 
+abbrev pub decreases-statements::tally : goal.decreases-statements::tally
+decreases-statements::tally g l = rank (functions_of l.context) l.depth (place_weight (place_view l.to.now) + 1)
+
+abbrev pub decreases-statements::tally_element : goal.decreases-statements::tally_element
+decreases-statements::tally_element g l = rank (functions_of l.context) l.depth (row_weight (exprs (views l.keys.now)) + 2)
+
 abbrev pub decreases-statements::set : goal.decreases-statements::set
 decreases-statements::set g l = rank (functions_of l.context) l.depth (place_weight (place_view l.to.now) + weight (view l.e.now) + 1)
 
