@@ -26,10 +26,10 @@ abbrev mutual
   place_weight (to_field e) = weight e + 2
 
   pub numeric_weight : Numeric → ℕ
-  numeric_weight (arithmetic op a b) = weight a + weight b + 2
+  numeric_weight (arithmetic op a b) = weight a + weight b + 4
   numeric_weight (signed s a) = weight a + 2
-  numeric_weight (change op p e) = place_weight p + weight e + 2
-  numeric_weight (step s p) = place_weight p + 1
+  numeric_weight (change op p e) = place_weight p + weight e + 3
+  numeric_weight (step s p) = place_weight p + 2
   numeric_weight (function f) = function_weight f + 1
   numeric_weight (split e a by) = weight e + separator_weight by + 4
   numeric_weight (replace c p r to) = pattern_weight p + weight r + place_weight to + 4
@@ -37,7 +37,7 @@ abbrev mutual
 
   pub function_weight : NumericFunction → ℕ
   function_weight (length_of e) = weight e + 3
-  function_weight (index_of e f) = weight e + weight f + 3
+  function_weight (index_of e f) = weight e + weight f + 4
   function_weight (whole e) = weight e + 3
 
   pub test_weight : Test → ℕ
@@ -80,7 +80,7 @@ abbrev pub simple_weight : Simple → ℕ
 simple_weight (drop e) = weight e + 1
 simple_weight (set p e) = place_weight p + weight e + 2
 simple_weight (add s p e) = place_weight p + weight e + 2
-simple_weight (count s p) = place_weight p + 1
+simple_weight (count s p) = place_weight p + 2
 simple_weight (print calm es) = row_weight es + 2
 simple_weight (printf f calm es) = format_weight f + row_weight es + 3
 simple_weight (delete a ks) = row_weight ks + 2

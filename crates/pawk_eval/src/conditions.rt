@@ -12,6 +12,7 @@ ghost use Rattle.pawk_eval.specs.Contexts.{enter_of, eres_of};
 
 use crate::context::Context;
 use crate::expressions::{eval, text, truth};
+use crate::numbers::numeric;
 use crate::operands::operand;
 use crate::operations::{find_first, find_in_field};
 use crate::places::key;
@@ -19,12 +20,15 @@ use pawk_builtins::{Expression, related, same_truth};
 use pawk_code::expression::{Expr, Pattern, Test};
 use pawk_code::leaf::Leaf;
 use pawk_code::word::Relation;
-use pawk_places::{Run, compare_leaves, element_exists, give_back, table_of, take_buffer};
+use pawk_places::{
+    Run, compare_leaves, compare_number, element_exists, give_back, table_of, take_buffer,
+};
 use pawk_value::lend_held;
 use pawk_world::{Halt, World};
 
 /// What gives 1 or 0.
 #[cycle(evaluate)]
+#[inline(always)]
 pub(crate) fn test<W: World>(
     context: Context<'_>,
     depth: u64,
@@ -91,6 +95,12 @@ pub(crate) fn compare<W: World>(
     if let Expr::Leaf(x) = a {
         if let Expr::Leaf(y) = b {
             return compare_leaves(relation, x, y, world, run);
+        }
+    }
+    if let Expr::Leaf(y) = b {
+        if let Expr::Numeric(n) = a {
+            let x = numeric(context, depth, n, world, run)?;
+            return compare_number(relation, x, y, world, run);
         }
     }
     let mut left = take_buffer(run.alloc, &mut run.spare);

@@ -200,6 +200,7 @@ pub(crate) fn text_into<W: World>(
 
 /// The text of an expression.
 #[cycle(evaluate)]
+#[inline(always)]
 pub(crate) fn text<W: World>(
     context: Context<'_>,
     depth: u64,

@@ -2,16 +2,19 @@
 //!
 //! POSIX.1-2017, awk, "Expressions in awk" and "Functions".
 
-ghost use Rattle.std.specs.Prelude.{◌≤◌};
+ghost use Rattle.std.specs.Prelude.{◌≤◌, Ok};
 ghost use Rattle.pawk_code.specs.Expressions as codes;
 ghost use Rattle.pawk_code.specs.ExpressionViews.{
   fields_view,
   function_view,
   numeric_view,
   pattern_view,
+  place_view,
   view,
 };
-ghost use Rattle.pawk_meaning.specs.Meaning.{function_of, number_of};
+ghost use Rattle.pawk_world.specs.Sums.{arith_by};
+ghost use Rattle.pawk_meaning.specs.Parts.{as_number, bind, settle};
+ghost use Rattle.pawk_meaning.specs.Meaning.{eval, function_of, number_of};
 ghost use Rattle.pawk_places.specs.Moments.{moment};
 ghost use Rattle.pawk_places.specs.Yields.{Yields};
 ghost use Rattle.pawk_eval.specs.Contexts.{enter_of, eres_of, replacement_view};
@@ -19,15 +22,18 @@ ghost use Rattle.pawk_eval.specs.Contexts.{enter_of, eres_of, replacement_view};
 use crate::context::Context;
 use crate::expressions::{number, text};
 use crate::operands::{operand, separator};
-use crate::operations::{Replacement, combine, find_first, place_in, sign_op, substitute};
+use crate::operations::{Replacement, combine, find_first, find_in_field, sign_op, substitute};
 use crate::places::place;
 use pawk_builtins::{Expression, step_side, step_sign};
-use pawk_code::expression::{Expr, FieldsBy, Numeric, NumericFunction, Pattern};
+use pawk_code::expression::{Expr, FieldsBy, Numeric, NumericFunction, Pattern, Place};
+use pawk_code::leaf::Leaf;
 use pawk_code::name::Array;
+use pawk_code::word::Step;
 use pawk_places::{
-    Run, Separator, change_place, give_back, give_back_target, leaf_length, set_match_place,
-    split_into, table_of,
+    Run, Separator, arithmetic_behind, change_place, give_back, give_back_target, leaf_length,
+    place_in, place_in_leaf, set_match_place, split_into, table_of,
 };
+use pawk_value::{Op, arith};
 use pawk_world::{Halt, World, sum};
 
 /// What gives a number.
@@ -46,29 +52,13 @@ pub(crate) fn numeric<W: World>(
         (moment (W.state world.old) run.old)) result (moment (W.state world.new) run.new) }
 {
     match n {
-        Numeric::Arithmetic(op, a, b) => {
-            let x = number(context, depth, a, world, run)?;
-            let y = number(context, depth, b, world, run)?;
-            Ok(combine(*op, x, y)?)
-        }
+        Numeric::Arithmetic(op, a, b) => arithmetic(context, depth, *op, a, b, world, run),
         Numeric::Sign(sign, a) => {
             let x = number(context, depth, a, world, run)?;
             Ok(sum(*sign, Ok(0), x)?)
         }
-        Numeric::Change(op, to, a) => {
-            let target = place(context, depth, to, world, run)?;
-            let y = number(context, depth, a, world, run)?;
-            let numbers = change_place(*op, &target, y, world, run)?;
-            give_back_target(&mut run.spare, target);
-            Ok(numbers.1)
-        }
-        Numeric::Step(step, to) => {
-            let target = place(context, depth, to, world, run)?;
-            let op = sign_op(step_sign(*step));
-            let numbers = change_place(op, &target, Ok(1), world, run)?;
-            give_back_target(&mut run.spare, target);
-            Ok(step_side(*step, numbers.0, numbers.1))
-        }
+        Numeric::Change(op, to, a) => change(context, depth, *op, to, a, world, run),
+        Numeric::Step(step, to) => step_by(context, depth, *step, to, world, run),
         Numeric::Function(f) => function(context, depth, f, world, run),
         Numeric::Split(e, array, by) => split(context, depth, e, *array, by, world, run),
         Numeric::Replace(count, pattern, e, to) => {
@@ -82,6 +72,119 @@ pub(crate) fn numeric<W: World>(
         }
         Numeric::Find(e, pattern) => find(context, depth, e, pattern, world, run),
     }
+}
+
+/// The result of an operation. The number of a leaf is not laid down.
+#[cycle(evaluate)]
+#[inline(never)]
+pub(crate) fn arithmetic<W: World>(
+    context: Context<'_>,
+    depth: u64,
+    op: Op,
+    a: &Expr,
+    b: &Expr,
+    world: &mut W,
+    run: &mut Run<'_>,
+) -> Result<i64, Halt>
+    ensures left { run.new.left ≤ run.old.left }
+    ensures outcome { Yields (λ number. number)
+        (number_of W.calls (eres_of context.entry) (enter_of W.calls context.entry depth)
+        (codes.arithmetic op (view a.now) (view b.now))
+        (moment (W.state world.old) run.old)) result (moment (W.state world.new) run.new) }
+{
+    if let Expr::Numeric(n) = a {
+        let x = numeric(context, depth, n, world, run)?;
+        return arithmetic_with(context, depth, op, x, b, world, run);
+    }
+    let number_a = number(context, depth, a, world, run)?;
+    if let Ok(x) = number_a {
+        return arithmetic_with(context, depth, op, x, b, world, run);
+    }
+    let number_b = number(context, depth, b, world, run)?;
+    Ok(combine(op, number_a, number_b)?)
+}
+
+/// The result of an operation on a number and that of an expression.
+#[cycle(evaluate)]
+#[inline(never)]
+pub(crate) fn arithmetic_with<W: World>(
+    context: Context<'_>,
+    depth: u64,
+    op: Op,
+    x: i64,
+    b: &Expr,
+    world: &mut W,
+    run: &mut Run<'_>,
+) -> Result<i64, Halt>
+    ensures left { run.new.left ≤ run.old.left }
+    ensures outcome { Yields (λ number. number)
+        (bind (as_number (eval W.calls (eres_of context.entry)
+        (enter_of W.calls context.entry depth) (view b.now)))
+        (λ y. settle (arith_by op (Ok x) y))
+        (moment (W.state world.old) run.old)) result (moment (W.state world.new) run.new) }
+{
+    if let Expr::Leaf(y) = b {
+        return arithmetic_behind(op, x, y, world, run);
+    }
+    if let Expr::Numeric(n) = b {
+        let y = numeric(context, depth, n, world, run)?;
+        return Ok(arith(op, x, y)?);
+    }
+    let y = number(context, depth, b, world, run)?;
+    Ok(combine(op, Ok(x), y)?)
+}
+
+/// Changes a place by an operation, and gives its new number.
+///
+/// POSIX.1-2017, awk, "Expressions in awk" (assignment).
+#[cycle(evaluate)]
+#[inline(never)]
+pub(crate) fn change<W: World>(
+    context: Context<'_>,
+    depth: u64,
+    op: Op,
+    to: &Place,
+    e: &Expr,
+    world: &mut W,
+    run: &mut Run<'_>,
+) -> Result<i64, Halt>
+    ensures left { run.new.left ≤ run.old.left }
+    ensures outcome { Yields (λ number. number)
+        (number_of W.calls (eres_of context.entry) (enter_of W.calls context.entry depth)
+        (codes.change op (place_view to.now) (view e.now))
+        (moment (W.state world.old) run.old)) result (moment (W.state world.new) run.new) }
+{
+    let target = place(context, depth, to, world, run)?;
+    let y = number(context, depth, e, world, run)?;
+    let numbers = change_place(op, &target, y, world, run)?;
+    give_back_target(&mut run.spare, target);
+    Ok(numbers.1)
+}
+
+/// Changes a place by 1, and gives the old or the new number.
+///
+/// POSIX.1-2017, awk, "Expressions in awk" (increment and decrement).
+#[cycle(evaluate)]
+#[inline(never)]
+pub(crate) fn step_by<W: World>(
+    context: Context<'_>,
+    depth: u64,
+    step: Step,
+    to: &Place,
+    world: &mut W,
+    run: &mut Run<'_>,
+) -> Result<i64, Halt>
+    ensures left { run.new.left ≤ run.old.left }
+    ensures outcome { Yields (λ number. number)
+        (number_of W.calls (eres_of context.entry) (enter_of W.calls context.entry depth)
+        (codes.step step (place_view to.now))
+        (moment (W.state world.old) run.old)) result (moment (W.state world.new) run.new) }
+{
+    let target = place(context, depth, to, world, run)?;
+    let op = sign_op(step_sign(step));
+    let numbers = change_place(op, &target, Ok(1), world, run)?;
+    give_back_target(&mut run.spare, target);
+    Ok(step_side(step, numbers.0, numbers.1))
 }
 
 /// The number that a built-in function of values gives.
@@ -110,19 +213,44 @@ pub(crate) fn function<W: World>(
             give_back(&mut run.spare, text);
             Ok(length)
         }
-        NumericFunction::Index(e, sought) => {
-            let text_e = text(context, depth, e, world, run)?;
-            let text_sought = text(context, depth, sought, world, run)?;
-            let place = place_in(&text_e, &text_sought);
-            give_back(&mut run.spare, text_e);
-            give_back(&mut run.spare, text_sought);
-            Ok(place)
-        }
+        NumericFunction::Index(e, sought) => place_of(context, depth, e, sought, world, run),
         NumericFunction::Whole(e) => {
             let whole = number(context, depth, e, world, run)?;
             Ok(whole?)
         }
     }
+}
+
+/// The place where one text first stands in another. Nothing of two leaves is copied.
+///
+/// POSIX.1-2017, awk, "String Functions" (`index`).
+#[cycle(evaluate)]
+#[inline(never)]
+pub(crate) fn place_of<W: World>(
+    context: Context<'_>,
+    depth: u64,
+    e: &Expr,
+    sought: &Expr,
+    world: &mut W,
+    run: &mut Run<'_>,
+) -> Result<i64, Halt>
+    ensures left { run.new.left ≤ run.old.left }
+    ensures outcome { Yields (λ number. number)
+        (function_of W.calls (eres_of context.entry) (enter_of W.calls context.entry depth)
+        (codes.index_of (view e.now) (view sought.now))
+        (moment (W.state world.old) run.old)) result (moment (W.state world.new) run.new) }
+{
+    if let Expr::Leaf(x) = e {
+        if let Expr::Leaf(y) = sought {
+            return place_in_leaf(x, y, world, run);
+        }
+    }
+    let text_e = text(context, depth, e, world, run)?;
+    let text_sought = text(context, depth, sought, world, run)?;
+    let place = place_in(&text_e, &text_sought);
+    give_back(&mut run.spare, text_e);
+    give_back(&mut run.spare, text_sought);
+    Ok(place)
 }
 
 /// Splits a text into an array, and gives how many pieces there are.
@@ -204,6 +332,17 @@ pub(crate) fn find<W: World>(
         (codes.find (view e.now) (pattern_view pattern.now))
         (moment (W.state world.old) run.old)) result (moment (W.state world.new) run.new) }
 {
+    if let Pattern::Fixed(_) = pattern {
+        if let Expr::Leaf(Leaf::Field(n)) = e {
+            let expression = Expression {
+                eres: context.code.expressions.as_slice(),
+                pattern,
+                text: &[],
+            };
+            let found = find_in_field(expression, *n, world, run)?;
+            return set_match_place(found, world, run);
+        }
+    }
     let text = text(context, depth, e, world, run)?;
     let ere = operand(context, depth, pattern, world, run)?;
     let expression = Expression {

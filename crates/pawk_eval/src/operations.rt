@@ -11,14 +11,13 @@ ghost use Rattle.pawk_builtins.specs.ExpressionViews.{expression_of};
 ghost use Rattle.pawk_builtins.specs.FormatViews.{format_text};
 ghost use Rattle.pawk_meaning.specs.Parts.{as_text, bind, settle};
 ghost use Rattle.pawk_meaning.specs.Builtins.{formatted_text, found_by, replaced_by};
-ghost use Rattle.pawk_meaning.specs.Builtins as builtins;
 ghost use Rattle.pawk_meaning.specs.Meaning.{put_replaced, value_of_leaf};
 ghost use Rattle.pawk_meaning.specs.Places.{read_at, variable_aim, write_at};
 ghost use Rattle.pawk_places.specs.Moments.{aim_view, hold_of, moment, table_view};
 ghost use Rattle.pawk_places.specs.Yields.{Yields};
 
 use itoa::Buffer;
-use pawk_builtins::{Expression, Values, format_values, index};
+use pawk_builtins::{Expression, Values, format_values};
 use pawk_code::expression::{Expr, Format, Pattern, Place};
 use pawk_code::name::Variable;
 use pawk_code::word::{Count, Sign};
@@ -51,6 +50,7 @@ pub fn sign_op(sign: Sign) -> Op
 
 /// The result of an operation on two numbers. The fault of the left one's conversion comes first,
 /// then that of the right one's, then one of the operation.
+#[inline(always)]
 pub fn combine(op: Op, left: Result<i64, Fault>, right: Result<i64, Fault>) -> Result<i64, Fault>
     ensures { result ≡ arith_by op left right }
 {
@@ -68,16 +68,6 @@ pub fn array_parameter(table: Table) -> Parameter
         Table::Global(slot) => Parameter::Global(slot),
         Table::Local(number) => Parameter::Local(number),
     }
-}
-
-/// The place where one text first stands in another, in bytes counted from 1; 0 where it does not.
-///
-/// POSIX.1-2017, awk, "String Functions" (`index`).
-#[inline(never)]
-pub fn place_in(text: &[u8], sought: &[u8]) -> i64
-    ensures { result ≡ pos (builtins.index text.now sought.now) }
-{
-    index(text, sought) as i64
 }
 
 /// The value of these bytes.
@@ -142,6 +132,7 @@ pub fn find_in_field<W: World>(
     run: &mut Run<'_>,
 ) -> Result<Option<(usize, usize)>, Halt>
     ensures left { run.new.left ≤ run.old.left }
+    ensures within { IfOk result (λ found. IfSome found (λ m. (m.0 ≤ m.1) × (m.1 < 2 ^ 63))) }
     ensures outcome { Yields (λ found. found)
         (bind (as_text [] (value_of_leaf W.calls (field n))) (λ s.
         settle (found_by (expression_of expression.entry) s))

@@ -21,6 +21,7 @@ use pawk_world::{Halt, World};
 
 /// Where a place is.
 #[cycle(evaluate)]
+#[inline(always)]
 pub(crate) fn place<W: World>(
     context: Context<'_>,
     depth: u64,

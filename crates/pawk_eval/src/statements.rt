@@ -2,7 +2,7 @@
 //!
 //! POSIX.1-2017, awk, "Actions".
 
-ghost use Rattle.std.specs.Prelude.{◌≤◌, []};
+ghost use Rattle.std.specs.Prelude.{◌≤◌, [], Ok, pos};
 ghost use Rattle.pawk_code.specs.Expressions.{exprs};
 ghost use Rattle.pawk_code.specs.Expressions as codes;
 ghost use Rattle.pawk_code.specs.ExpressionViews.{format_view, place_view, view, views};
@@ -11,14 +11,17 @@ ghost use Rattle.pawk_code.specs.Statements as actions;
 ghost use Rattle.pawk_meaning.specs.Parts.{bind};
 ghost use Rattle.pawk_meaning.specs.Meaning.{
   act,
+  aim_of,
   exec,
   execs,
   leaves,
   print_text,
+  subscripts,
   text_of_textual,
   texts_of,
 };
 ghost use Rattle.pawk_meaning.specs.Meaning as spec;
+ghost use Rattle.pawk_meaning.specs.Places.{add_at, array_at, element_of};
 ghost use Rattle.pawk_places.specs.Moments.{moment};
 ghost use Rattle.pawk_places.specs.Yields.{Yields};
 ghost use Rattle.pawk_eval.specs.Contexts.{enter_of, eres_of};
@@ -28,16 +31,21 @@ use crate::context::Context;
 use crate::expressions::{eval, number, text, truth, value};
 use crate::flow::Flow;
 use crate::loops::{count, turns, turns_after, walk};
+use crate::numbers::numeric;
 use crate::operands::texts;
 use crate::places::{key, place};
 use crate::strings::formatted;
 use pawk_array::Texts;
 use pawk_builtins::{exit_status, step_sign};
 use pawk_code::expression::{Expr, Format, Place};
+use pawk_code::leaf::Leaf;
+use pawk_code::name::Array;
 use pawk_code::statement::{Leave, Simple, Statement};
+use pawk_code::word::Sign;
 use pawk_places::{
-    Run, add_to_place, clear_array, give_back, give_back_target, print_alone, print_bytes,
-    print_line, remove_element, table_of, take_buffer, tick, write_place,
+    Run, add_to_field_key, add_to_number, add_to_place, clear_array, element_target, give_back,
+    give_back_target, print_alone, print_bytes, print_line, remove_element, table_of, take_buffer,
+    tick, write_place,
 };
 use pawk_value::{Value, lend_held};
 use pawk_world::{Halt, World};
@@ -75,6 +83,7 @@ pub fn execute<W: World>(
 
 /// Runs a statement, after its step.
 #[cycle(evaluate)]
+#[inline(always)]
 pub(crate) fn statement<W: World>(
     context: Context<'_>,
     depth: u64,
@@ -135,12 +144,7 @@ pub(crate) fn perform<W: World>(
             give_back_target(&mut run.spare, target);
             Ok(())
         }
-        Simple::Count(step, to) => {
-            let target = place(context, depth, to, world, run)?;
-            add_to_place(step_sign(*step), &target, Ok(1), world, run)?;
-            give_back_target(&mut run.spare, target);
-            Ok(())
-        }
+        Simple::Count(step, to) => tally(context, depth, step_sign(*step), to, world, run),
         Simple::Print(operands) => print(context, depth, &operands.values, world, run),
         Simple::Printf(format, operands) => {
             printf(context, depth, format, &operands.values, world, run)
@@ -153,6 +157,66 @@ pub(crate) fn perform<W: World>(
         }
         Simple::Clear(array) => clear_array(table_of(&run.frame, *array), world, run),
     }
+}
+
+/// Adds 1 to a place, or takes it away.
+#[cycle(evaluate)]
+#[inline(never)]
+pub(crate) fn tally<W: World>(
+    context: Context<'_>,
+    depth: u64,
+    sign: Sign,
+    to: &Place,
+    world: &mut W,
+    run: &mut Run<'_>,
+) -> Result<(), Halt>
+    ensures left { run.new.left ≤ run.old.left }
+    ensures outcome { Yields (λ _. tt)
+        (bind (aim_of W.calls (eres_of context.entry) (enter_of W.calls context.entry depth)
+        (place_view to.now)) (λ aim. add_at W.calls sign aim (Ok (pos 1)))
+        (moment (W.state world.old) run.old)) result (moment (W.state world.new) run.new) }
+{
+    if let Place::Element(array, keys) = to {
+        return tally_element(context, depth, sign, *array, keys, world, run);
+    }
+    let target = place(context, depth, to, world, run)?;
+    add_to_place(sign, &target, Ok(1), world, run)?;
+    give_back_target(&mut run.spare, target);
+    Ok(())
+}
+
+/// Adds 1 to an element of an array, or takes it away. A key that is a field or a number is not
+/// copied.
+#[cycle(evaluate)]
+#[inline(never)]
+pub(crate) fn tally_element<W: World>(
+    context: Context<'_>,
+    depth: u64,
+    sign: Sign,
+    array: Array,
+    keys: &[Expr],
+    world: &mut W,
+    run: &mut Run<'_>,
+) -> Result<(), Halt>
+    ensures left { run.new.left ≤ run.old.left }
+    ensures outcome { Yields (λ _. tt)
+        (bind (subscripts W.calls (eres_of context.entry) (enter_of W.calls context.entry depth)
+        (exprs (views keys.now)))
+        (λ key m. add_at W.calls sign (element_of (array_at m.frame array) key) (Ok (pos 1)) m)
+        (moment (W.state world.old) run.old)) result (moment (W.state world.new) run.new) }
+{
+    if let [Expr::Leaf(Leaf::Field(n))] = keys {
+        return add_to_field_key(sign, table_of(&run.frame, array), *n, Ok(1), world, run);
+    }
+    if let [Expr::Numeric(n)] = keys {
+        let key = numeric(context, depth, n, world, run)?;
+        return add_to_number(sign, table_of(&run.frame, array), key, Ok(1), world, run);
+    }
+    let key = key(context, depth, keys, world, run)?;
+    let target = element_target(table_of(&run.frame, array), key);
+    add_to_place(sign, &target, Ok(1), world, run)?;
+    give_back_target(&mut run.spare, target);
+    Ok(())
 }
 
 /// Assigns the value of an expression to a place.

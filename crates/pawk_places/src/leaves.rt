@@ -1,8 +1,9 @@
 //! Leaves of expressions: what is read without an effect and without a fault.
 
-ghost use Rattle.std.specs.Prelude.{◌≡◌, ◌≤◌, ◌++◌, [], OnOk, length, pos};
+ghost use Rattle.std.specs.Prelude.{◌≡◌, ◌≤◌, ◌++◌, [], IfSome, Ok, OnOk, length, pos};
+ghost use Rattle.pawk_world.specs.Sums.{arith_by};
 ghost use Rattle.pawk_value.specs.Held.{added, held_value};
-ghost use Rattle.pawk_value.specs.Value.{lent_value};
+ghost use Rattle.pawk_value.specs.Value.{Num, lent_value};
 ghost use Rattle.pawk_code.specs.ExpressionViews.{leaf_view};
 ghost use Rattle.pawk_store.specs.StateViews.{state_of};
 ghost use Rattle.pawk_meaning.specs.Parts.{as_number, as_text, as_truth, bind, give, local_at, settle};
@@ -16,18 +17,20 @@ ghost use Rattle.pawk_places.specs.Yields.{Yields};
 
 use crate::run::{Parameter, Run};
 use itoa::Buffer;
-use pawk_code::leaf::Leaf;
+use pawk_builtins::index;
+use pawk_code::leaf::{Leaf, Special};
 use pawk_code::word::Relation;
 use pawk_store::RecordState;
 use pawk_value::{
-    Fault, Held, ValueRef, compare_lent, hold, lend, push_text_lent, text_in, to_num_lent,
-    truth_lent,
+    Fault, Held, Op, ValueRef, arith, compare_lent, hold, lend, push_text_lent, text_in,
+    to_num_lent, truth_lent,
 };
 use pawk_world::{Halt, World};
 use std::alloc::AllocError;
 use std::cmp::Ordering;
 
 /// Makes a leaf ready to be lent. The state stays.
+#[inline(always)]
 fn prepare_leaf(leaf: &Leaf, state: &mut RecordState<'_>) -> Result<(), AllocError>
     ensures same { state_of state.new ≡ state_of state.old }
     ensures more { state.old.line.found ≤ state.new.line.found }
@@ -41,6 +44,7 @@ fn prepare_leaf(leaf: &Leaf, state: &mut RecordState<'_>) -> Result<(), AllocErr
 }
 
 /// The value of a leaf, which is lent.
+#[inline(always)]
 fn lend_leaf<'a, W: World>(leaf: &'a Leaf, world: &'a W, run: &'a Run<'_>) -> ValueRef<'a>
     requires { IsReady leaf.now run.now.state }
     ensures { lent_value result ≡ meaning.leaf_value W.calls (leaf_view leaf.now)
@@ -58,12 +62,40 @@ fn lend_leaf<'a, W: World>(leaf: &'a Leaf, world: &'a W, run: &'a Run<'_>) -> Va
 
 /// The value of a parameter, which is lent; none where there is no such parameter, or it is an
 /// array.
+#[inline(always)]
 pub(crate) fn lend_parameter(frame: &[Parameter], number: usize) -> ValueRef<'_>
     ensures { lent_value result ≡ local_at (holds_of frame.now) number }
 {
     match frame.get(number) {
         Some(Parameter::Value(value)) => lend(value),
         _ => ValueRef::Uninit,
+    }
+}
+
+/// The number that a value is, if it is one.
+#[inline(always)]
+fn number_in(value: ValueRef<'_>) -> Option<i64>
+    ensures { IfSome result (λ number. lent_value value.entry ≡ Num number) }
+{
+    match value {
+        ValueRef::Num(number) => Some(number),
+        _ => None,
+    }
+}
+
+/// The number that a leaf is, if it is one for which nothing has to be looked for.
+#[inline(always)]
+fn plain_number<W: World>(leaf: &Leaf, world: &W, run: &Run<'_>) -> Option<i64>
+    ensures { IfSome result (λ number. meaning.leaf_value W.calls (leaf_view leaf.now)
+        (moment (W.state world.now) run.now) ≡ Num number) }
+{
+    match leaf {
+        Leaf::Number(number) => Some(*number),
+        Leaf::Global(slot) => number_in(world.scalar(*slot)),
+        Leaf::Local(number) => number_in(lend_parameter(run.frame.as_slice(), *number)),
+        Leaf::Special(Special::Nr) => i64::try_from(run.state.nr).ok(),
+        Leaf::Special(Special::Fnr) => i64::try_from(run.state.fnr).ok(),
+        _ => None,
     }
 }
 
@@ -82,6 +114,7 @@ fn holds_for(relation: Relation, order: Ordering) -> bool
 }
 
 /// The number of a leaf, or the fault of its conversion.
+#[inline(always)]
 pub fn leaf_number<W: World>(
     leaf: &Leaf,
     world: &W,
@@ -92,11 +125,15 @@ pub fn leaf_number<W: World>(
         (as_number (value_of_leaf W.calls (leaf_view leaf.now))
         (moment (W.state world.now) run.old)) result (moment (W.state world.now) run.new) }
 {
+    if let Some(number) = plain_number(leaf, world, run) {
+        return Ok(Ok(number));
+    }
     prepare_leaf(leaf, &mut run.state)?;
     Ok(to_num_lent(lend_leaf(leaf, world, run)))
 }
 
 /// The truth of a leaf, or the fault of its conversion.
+#[inline(always)]
 pub fn leaf_truth<W: World>(
     leaf: &Leaf,
     world: &W,
@@ -163,6 +200,7 @@ pub fn leaf_value<W: World>(
 /// How two leaves compare. Nothing is copied.
 ///
 /// POSIX.1-2017, awk, "Expressions in awk".
+#[inline(always)]
 pub fn compare_leaves<W: World>(
     relation: Relation,
     left: &Leaf,
@@ -176,8 +214,93 @@ pub fn compare_leaves<W: World>(
         bind (value_of_leaf W.calls (leaf_view right.now)) (λ y. settle (related relation x y)))
         (moment (W.state world.now) run.old)) result (moment (W.state world.now) run.new) }
 {
+    if let Some(x) = plain_number(left, world, run) {
+        return compare_number(relation, x, right, world, run);
+    }
     prepare_leaf(left, &mut run.state)?;
     prepare_leaf(right, &mut run.state)?;
     let order = compare_lent(lend_leaf(left, world, run), lend_leaf(right, world, run))?;
     Ok(holds_for(relation, order))
+}
+
+/// How a number and a leaf compare. Nothing is copied.
+///
+/// POSIX.1-2017, awk, "Expressions in awk".
+#[inline(always)]
+pub fn compare_number<W: World>(
+    relation: Relation,
+    x: i64,
+    right: &Leaf,
+    world: &W,
+    run: &mut Run<'_>,
+) -> Result<bool, Halt>
+    ensures left { run.new.left ≤ run.old.left }
+    ensures outcome { Yields (λ holds. holds)
+        (bind (value_of_leaf W.calls (leaf_view right.now)) (λ y. settle (related relation (Num x) y))
+        (moment (W.state world.now) run.old)) result (moment (W.state world.now) run.new) }
+{
+    if let Some(y) = plain_number(right, world, run) {
+        return Ok(holds_for(relation, x.cmp(&y)));
+    }
+    prepare_leaf(right, &mut run.state)?;
+    let order = compare_lent(ValueRef::Num(x), lend_leaf(right, world, run))?;
+    Ok(holds_for(relation, order))
+}
+
+/// The result of an operation on a number and the number of a leaf.
+#[inline(always)]
+pub fn arithmetic_behind<W: World>(
+    op: Op,
+    x: i64,
+    right: &Leaf,
+    world: &W,
+    run: &mut Run<'_>,
+) -> Result<i64, Halt>
+    ensures left { run.new.left ≤ run.old.left }
+    ensures outcome { Yields (λ number. number)
+        (bind (as_number (value_of_leaf W.calls (leaf_view right.now)))
+        (λ y. settle (arith_by op (Ok x) y))
+        (moment (W.state world.now) run.old)) result (moment (W.state world.now) run.new) }
+{
+    if let Some(y) = plain_number(right, world, run) {
+        return Ok(arith(op, x, y)?);
+    }
+    prepare_leaf(right, &mut run.state)?;
+    let y = to_num_lent(lend_leaf(right, world, run))?;
+    Ok(arith(op, x, y)?)
+}
+
+/// The place where one text first stands in another, in bytes counted from 1; 0 where it does not.
+///
+/// POSIX.1-2017, awk, "String Functions" (`index`).
+#[inline(never)]
+pub fn place_in(text: &[u8], sought: &[u8]) -> i64
+    ensures { result ≡ pos (builtins.index text.now sought.now) }
+{
+    index(text, sought) as i64
+}
+
+/// The place where the text of one leaf first stands in that of another, in bytes counted from 1; 0
+/// where it does not. Nothing is copied.
+///
+/// POSIX.1-2017, awk, "String Functions" (`index`).
+pub fn place_in_leaf<W: World>(
+    leaf: &Leaf,
+    sought: &Leaf,
+    world: &W,
+    run: &mut Run<'_>,
+) -> Result<i64, Halt>
+    ensures left { run.new.left ≤ run.old.left }
+    ensures outcome { Yields (λ number. number)
+        (bind (as_text [] (value_of_leaf W.calls (leaf_view leaf.now))) (λ s.
+        bind (as_text [] (value_of_leaf W.calls (leaf_view sought.now))) (λ t.
+        give (pos (builtins.index s t))))
+        (moment (W.state world.now) run.old)) result (moment (W.state world.now) run.new) }
+{
+    prepare_leaf(leaf, &mut run.state)?;
+    prepare_leaf(sought, &mut run.state)?;
+    let mut buffer = Buffer::new();
+    let mut other = Buffer::new();
+    let text = text_in(lend_leaf(leaf, world, run), &mut buffer);
+    Ok(place_in(text, text_in(lend_leaf(sought, world, run), &mut other)))
 }

@@ -12,9 +12,15 @@ mod target;
 mod writing;
 
 pub use arrays::{Separator, array_keys, clear_array, element_exists, remove_element, split_into};
-pub use leaves::{compare_leaves, leaf_length, leaf_number, leaf_text, leaf_truth, leaf_value};
+pub use leaves::{
+    arithmetic_behind, compare_leaves, compare_number, leaf_length, leaf_number, leaf_text,
+    leaf_truth, leaf_value, place_in, place_in_leaf,
+};
 pub use outputs::{key_of_texts, print_alone, print_bytes, print_line, tick};
 pub use reading::read_place;
 pub use run::{Parameter, Run, give_back, parameters, take_buffer};
 pub use target::{Table, Target, element_target, give_back_target, table_of, variable_target};
-pub use writing::{add_to_place, change_place, put_text, set_match_place, write_place};
+pub use writing::{
+    add_to_field_key, add_to_number, add_to_place, change_place, put_text, set_match_place,
+    write_place,
+};

@@ -16,6 +16,7 @@ use pawk_world::{Halt, World};
 /// One step of the budget.
 ///
 /// Fault `steps` where none is left.
+#[inline(always)]
 pub fn tick<W: World>(world: &W, run: &mut Run<'_>) -> Result<(), Halt>
     ensures left { run.new.left ≤ run.old.left }
     ensures less { OnOk result (run.new.left < run.old.left) }

@@ -40,7 +40,7 @@ pub struct Run<'a> {
 }
 
 /// An empty buffer, if there is one that was given back.
-#[inline]
+#[inline(always)]
 pub fn take_buffer(alloc: Global, spare: &mut Vec<Vec<u8>>) -> Vec<u8>
     ensures { result.items ≡ [] }
 {
@@ -55,7 +55,7 @@ pub fn take_buffer(alloc: Global, spare: &mut Vec<Vec<u8>>) -> Vec<u8>
 }
 
 /// Gives a buffer back.
-#[inline]
+#[inline(always)]
 pub fn give_back(spare: &mut Vec<Vec<u8>>, buffer: Vec<u8>) {
     if spare.len() < 64 {
         let _ = spare.push(buffer);

@@ -35,6 +35,7 @@ pub enum Table {
 }
 
 /// The array that a name stands for, among these parameters.
+#[inline(always)]
 pub fn table_of(frame: &[Parameter], array: Array) -> Table
     ensures { table_view result ≡ array_at (holds_of frame.now) array }
 {
@@ -49,6 +50,7 @@ pub fn table_of(frame: &[Parameter], array: Array) -> Table
 }
 
 /// Where the element of an array is.
+#[inline(always)]
 pub fn element_target(table: Table, key: Vec<u8>) -> Target
     ensures { aim_view result ≡ element_of (table_view table) key.items }
 {
@@ -60,7 +62,7 @@ pub fn element_target(table: Table, key: Vec<u8>) -> Target
 }
 
 /// Gives the key of a target back.
-#[inline]
+#[inline(always)]
 pub fn give_back_target(spare: &mut Vec<Vec<u8>>, target: Target) {
     match target {
         Target::Element(_, key) => give_back(spare, key),

@@ -1,20 +1,23 @@
 //! How places are changed.
 
-ghost use Rattle.std.specs.Prelude.{◌≡◌, ◌≤◌, ◌<◌, ◌^◌, IfSome, OnOk, slice_set};
-ghost use Rattle.pawk_value.specs.Value.{lent_value};
+ghost use Rattle.std.specs.Prelude.{◌≡◌, ◌≤◌, ◌<◌, ◌^◌, [], IfSome, OnOk, slice_set};
+ghost use Rattle.pawk_value.specs.Value.{Num, lent_value};
+ghost use Rattle.pawk_value.specs.Conversion.{text_of};
+ghost use Rattle.pawk_code.specs.Expressions.{field};
 ghost use Rattle.pawk_meaning.specs.Builtins.{Replaced};
-ghost use Rattle.pawk_meaning.specs.Meaning.{place_of_match, put_replaced, set_match};
-ghost use Rattle.pawk_meaning.specs.Places.{add_at, change_at, field_value, write_at};
+ghost use Rattle.pawk_meaning.specs.Meaning.{place_of_match, put_replaced, set_match, value_of_leaf};
+ghost use Rattle.pawk_meaning.specs.Places.{add_at, change_at, element_of, field_value, write_at};
+ghost use Rattle.pawk_meaning.specs.Parts.{as_text, bind};
 ghost use Rattle.pawk_meaning.specs.Parts as parts;
 ghost use Rattle.pawk_world.specs.Sums as sums;
-ghost use Rattle.pawk_places.specs.Moments.{aim_view, hold_of, holds_of, moment};
+ghost use Rattle.pawk_places.specs.Moments.{aim_view, hold_of, holds_of, moment, table_view};
 ghost use Rattle.pawk_places.specs.Yields.{Yields};
 
 use crate::locals;
 use crate::reading::old_number;
-use crate::run::{Parameter, Run};
+use crate::run::{Parameter, Run, take_buffer};
 use crate::scalars::{FS, OFS, scalar_text};
-use crate::target::Target;
+use crate::target::{Table, Target, element_target};
 use itoa::Buffer;
 use pawk_code::word::Sign;
 use pawk_value::{Fault, LENGTH_LIMIT, Op, ValueRef, arith, assign, copy_lent, text_in};
@@ -181,6 +184,81 @@ pub fn add_to_place<W: World>(
             Ok(())
         }
     }
+}
+
+/// Adds an amount to the element of an array with this key, or takes it away, as [`add_to_place`] does.
+fn add_to_key<W: World>(
+    sign: Sign,
+    table: Table,
+    key: &[u8],
+    amount: Result<i64, Fault>,
+    world: &mut W,
+    run: &mut Run<'_>,
+) -> Result<(), Halt>
+    ensures left { run.new.left ≤ run.old.left }
+    ensures outcome { Yields (λ _. tt)
+        (add_at W.calls sign (element_of (table_view table) key.now) amount
+        (moment (W.state world.old) run.old)) result (moment (W.state world.new) run.new) }
+{
+    if let Table::Global(slot) = table {
+        return world.add_element(slot, key, sign, amount);
+    }
+    let mut bytes = take_buffer(run.alloc, &mut run.spare);
+    bytes.extend_from_slice(key)?;
+    add_to_place(sign, &element_target(table, bytes), amount, world, run)
+}
+
+/// Adds an amount to the element of an array whose key is the text of a number.
+#[inline(never)]
+pub fn add_to_number<W: World>(
+    sign: Sign,
+    table: Table,
+    key: i64,
+    amount: Result<i64, Fault>,
+    world: &mut W,
+    run: &mut Run<'_>,
+) -> Result<(), Halt>
+    ensures left { run.new.left ≤ run.old.left }
+    ensures outcome { Yields (λ _. tt)
+        (add_at W.calls sign (element_of (table_view table) (text_of (Num key))) amount
+        (moment (W.state world.old) run.old)) result (moment (W.state world.new) run.new) }
+{
+    let mut buffer = Buffer::new();
+    add_to_key(
+        sign,
+        table,
+        buffer.format(key).as_bytes(),
+        amount,
+        world,
+        run,
+    )
+}
+
+/// Adds an amount to the element of an array whose key is the text of a field, which is not copied.
+#[inline(never)]
+pub fn add_to_field_key<W: World>(
+    sign: Sign,
+    table: Table,
+    n: usize,
+    amount: Result<i64, Fault>,
+    world: &mut W,
+    run: &mut Run<'_>,
+) -> Result<(), Halt>
+    ensures left { run.new.left ≤ run.old.left }
+    ensures outcome { Yields (λ _. tt)
+        (bind (as_text [] (value_of_leaf W.calls (field n)))
+        (λ key. add_at W.calls sign (element_of (table_view table) key) amount)
+        (moment (W.state world.old) run.old)) result (moment (W.state world.new) run.new) }
+{
+    run.state.line.prepare(n)?;
+    let mut buffer = Buffer::new();
+    if let Table::Global(slot) = table {
+        let key = text_in(run.state.line.field(n), &mut buffer);
+        return world.add_element(slot, key, sign, amount);
+    }
+    let mut bytes = take_buffer(run.alloc, &mut run.spare);
+    bytes.extend_from_slice(text_in(run.state.line.field(n), &mut buffer))?;
+    add_to_place(sign, &element_target(table, bytes), amount, world, run)
 }
 
 /// Assigns to a place the text in which so many matches were replaced, if there are some, and gives how

@@ -57,6 +57,17 @@ places::place-returns-in_ok-key-in-Element-clause-outcome g t c =
     let is = element_shape c.args.p.now c.in-Element.array c.in-Element.keys c.deref.result.now c.in-Element.is c.deref.ensures.value in
     rw (is, c.in_ok-key-in-Element.ensures.outcome) (grind (arith, common_steps))
 
+pub statements::tally-tally_element-requires : goal.statements::tally-tally_element-requires
+statements::tally-tally_element-requires g t c =
+    let is = element_shape c.args.to.now c.in-Element.array c.in-Element.keys c.deref.result.now c.in-Element.is c.deref.ensures.value in
+    let falls : row_weight (exprs (views c.deref.result.now)) + 2 < place_weight (place_view c.args.to.now) + 1 = rw is (omega arith) in
+    search rules
+
+pub statements::tally-returns-in-Element-clause-outcome : goal.statements::tally-returns-in-Element-clause-outcome
+statements::tally-returns-in-Element-clause-outcome g t c =
+    let is = element_shape c.args.to.now c.in-Element.array c.in-Element.keys c.deref.result.now c.in-Element.is c.deref.ensures.value in
+    rw is (grind (arith, common_steps))
+
 pub conditions::test-key-requires : goal.conditions::test-key-requires
 conditions::test-key-requires g t c =
     let is = member_shape c.args.t.now c.in-In.array c.in-In.keys c.deref-in-In.result.now c.in-In.is c.deref-in-In.ensures.value in

@@ -34,6 +34,21 @@ decreases-expressions::value g l = rank (functions_of l.context) l.depth (weight
 abbrev pub decreases-numbers::numeric : goal.decreases-numbers::numeric
 decreases-numbers::numeric g l = rank (functions_of l.context) l.depth (numeric_weight (numeric_view l.n.now))
 
+abbrev pub decreases-numbers::arithmetic : goal.decreases-numbers::arithmetic
+decreases-numbers::arithmetic g l = rank (functions_of l.context) l.depth (weight (view l.a.now) + weight (view l.b.now) + 3)
+
+abbrev pub decreases-numbers::arithmetic_with : goal.decreases-numbers::arithmetic_with
+decreases-numbers::arithmetic_with g l = rank (functions_of l.context) l.depth (weight (view l.b.now) + 2)
+
+abbrev pub decreases-numbers::change : goal.decreases-numbers::change
+decreases-numbers::change g l = rank (functions_of l.context) l.depth (place_weight (place_view l.to.now) + weight (view l.e.now) + 2)
+
+abbrev pub decreases-numbers::step_by : goal.decreases-numbers::step_by
+decreases-numbers::step_by g l = rank (functions_of l.context) l.depth (place_weight (place_view l.to.now) + 1)
+
+abbrev pub decreases-numbers::place_of : goal.decreases-numbers::place_of
+decreases-numbers::place_of g l = rank (functions_of l.context) l.depth (weight (view l.e.now) + weight (view l.sought.now) + 3)
+
 abbrev pub decreases-conditions::test : goal.decreases-conditions::test
 decreases-conditions::test g l = rank (functions_of l.context) l.depth (test_weight (test_view l.t.now))
 
@@ -99,6 +114,12 @@ decreases-functions::call g l = rank (functions_of l.context) l.depth (0)
 
 abbrev pub decreases-statements::perform : goal.decreases-statements::perform
 decreases-statements::perform g l = rank (functions_of l.context) l.depth (simple_weight (simple_view l.s.now))
+
+abbrev pub decreases-statements::tally : goal.decreases-statements::tally
+decreases-statements::tally g l = rank (functions_of l.context) l.depth (place_weight (place_view l.to.now) + 1)
+
+abbrev pub decreases-statements::tally_element : goal.decreases-statements::tally_element
+decreases-statements::tally_element g l = rank (functions_of l.context) l.depth (row_weight (exprs (views l.keys.now)) + 2)
 
 abbrev pub decreases-statements::set : goal.decreases-statements::set
 decreases-statements::set g l = rank (functions_of l.context) l.depth (place_weight (place_view l.to.now) + weight (view l.e.now) + 1)

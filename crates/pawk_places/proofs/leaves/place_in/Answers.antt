@@ -1,6 +1,6 @@
 use Rattle.std.proofs.Common.{ℕ, suc, ◌+◌, ◌<◌, List, [], ◌∷◌, length, arith, rules, if◌then◌else◌, Bool, true, false}
 use Rattle.pawk_meaning.specs.Builtins.{index, index_from, begins_with}
-use Rattle.pawk_eval.proofs.operations.place_in.Goals as goal
+use Rattle.pawk_places.proofs.leaves.place_in.Goals as goal
 
 -- the place is one of the text
 chosen_within : (here : Bool) (place later most : ℕ) → place < most → later < most → (if here then place else later) < most
