@@ -1,16 +1,16 @@
 -- What the workers' shifts hold, all together.
-use Rattle.std.proofs.Common.{◌≡◌, ℕ, ◌<◌, ◌≤◌, Bool, true, false, cond, nat_lt, List, [], ◌∷◌, ◌++◌, length, get_or, map, filter, All, Contains, IsOk, Ok, Err, Result, IfOk, sum_by, IsPermutation, true≢false, refl, sym, ap, ◌∙◌, subst, ⊎_elim, arith}
+use Rattle.std.proofs.Common.{◌≡◌, ℕ, ◌<◌, ◌≤◌, Bool, true, false, cond, nat_lt, List, [], ◌∷◌, ◌++◌, length, map, filter, All, Contains, IsOk, Ok, Err, Result, IfOk, sum_by, IsPermutation, true≢false, refl, sym, ap, ◌∙◌, subst, ⊎_elim, arith}
 use Rattle.std.specs.List.{flat_map, range_with_len}
 use Rattle.std.specs.declared.vec.Vec.{Vec}
 use Rattle.std.specs.declared.alloc.Global.{Global}
 use Rattle.std.specs.declared.alloc.AllocError.{AllocError}
 use Rattle.std.proofs.lemmas.Bool.Decides.{nat_tests}
 use Rattle.std.proofs.lemmas.List.{map-append}
-use Rattle.std.proofs.lemmas.List.Elements.{All-head, All-tail, All-nil, All-cons, All-append, All-contains, All-filter, filter_passes, Contains-append_left, Contains-append_right, Contains-append_cases}
+use Rattle.std.proofs.lemmas.List.Elements.{All-head, All-tail, All-nil, All-cons, All-append, All-contains, Contains-append_left, Contains-append_right, Contains-append_cases}
 use Rattle.std.proofs.lemmas.List.Sorted.{Contains-permutation}
 use Rattle.std.proofs.lemmas.List.Sums.{sum_by-append, sum_by-cons, sum_by_push}
 use Rattle.pawk_board.proofs.Cuts.{all_front, all_back}
-use Rattle.pawk_board.proofs.Histories.{all_drawn_below, drawn_weigh, saw_above, told_above, least_told}
+use Rattle.pawk_board.proofs.Histories.{all_drawn_below, drawn_weigh, saw_above, least_told}
 use Rattle.pawk_board.proofs.Keyed.{kept_below, cut_filter, contains_filter}
 use Rattle.pawk_board.proofs.Weights.{Weighs, cut_at, cut_drops}
 use Rattle.pawk_board.specs.declared.hand.Hand.{Hand}

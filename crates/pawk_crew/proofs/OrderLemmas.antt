@@ -1,9 +1,10 @@
 -- The results of the first chunks, in order.
-use Rattle.std.proofs.Common.{◌≡◌, ℕ, ◌<◌, ◌≤◌, List, [], ◌∷◌, length, map, get_or, zero, suc, true, true≢false, All, subst, ap, sym, ◌∙◌, arith}
-use Rattle.std.specs.List.{slice_get, range_with_len}
+use Rattle.std.proofs.Common.{◌≡◌, ℕ, ◌<◌, ◌≤◌, List, [], ◌∷◌, length, map, get_or, zero, suc, true, true≢false, All, Option, subst, ap, sym, ◌∙◌, arith}
+use Rattle.std.specs.List.{range_with_len}
 use Rattle.std.specs.Option.{IfSome}
 use Rattle.std.proofs.lemmas.Bool.Decides.{nat_tests}
 use Rattle.std.proofs.lemmas.List.{get_or-map, length-map}
+use Rattle.std.proofs.lemmas.Option.{slice_get-get_or}
 use Rattle.std.proofs.lemmas.List.FromFn.{length-range_with_len, get_or-range_with_len}
 use Rattle.pawk_input.specs.declared.cutting.Chunk.{Chunk}
 use Rattle.pawk_frozen.specs.Frozens.{Frozen}
@@ -22,12 +23,6 @@ no_chunk = record { file = 0; range = record { start = 0; end = 0 }; nr = 0; fnr
 
 abbrev bare : List Numbered → List ChunkResult
 bare rs = map (λ (r : Numbered). r.1) rs
-
--- what holds of the item at an index
-at_index : {X : Type 0} (P : X → Type 0) (xs : List X) (i : ℕ) (d : X) → i < length xs → IfSome (slice_get xs i) P → P (get_or xs i d)
-at_index P [] i d h p = absurd (omega arith)
-at_index P (x ∷ xs) zero d h p = p
-at_index P (x ∷ xs) (suc i) d h p = at_index P xs i d (omega arith) p
 
 -- the chunks that count are counted down
 limit_some : (stop n : ℕ) → 0 < limit_of stop (suc n)
@@ -83,4 +78,4 @@ numbered_results end plan stop rs order run last =
     one : (i : ℕ) (r : Numbered) → r.0 ≡ i → IsResultIn end plan r → Leaves (end (get_or plan i no_chunk)) r.1
     one i r e m =
         let P : Chunk → Type 0 = λ c. Leaves (end c) r.1 in
-        subst (λ (j : ℕ). P (get_or plan j no_chunk)) e (at_index P plan r.0 no_chunk m.0 m.1)
+        subst (λ (j : ℕ). P (get_or plan j no_chunk)) e (subst (λ (o : Option Chunk). IfSome o P) (slice_get-get_or plan r.0 no_chunk m.0) m.1)

@@ -81,8 +81,15 @@ fn without_numbers<'a>(
     Ok(bare)
 }
 
-/// The results of the chunks, in order, up to the first that is not left through, by so many workers, or fewer where
-/// there are fewer chunks.
+/// Runs the chunks of a plan, each over what the opening holds, in so many threads, or fewer where there are fewer chunks;
+/// gives their results in the order of the chunks, up to the first that is not left through. The gate is called round each
+/// chunk that is run, also of those past that one.
+///
+/// The plan is of the input by its `RS`, of at most one byte, and of at most 1,048,576 chunks; there are 1 to 64 workers.
+///
+/// `Memory` comes where memory was refused, and `Thread` where a worker could not be started.
+///
+/// POSIX.1-2017, awk, "Overall Program Structure".
 pub fn run_chunks<'a, G: Gate + Sync, R: Threads + Wait>(
     rt: &R,
     alloc: Global,
