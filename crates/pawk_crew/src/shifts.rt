@@ -131,8 +131,28 @@ fn in_threads<S: Send + Drop, L: Labour<S> + Copy + Sync, G: Gate + Sync, R: Thr
     )
 }
 
-/// A worker in a thread of its own for each seat. Each has ended when this returns, also where one could not be started,
-/// which is told as `Thread`. `Memory` comes where memory was refused before a thread was started.
+/// The work of each seat on this thread, one seat after the other.
+fn work_here<S: Drop, L: Labour<S>, G: Gate>(
+    alloc: Global,
+    task: &L,
+    seats: Vec<BoardSeat>,
+    gate: &G,
+) -> Result<Vec<S>, CrewRefusal>
+    requires ready { L.IsReady task.now }
+    requires seats { All (λ s. s ≡ L.first task.now) seats.items }
+    ensures len { IfOk result (λ v. vec_len v ≡ vec_len seats) }
+    ensures kept { IfOk result (λ v. All (L.kept_by task.now) v.items) }
+{
+    let mut shifts = Vec::with_capacity(alloc, seats.len())?;
+    for seat in seats {
+        shifts.push_reserved(task.labour(alloc, seat, gate));
+    }
+    Ok(shifts)
+}
+
+/// A worker in a thread of its own for each seat; a single one works on this thread. Each has ended when this returns, also
+/// where one could not be started, which is told as `Thread`. `Memory` comes where memory was refused before a thread was
+/// started.
 pub fn all_work<'a, G: Gate + Sync, R: Threads + Wait>(
     rt: &R,
     alloc: Global,
@@ -145,5 +165,8 @@ pub fn all_work<'a, G: Gate + Sync, R: Threads + Wait>(
     ensures len { IfOk result (λ v. vec_len v ≡ vec_len seats) }
     ensures worked { IfOk result (λ v. All (Worked task.now) v.items) }
 {
+    if seats.len() == 1 {
+        return work_here(alloc, task, seats, gate);
+    }
     in_threads(rt, alloc, task, seats, gate)
 }
