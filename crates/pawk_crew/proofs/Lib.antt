@@ -1,0 +1,4 @@
+pub mod WorkerLemmas
+pub mod Programs
+pub mod States
+pub mod Tasks
