@@ -1,4 +1,6 @@
 pub mod WorkerLemmas
+pub mod GatheringLemmas
+pub mod OrderLemmas
 pub mod Programs
 pub mod States
 pub mod Tasks

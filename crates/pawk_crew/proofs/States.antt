@@ -3,11 +3,8 @@ use denote.Ref.{NamedLft}
 use denote.Param.Send.{IsSend, IsSync, sendable}
 use Rattle.std.proofs.Crossing.{crosses}
 use Rattle.pawk_machine.specs.contracts.node.Node as Node
-use Rattle.pawk_machine.specs.contracts.table.Table as Table
 use Rattle.pawk_machine.proofs.node.Node.TheLaws.TheKnot as knot
-use Rattle.pawk_ere.specs.contracts.words.Prefilter as Prefilter
 use Rattle.pawk_ere.specs.contracts.matcher.Matcher as Matcher
-use Rattle.pawk_record.specs.contracts.layout.Layout as Layout
 use Rattle.pawk_record.specs.contracts.splitter.By as By
 use Rattle.pawk_record.specs.contracts.splitter.Splitter as Splitter
 use Rattle.pawk_record.specs.contracts.record.Record as Record

@@ -2,11 +2,13 @@
 #![tactic(auto)]
 
 mod gate;
+mod gathering;
 mod shifts;
 mod task;
 mod worker;
 
 pub use gate::{Gate, Open};
+pub use gathering::run_chunks;
 pub use shifts::{CrewRefusal, Shift, all_work};
 pub use task::{Chunked, Task};
 pub use worker::work;
