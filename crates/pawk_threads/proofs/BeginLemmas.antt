@@ -1,5 +1,5 @@
 -- BEGIN reads no record.
-use Rattle.std.proofs.Common.{◌≡◌, ℕ, List, [], Option, Some, None, refl, ap, ◌∙◌, inl, subst, true}
+use Rattle.std.proofs.Common.{◌≡◌, ℕ, List, [], length, sym, Option, Some, None, refl, ap, ◌∙◌, inl, subst, true}
 use Rattle.pawk_world.specs.Halts.{Halt}
 use Rattle.pawk_world.specs.Halts as halt
 use Rattle.pawk_world.specs.Worlds.{Answer, Calls}
@@ -7,8 +7,12 @@ use Rattle.pawk_world.specs.Worlds as world
 use Rattle.pawk_store.specs.RecordStates.{RecordState}
 use Rattle.pawk_code.specs.Programs.{Code}
 use Rattle.pawk_meaning.specs.Parts.{Outcome, gives, halts}
-use Rattle.pawk_meaning.specs.Records.{end_of, run_part, opening_moment, actions}
+use Rattle.pawk_meaning.specs.Records.{End, end_of, run_part, opening_moment, actions}
 use Rattle.pawk_meaning.specs.Lockstep.{Pair, record_state_of, refusal_of, SameAnswer, AreInLockstep, RefusesIn, GoesOn}
+use Rattle.pawk_store.specs.Globals.{Globals, calls}
+use Rattle.pawk_store.specs.Openings.{opened}
+use Rattle.pawk_store.specs.RecordStates.{opening}
+use Rattle.pawk_threads.specs.Routes.{begin_end}
 use Rattle.pawk_meaning.proofs.Later.{Order}
 use Rattle.pawk_meaning.proofs.Going.{Track}
 use Rattle.pawk_meaning.proofs.InRecords.{goes_actions}
@@ -84,3 +88,9 @@ module _ {S : Type 0} (calls : Calls S) where
       let part = actions calls code.expressions code.functions code.begins in
       let m = opening_moment budget s state [] in
       end_nr (part m) ∙ ((goes_actions {t = nr_track} code.expressions code.functions may.2.1 code.begins may.0).first m tt).state
+
+pub none_read : (code : Code) (budget : ℕ) (assignments : List (List ℕ × List ℕ)) (e : End Globals) →
+    begin_end code budget assignments ≡ e → e.state.nr ≡ 0
+none_read code budget assignments e is =
+    ap (λ (x : End Globals). x.state.nr) (sym is)
+    ∙ begin_keeps_nr calls code budget (opened code.scalars (length code.arrays) assignments) (opening (length code.rules))

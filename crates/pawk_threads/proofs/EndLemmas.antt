@@ -14,7 +14,7 @@ use Rattle.pawk_threads.specs.Routes.{phase_behind, separator_of}
 short : (n : ℕ) → n ≤ 1 → nat_le n 1 ≡ true
 short n h = grind (arith, nat_tests, h)
 
-chosen : {X : Type 0} (b : Bool) (x y : X) → b ≡ true → (if b then x else y) ≡ x
+pub chosen : {X : Type 0} (b : Bool) (x y : X) → b ≡ true → (if b then x else y) ≡ x
 chosen b x y is = ap (λ c. if c then x else y) is
 
 taken_again : (rs : List ℕ) (e : End Globals) → IsTaken rs e → take_separator (separator_of e) e ≡ e

@@ -16,14 +16,14 @@ ghost use Rattle.pawk_threads.specs.Begun.{IsTaken, end_of};
 ghost use Rattle.pawk_threads.specs.Routes.{phase_behind};
 
 use crate::begun::Begun;
-use crate::merging::go_on_merged;
+use crate::merging::{go_on_merged, lacks_memory};
 use crate::report::Refusal;
 use pawk_admit::Roles;
 use pawk_chunk::Opening;
-use pawk_crew::{Chunked, Gate, may_run, run_chunks};
+use pawk_chunks::may_run;
+use pawk_crew::{Chunked, Gate, run_chunks};
 use pawk_gather::law::results_merge;
 use pawk_gather::merge_results;
-use pawk_join::JoinStop;
 use pawk_one::{Job, Outcome};
 use pawk_store::RecordState;
 use std::mem;
@@ -75,7 +75,12 @@ pub(crate) fn run_plan<'a, G: Gate + Sync, R: Threads + Wait>(
     let state = mem::replace(&mut begun.run.state, RecordState::new(alloc, 0)?);
     match merge_results(alloc, &mut begun.globals, state, results) {
         Ok(merged) => Ok(Some(go_on_merged(job, begun, merged)?)),
-        Err(JoinStop::Memory) => Err(Refusal::Memory),
-        Err(_) => Ok(None),
+        Err(stop) => {
+            if lacks_memory(stop) {
+                Err(Refusal::Memory)
+            } else {
+                Ok(None)
+            }
+        }
     }
 }

@@ -1,6 +1,6 @@
 //! Records that were run in chunks, and what follows them.
 
-ghost use Rattle.std.specs.Prelude.{◌≡◌, ◌++◌, IfOk, OnOk};
+ghost use Rattle.std.specs.Prelude.{◌≡◌, ◌↔◌, ◌++◌, IfOk, IsTrue, OnOk};
 ghost use Rattle.pawk_code.specs.ProgramViews.{code_view};
 ghost use Rattle.pawk_store.specs.Globals.{calls};
 ghost use Rattle.pawk_store.specs.StateViews.{state_of};
@@ -11,7 +11,7 @@ ghost use Rattle.pawk_one.specs.Ends.{Answers, left_view};
 ghost use Rattle.pawk_gather.specs.Gathered.{behind_output};
 
 use crate::begun::Begun;
-use pawk_join::{Leaving, Merged};
+use pawk_join::{JoinStop, Leaving, Merged};
 use pawk_one::{Job, Left, Outcome, run_behind_records};
 use std::alloc::AllocError;
 use std::mem;
@@ -25,6 +25,18 @@ fn left_of(leaving: Leaving) -> Left
         Leaving::Exit(status) => Left::Exit(status),
         Leaving::Fault(fault) => Left::Fault(fault),
         Leaving::Clash => Left::Clash,
+    }
+}
+
+/// Whether a merge stopped for want of memory.
+pub(crate) fn lacks_memory(stop: JoinStop) -> bool
+    ensures { IsTrue result ↔ stop ≡ JoinStop.Memory }
+{
+    match stop {
+        JoinStop::Memory => true,
+        JoinStop::Cell => false,
+        JoinStop::Fault => false,
+        JoinStop::Clash => false,
     }
 }
 

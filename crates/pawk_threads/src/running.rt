@@ -1,6 +1,6 @@
 //! Whole runs.
 
-ghost use Rattle.std.specs.Prelude.{◌≡◌, Err, IfOk};
+ghost use Rattle.std.specs.Prelude.{◌≡◌, ◌↔◌, Err, IfOk, IsTrue};
 ghost use Rattle.pawk_code.specs.ProgramViews.{code_view};
 ghost use Rattle.pawk_input.specs.Input.{files_of};
 ghost use Rattle.pawk_store.specs.Openings.{pairs_of};
@@ -25,6 +25,16 @@ use pawk_settings::Assignment;
 use std::alloc::Global;
 use std::sync::Wait;
 use std::thread::Threads;
+
+/// Whether an admission was refused for want of memory.
+fn is_memory(reason: Reason) -> bool
+    ensures { IsTrue result ↔ reason ≡ Reason.Memory }
+{
+    match reason {
+        Reason::Memory => true,
+        _ => false,
+    }
+}
 
 /// Runs the records of a program that may run in chunks, and what follows them; nothing where it has to
 /// be run again, one record after the other.
@@ -103,10 +113,12 @@ fn run_once<G: Gate + Sync, R: Threads + Wait>(
     }
     match admit(alloc, job.code) {
         Ok(roles) => run_admitted(rt, job, begun, &roles, input, way, gate),
-        Err(Reason::Memory) => Err(Refusal::Memory),
         Err(reason) => {
-            let outcome = go_on(job, begun, input)?;
-            Ok(Some((outcome, Route::NotAdmitted(reason))))
+            if is_memory(reason) {
+                return Err(Refusal::Memory);
+            }
+            let finish = go_on(job, begun, input)?;
+            Ok(Some((finish, Route::NotAdmitted(reason))))
         }
     }
 }
