@@ -32,10 +32,10 @@ no_cutting same = absurd cc
 
 -- a stop that is no want of memory is one of the merge
 pub stop_told : (b : Bool) (stop : JoinStop) → b ≡ false → (stop ≡ Memory → b ≡ true) → (s : Stop) × (stop_of stop ≡ Some s)
-stop_told b Cell off yes = (at_cell, refl)
-stop_told b Fault off yes = (at_fault, refl)
-stop_told b Clash off yes = (at_clash, refl)
-stop_told b Memory off yes = let bad = sym off ∙ yes refl in absurd cc
+stop_told b Cell off on = (at_cell, refl)
+stop_told b Fault off on = (at_fault, refl)
+stop_told b Clash off on = (at_clash, refl)
+stop_told b Memory off on = let bad = sym off ∙ on refl in absurd cc
 
 module _ (code : Code) (roles : Roles) (budget : ℕ) (rs : List ℕ) (files : List File) (e : End Globals) (taken : IsTaken rs e) where
   abbrev phase : Phase

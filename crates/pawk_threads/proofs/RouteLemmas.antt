@@ -51,15 +51,15 @@ module _ (code : Code) (budget : ℕ) (files : List File) (e : End Globals) wher
 
 -- an answer that is no want of memory is the first reason
 pub first_reason : (Stands : Occurrence → Type 0) (b : Bool) (r : Reason) → b ≡ false → (r ≡ reason.Memory → b ≡ true) → IsAnswer Stands r → IsFirst Stands r
-first_reason Stands b reason.Assignment off yes is = is
-first_reason Stands b reason.Addition off yes is = is
-first_reason Stands b reason.Range off yes is = is
-first_reason Stands b reason.Match off yes is = is
-first_reason Stands b reason.Split off yes is = is
-first_reason Stands b reason.Passing off yes is = is
-first_reason Stands b reason.Value off yes is = is
-first_reason Stands b reason.Memory off yes is = let bad = sym off ∙ yes refl in absurd cc
-first_reason Stands b reason.NextFile off yes is = is
+first_reason Stands b reason.Assignment off on is = is
+first_reason Stands b reason.Addition off on is = is
+first_reason Stands b reason.Range off on is = is
+first_reason Stands b reason.Match off on is = is
+first_reason Stands b reason.Split off on is = is
+first_reason Stands b reason.Passing off on is = is
+first_reason Stands b reason.Value off on is = is
+first_reason Stands b reason.Memory off on is = let bad = sym off ∙ on refl in absurd cc
+first_reason Stands b reason.NextFile off on is = is
 
 -- how a run goes on whose BEGIN ends so, and whose records begin so once RS was taken
 module _ (code : Code) (roles : Roles) (budget : ℕ) (rs : List ℕ) (files : List File) (e t : End Globals) (taken : take_separator rs e ≡ t) (text : rs ≡ separator_of e) where
