@@ -1,5 +1,6 @@
 -- What a part of a run leaves, as the code has it.
-use Rattle.std.specs.Prelude.{◌≡◌, ℕ, Bool, true, false, Option, Some, None, Result, Ok, Err}
+use Rattle.std.specs.Prelude.{◌≡◌, ℕ, Bool, true, false, Option, Some, None, Result, Ok, Err, Vec}
+use Rattle.std.specs.declared.alloc.Global.{Global}
 use Rattle.pawk_store.specs.StateViews.{state_of}
 use Rattle.pawk_places.specs.declared.run.Run.{Run}
 use Rattle.pawk_world.specs.declared.halt.Halt.{Halt as Code}
@@ -75,6 +76,11 @@ file_left next_file file = Some file
 file_left (exit n) file = None
 file_left (fault f) file = None
 file_left clash file = None
+
+-- the world, the output and the ending are those with which a run finished
+abbrev pub Finishes : {S : Type 0} → Finish S → S → Vec ℕ Global × CodeEnding → Type 0
+Finishes meant world shown =
+    (meant.world ≡ world) × (meant.output ≡ shown.0.items) × (meant.ending ≡ ending_view shown.1)
 
 -- the output, the globals and the ending are those with which a run finished
 pub record Answers (meant : Finish Globals) (outcome : CodeOutcome) : Type 0 where

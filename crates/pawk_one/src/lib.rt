@@ -11,6 +11,8 @@ mod whole;
 
 pub use ending::{Ending, Place};
 pub use left::Left;
-pub use outcome::{Outcome, run_one};
+pub use outcome::{Outcome, opening_run, run_one};
 pub use part::{actions, record};
-pub use whole::{Job, run_program, run_records};
+pub use whole::{
+    Job, run_begin, run_behind_begin, run_behind_records, run_program, run_records, take_separator,
+};

@@ -28,7 +28,9 @@ pub struct Outcome {
 }
 
 /// What a run begins with: no output, no record.
-fn opening_run<'a>(alloc: Global, job: Job<'_>) -> Result<Run<'a>, AllocError>
+///
+/// POSIX.1-2017, awk, "Variables and Special Variables".
+pub fn opening_run<'a>(alloc: Global, job: Job<'_>) -> Result<Run<'a>, AllocError>
     ensures { IfOk result (λ run. (run.output.items ≡ [])
         × (state_of run.state ≡ opening (length (code_view job.entry.code.now).rules))) }
 {
@@ -44,7 +46,8 @@ fn opening_run<'a>(alloc: Global, job: Job<'_>) -> Result<Run<'a>, AllocError>
     })
 }
 
-/// Runs a program on one thread, with these assignments made before.
+/// Runs a program on one thread, with these assignments made before. The input's names and bytes stay as
+/// they are.
 ///
 /// POSIX.1-2017, awk, "Overall Program Structure".
 pub fn run_one(
@@ -53,19 +56,20 @@ pub fn run_one(
     assignments: &[Assignment],
     input: &mut Input,
 ) -> Result<Outcome, AllocError>
-    ensures { IfOk result (Answers (spec.run calls (code_view job.entry.code.now).expressions
+    ensures outcome { IfOk result (Answers (spec.run calls (code_view job.entry.code.now).expressions
         (code_view job.entry.code.now) job.entry.budget (files_of input.old)
         (opened (code_view job.entry.code.now).scalars
         (length (code_view job.entry.code.now).arrays) (pairs_of assignments.now))
         (opening (length (code_view job.entry.code.now).rules)))) }
+    ensures same { files_of input.new ≡ files_of input.old }
 {
     let names = job.code.scalars.as_slice();
     let arrays = job.code.arrays.len();
     let mut globals = Globals::open(alloc, names, arrays, assignments)?;
-    let mut run = opening_run(alloc, job)?;
-    let ending = run_program(job, input, &mut globals, &mut run)?;
+    let run = opening_run(alloc, job)?;
+    let (output, ending) = run_program(job, input, &mut globals, run)?;
     Ok(Outcome {
-        output: run.output,
+        output,
         globals,
         ending,
     })

@@ -7,11 +7,14 @@ ghost use Rattle.pawk_input.specs.Walk.{items_left};
 ghost use Rattle.pawk_store.specs.Slots.{rs_slot};
 ghost use Rattle.pawk_store.specs.StateViews.{state_of};
 ghost use Rattle.pawk_value.specs.Conversion.{text_of};
-ghost use Rattle.pawk_meaning.specs.Runs.{records_from, ends_from, behind_records, records_by_rs};
+ghost use Rattle.pawk_meaning.specs.Records.{run_part};
+ghost use Rattle.pawk_meaning.specs.Records as record_spec;
+ghost use Rattle.pawk_meaning.specs.Runs.{records_from, ends_from, behind_begin};
+ghost use Rattle.pawk_meaning.specs.Runs.{behind_records, records_by_rs};
 ghost use Rattle.pawk_eval.specs.Contexts.{eres_of, functions_of};
 ghost use Rattle.pawk_meaning.specs.Runs as spec;
 ghost use Rattle.pawk_one.specs.declared.left.Left.TheVariants.{Through};
-ghost use Rattle.pawk_one.specs.Ends.{end_view, finish_view, left_view};
+ghost use Rattle.pawk_one.specs.Ends.{Finishes, end_view, finish_view, left_view};
 ghost use Rattle.pawk_one.specs.Ends as ends;
 
 use crate::ending::{Ending, Place};
@@ -46,7 +49,9 @@ impl<'p> Job<'p> {
     }
 
     /// Whether records are read: where there is a main rule or an action of END.
-    fn reads_records(self) -> bool
+    ///
+    /// POSIX.1-2017, awk, "Overall Program Structure".
+    pub fn reads_records(self) -> bool
         ensures { result ≡ spec.reads_records (code_view self.entry.code.now) }
     {
         !self.code.rules.is_empty() || !self.code.ends.is_empty()
@@ -143,8 +148,11 @@ pub fn run_records<'a, W: World>(
     Ok(left)
 }
 
-/// Goes on behind the records.
-fn run_behind_records<W: World>(
+/// Goes on behind records that were left so: with END, unless they ended in a fault or did what the world
+/// does not allow. A fault is at the record that was read last.
+///
+/// POSIX.1-2017, awk, "Actions" (exit).
+pub fn run_behind_records<W: World>(
     job: Job<'_>,
     left: Left,
     world: &mut W,
@@ -164,63 +172,131 @@ fn run_behind_records<W: World>(
     }
 }
 
-/// Reads and runs all records, by RS as it is now, and then END.
-fn run_input<'a, W: World>(
-    job: Job<'_>,
-    input: &'a mut Input,
-    world: &mut W,
-    run: &mut Run<'a>,
-) -> Result<Ending, AllocError>
-    ensures { IfOk result (λ ending. records_by_rs W.calls (code_view job.entry.code.now).expressions
-        (code_view job.entry.code.now) job.entry.budget
-        (text_of (W.calls.look rs_slot (W.state world.old))) (files_of input.old)
-        (end_view (W.state world.old) run.old Through)
-        ≡ finish_view (W.state world.new) run.new ending) }
+/// Takes RS as it is now, and gives its bytes.
+///
+/// POSIX.1-2017, awk, "Variables and Special Variables" (RS).
+pub fn take_separator<W: World>(world: &W, run: &mut Run<'_>) -> Result<Vec<u8>, AllocError>
+    ensures text { IfOk result (λ rs.
+        rs.items ≡ text_of (W.calls.look rs_slot (W.state world.now))) }
+    ensures taken { IfOk result (λ rs. spec.take_separator rs.items
+        (end_view (W.state world.now) run.old Through)
+        ≡ end_view (W.state world.now) run.new Through) }
 {
     let mut buffer = Buffer::new();
     let rs = Vec::from_slice(run.alloc, text_in(world.scalar(RS), &mut buffer))?;
     run.state.taken = Some(Vec::from_slice(run.alloc, rs.as_slice())?);
-    if rs.len() > 1 {
-        return Ok(Ending::Fault(Fault::Rs, Place::Record(1)));
-    }
-    input.mend(rs.as_slice())?;
-    let left = run_records(job, input.records(rs.as_slice()), world, run)?;
-    run_behind_records(job, left, world, run)
+    Ok(rs)
 }
 
-/// Runs a program: BEGIN, then each record of the input, then END, over a world and from a run whose
-/// output is empty.
+/// Reads and runs all records, by RS as it is now, and then END; the output and how the run ends.
+fn run_input<W: World>(
+    job: Job<'_>,
+    input: &mut Input,
+    world: &mut W,
+    run: Run<'_>,
+) -> Result<(Vec<u8>, Ending), AllocError>
+    ensures ends { IfOk result (Finishes (records_by_rs W.calls
+        (code_view job.entry.code.now).expressions
+        (code_view job.entry.code.now) job.entry.budget
+        (text_of (W.calls.look rs_slot (W.state world.old))) (files_of input.old)
+        (end_view (W.state world.old) run.entry Through)) (W.state world.new)) }
+    ensures same { files_of input.new ≡ files_of input.old }
+{
+    let mut run = run;
+    let rs = take_separator(world, &mut run)?;
+    if rs.len() > 1 {
+        return Ok((run.output, Ending::Fault(Fault::Rs, Place::Record(1))));
+    }
+    input.mend(rs.as_slice())?;
+    let left = run_records(job, input.records(rs.as_slice()), world, &mut run)?;
+    let ending = run_behind_records(job, left, world, &mut run)?;
+    Ok((run.output, ending))
+}
+
+/// Runs the actions of BEGIN. The output goes behind what is there.
 ///
 /// POSIX.1-2017, awk, "Overall Program Structure".
-pub fn run_program<'a, W: World>(
+pub fn run_begin<W: World>(
     job: Job<'_>,
-    input: &'a mut Input,
     world: &mut W,
-    run: &mut Run<'a>,
-) -> Result<Ending, AllocError>
-    requires { run.old.output.items ≡ [] }
-    ensures { IfOk result (λ ending. spec.run W.calls (code_view job.entry.code.now).expressions
-        (code_view job.entry.code.now) job.entry.budget (files_of input.old)
-        (W.state world.old) (state_of run.old.state)
-        ≡ finish_view (W.state world.new) run.new ending) }
+    run: &mut Run<'_>,
+) -> Result<Left, AllocError>
+    ensures { IfOk result (λ left. run_part (record_spec.actions W.calls
+        (code_view job.entry.code.now).expressions (code_view job.entry.code.now).functions
+        (code_view job.entry.code.now).begins) job.entry.budget
+        (W.state world.old) (state_of run.old.state) run.old.output.items
+        ≡ end_view (W.state world.new) run.new left) }
 {
-    match actions(
-        job.context(),
-        job.code.begins.as_slice(),
-        job.budget,
-        world,
-        run,
-    )? {
+    let bodies = job.code.begins.as_slice();
+    actions(job.context(), bodies, job.budget, world, run)
+}
+
+/// Runs the actions of END, the last of a run; its output and how it ends.
+fn close<W: World>(
+    job: Job<'_>,
+    world: &mut W,
+    run: Run<'_>,
+) -> Result<(Vec<u8>, Ending), AllocError>
+    ensures { IfOk result (Finishes (ends_from W.calls (code_view job.entry.code.now).expressions
+        (code_view job.entry.code.now) job.entry.budget
+        (end_view (W.state world.old) run.entry Through)) (W.state world.new)) }
+{
+    let mut run = run;
+    let ending = run_end(job, world, &mut run)?;
+    Ok((run.output, ending))
+}
+
+/// Goes on behind BEGIN that was left so: with each record of the input and then END, or with END where
+/// BEGIN was left by `exit` or no record is read. Gives the output, behind what is there, and how the
+/// run ends. The input's names and bytes stay as they are.
+///
+/// POSIX.1-2017, awk, "Overall Program Structure" and "Actions" (exit).
+pub fn run_behind_begin<W: World>(
+    job: Job<'_>,
+    left: Left,
+    input: &mut Input,
+    world: &mut W,
+    run: Run<'_>,
+) -> Result<(Vec<u8>, Ending), AllocError>
+    ensures ends { IfOk result (Finishes (behind_begin W.calls
+        (code_view job.entry.code.now).expressions
+        (code_view job.entry.code.now) job.entry.budget (files_of input.old) (left_view left)
+        (end_view (W.state world.old) run.entry left)) (W.state world.new)) }
+    ensures same { files_of input.new ≡ files_of input.old }
+{
+    match left {
         Left::Through => {
             if job.reads_records() {
                 run_input(job, input, world, run)
             } else {
-                run_end(job, world, run)
+                close(job, world, run)
             }
         }
-        Left::NextFile => run_end(job, world, run),
-        Left::Exit(_) => run_end(job, world, run),
-        Left::Fault(fault) => Ok(Ending::Fault(fault, Place::Begin)),
-        Left::Clash => Ok(Ending::Disallowed),
+        Left::NextFile => close(job, world, run),
+        Left::Exit(_) => close(job, world, run),
+        Left::Fault(fault) => Ok((run.output, Ending::Fault(fault, Place::Begin))),
+        Left::Clash => Ok((run.output, Ending::Disallowed)),
     }
+}
+
+/// Runs a program: BEGIN, then each record of the input, then END, over a world and from a run whose
+/// output is empty. Gives the output and how the run ends. The input's names and bytes stay as they are.
+///
+/// POSIX.1-2017, awk, "Overall Program Structure".
+pub fn run_program<W: World>(
+    job: Job<'_>,
+    input: &mut Input,
+    world: &mut W,
+    run: Run<'_>,
+) -> Result<(Vec<u8>, Ending), AllocError>
+    requires { run.output.items ≡ [] }
+    ensures ends { IfOk result (Finishes (spec.run W.calls
+        (code_view job.entry.code.now).expressions
+        (code_view job.entry.code.now) job.entry.budget (files_of input.old)
+        (W.state world.old) (state_of run.entry.state)) (W.state world.new)) }
+    ensures same { files_of input.new ≡ files_of input.old }
+{
+    let mut run = run;
+    let left = run_begin(job, world, &mut run)?;
+    run_behind_begin(job, left, input, world, run)
 }

@@ -1,0 +1,4 @@
+pub mod BeginLemmas
+pub mod RouteLemmas
+pub mod EndLemmas
+pub mod MergedLemmas

@@ -1,0 +1,29 @@
+-- What BEGIN leaves, as the code has it, and how a run goes on behind it.
+use Rattle.std.specs.Prelude.{◌≡◌, ℕ, List, Option, Some, None}
+use Rattle.pawk_code.specs.Programs.{Code}
+use Rattle.pawk_input.specs.Input.{File}
+use Rattle.pawk_store.specs.Globals.{Globals, calls}
+use Rattle.pawk_meaning.specs.Records.{End, through}
+use Rattle.pawk_meaning.specs.Runs.{behind_begin, take_separator}
+use Rattle.pawk_one.specs.Ends.{Answers, end_view}
+use Rattle.pawk_one.specs.declared.outcome.Outcome.{Outcome}
+use Rattle.pawk_threads.specs.Routes.{IsRoute, separator_of}
+use Rattle.pawk_threads.specs.declared.begun.Begun.{Begun}
+use Rattle.pawk_threads.specs.declared.report.Route.{Route}
+use Rattle.pawk_threads.specs.declared.report.Route.TheVariants.{Redo}
+
+abbrev pub end_of : Begun → End Globals
+end_of b = end_view b.globals b.run b.left
+
+-- no record was read, and this RS, which BEGIN left, was taken
+pub record IsTaken (rs : List ℕ) (e : End Globals) : Type 0 where
+  pub came : e.left ≡ through
+  pub unread : e.state.nr ≡ 0
+  pub separator : separator_of e ≡ rs
+  pub taken : take_separator rs e ≡ e
+
+-- Behind BEGIN the run went a way that is told, and ended so; or it has to be run again, one record after the other.
+abbrev pub Goes : Code → ℕ → List File → End Globals → Option (Outcome × Route) → Type 0
+Goes code budget files e None = IsRoute code budget files e Redo
+Goes code budget files e (Some went) =
+    Answers (behind_begin calls code.expressions code budget files e.left e) went.0 × IsRoute code budget files e went.1

@@ -1,0 +1,31 @@
+-- How the input is to be cut.
+use Rattle.std.specs.Prelude.{◌≢◌, ℕ, ◌<◌, List, length}
+use Rattle.pawk_code.specs.Programs.{Code}
+use Rattle.pawk_input.specs.Input.{File}
+use Rattle.pawk_input.specs.Plan.{sized, RefusesMany, RefusesCuts}
+use Rattle.pawk_input.specs.declared.cutting.CutRefusal.{CutRefusal}
+use Rattle.pawk_input.specs.declared.cutting.CutRefusal.TheVariants.{Memory}
+use Rattle.pawk_input.specs.declared.cutting.TheConstants.{MOST_CHUNKS}
+use Rattle.pawk_store.specs.Globals.{Globals}
+use Rattle.pawk_meaning.specs.Records.{End}
+use Rattle.pawk_threads.specs.Routes.{IsPlanned, separator_of}
+use Rattle.pawk_threads.specs.declared.cutting.Cutting.{Cutting}
+use Rattle.pawk_threads.specs.declared.cutting.Cutting.TheVariants.{Size, At}
+
+-- a size is 1 or more
+abbrev pub IsSized : Cutting → Type 0
+IsSized (Size bytes) = 0 < bytes
+IsSized (At cuts) = Unit {0}
+
+-- the plan of this cutting, by this RS, is refused so
+abbrev pub PlanRefused : List ℕ → List File → Cutting → CutRefusal → Type 0
+PlanRefused rs files (Size bytes) e = RefusesMany (length (sized rs files bytes)) MOST_CHUNKS e
+PlanRefused rs files (At cuts) e = RefusesCuts rs files cuts.items MOST_CHUNKS e
+
+-- there is no plan of this cutting, memory aside
+abbrev pub IsRefused : List ℕ → List File → Cutting → Type 0
+IsRefused rs files cutting = (e : CutRefusal) × (e ≢ Memory) × PlanRefused rs files cutting e
+
+-- the records may be run in chunks, and there is no plan of this cutting
+abbrev pub HasNoPlan : Code → End Globals → List File → Cutting → Type 0
+HasNoPlan code e files cutting = IsPlanned code e × IsRefused (separator_of e) files cutting

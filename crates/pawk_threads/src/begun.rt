@@ -1,0 +1,78 @@
+//! A run behind BEGIN.
+
+ghost use Rattle.std.specs.Prelude.{◌≡◌, ◌↔◌, IfOk, IsTrue};
+ghost use Rattle.pawk_code.specs.ProgramViews.{code_view};
+ghost use Rattle.pawk_input.specs.Input.{files_of};
+ghost use Rattle.pawk_store.specs.Globals.{calls};
+ghost use Rattle.pawk_store.specs.Openings.{pairs_of};
+ghost use Rattle.pawk_meaning.specs.Runs as spec;
+ghost use Rattle.pawk_one.specs.Ends.{Answers, left_view};
+ghost use Rattle.pawk_threads.specs.Begun.{end_of};
+ghost use Rattle.pawk_threads.specs.Routes.{HasRecords, begin_end};
+
+use pawk_input::Input;
+use pawk_one::{Job, Left, Outcome, opening_run, run_begin, run_behind_begin};
+use pawk_places::Run;
+use pawk_settings::Assignment;
+use pawk_store::Globals;
+use std::alloc::{AllocError, Global};
+
+/// What BEGIN leaves.
+#[derive(Drop)]
+pub(crate) struct Begun<'a> {
+    pub globals: Globals,
+    pub run: Run<'a>,
+    pub left: Left,
+}
+
+/// Runs BEGIN, with these assignments made before.
+pub(crate) fn begin<'a>(
+    alloc: Global,
+    job: Job<'_>,
+    assignments: &[Assignment],
+) -> Result<Begun<'a>, AllocError>
+    ensures { IfOk result (λ begun.
+        begin_end (code_view job.entry.code.now) job.entry.budget (pairs_of assignments.now)
+        ≡ end_of begun) }
+{
+    let names = job.code.scalars.as_slice();
+    let arrays = job.code.arrays.len();
+    let mut globals = Globals::open(alloc, names, arrays, assignments)?;
+    let mut run = opening_run(alloc, job)?;
+    let left = run_begin(job, &mut globals, &mut run)?;
+    Ok(Begun { globals, run, left })
+}
+
+/// Whether records are read behind BEGIN that was left so.
+pub(crate) fn has_records(job: Job<'_>, begun: &Begun<'_>) -> bool
+    ensures { IsTrue result ↔ HasRecords (code_view job.entry.code.now) (end_of begun.now) }
+{
+    match begun.left {
+        Left::Through => job.reads_records(),
+        Left::NextFile => false,
+        Left::Exit(_) => false,
+        Left::Fault(_) => false,
+        Left::Clash => false,
+    }
+}
+
+/// Goes on behind BEGIN on this thread.
+pub(crate) fn go_on(
+    job: Job<'_>,
+    begun: Begun<'_>,
+    input: &mut Input,
+) -> Result<Outcome, AllocError>
+    ensures outcome { IfOk result (Answers (spec.behind_begin calls
+        (code_view job.entry.code.now).expressions (code_view job.entry.code.now)
+        job.entry.budget (files_of input.old) (left_view begun.entry.left) (end_of begun.entry))) }
+    ensures same { files_of input.new ≡ files_of input.old }
+{
+    let Begun { globals, run, left } = begun;
+    let mut globals = globals;
+    let (output, ending) = run_behind_begin(job, left, input, &mut globals, run)?;
+    Ok(Outcome {
+        output,
+        globals,
+        ending,
+    })
+}

@@ -1,0 +1,86 @@
+//! Records run in chunks.
+
+ghost use Rattle.std.specs.Prelude.{◌≡◌, ◌≢◌, ◌≤◌, length, Err, IfErr, IfOk, MatchOption};
+ghost use Rattle.pawk_board.specs.Limits.{most_chunks};
+ghost use Rattle.pawk_code.specs.ProgramViews.{code_view};
+ghost use Rattle.pawk_input.specs.Input.{files_of, items};
+ghost use Rattle.pawk_store.specs.Globals.{calls};
+ghost use Rattle.pawk_meaning.specs.Runs.{records_by_rs};
+ghost use Rattle.pawk_admit.specs.Admission.{AreRoles, IsAdmissible};
+ghost use Rattle.pawk_admit.specs.Reaches.{Occurs};
+ghost use Rattle.pawk_admit.specs.Roles.{roles_view};
+ghost use Rattle.pawk_chunks.specs.Phases.{FaultsOrCreates};
+ghost use Rattle.pawk_crew.specs.Task.{IsChunked, IsCrew};
+ghost use Rattle.pawk_one.specs.Ends.{Answers};
+ghost use Rattle.pawk_threads.specs.Begun.{IsTaken, end_of};
+ghost use Rattle.pawk_threads.specs.Routes.{phase_behind};
+
+use crate::begun::Begun;
+use crate::merging::{go_on_merged, lacks_memory};
+use crate::report::Refusal;
+use pawk_admit::Roles;
+use pawk_chunk::Opening;
+use pawk_chunks::may_run;
+use pawk_crew::{Chunked, Gate, run_chunks};
+use pawk_gather::law::results_merge;
+use pawk_gather::merge_results;
+use pawk_one::{Job, Outcome};
+use pawk_store::RecordState;
+use std::mem;
+use std::sync::Wait;
+use std::thread::Threads;
+
+/// Runs the records of an input in the chunks of a plan, and goes on behind them; nothing where the
+/// chunks are not merged.
+pub(crate) fn run_plan<'a, G: Gate + Sync, R: Threads + Wait>(
+    rt: &R,
+    job: Job<'_>,
+    begun: Begun<'a>,
+    roles: &Roles,
+    source: Chunked<'_, 'a>,
+    workers: usize,
+    gate: &G,
+) -> Result<Option<Outcome>, Refusal>
+    requires chunked { IsChunked source }
+    requires few { length source.plan.now ≤ most_chunks }
+    requires workers { IsCrew workers }
+    requires taken { IsTaken source.rs.now (end_of begun) }
+    requires admissible { IsAdmissible (code_view job.code.now) }
+    requires roles { AreRoles (Occurs (code_view job.code.now)) (roles_view roles.now) }
+    ensures refused { IfErr result (λ e. e ≢ Refusal.Cutting) }
+    ensures went { IfOk result (λ o. MatchOption o
+        (FaultsOrCreates (phase_behind (code_view job.entry.code.now) (roles_view roles.now)
+        job.entry.budget (end_of begun.entry))
+        (items source.entry.rs.now (files_of source.entry.input.now)))
+        (λ outcome. Answers (records_by_rs calls (code_view job.entry.code.now).expressions
+        (code_view job.entry.code.now) job.entry.budget source.entry.rs.now
+        (files_of source.entry.input.now) (end_of begun.entry)) outcome
+        × ¬ FaultsOrCreates (phase_behind (code_view job.entry.code.now) (roles_view roles.now)
+        job.entry.budget (end_of begun.entry))
+        (items source.entry.rs.now (files_of source.entry.input.now)))) }
+{
+    let mut begun = begun;
+    let alloc = begun.run.alloc;
+    if !may_run(roles, &begun.globals)? {
+        return Err(Refusal::Memory);
+    }
+    let opening = Opening {
+        job,
+        globals: &begun.globals,
+        roles,
+        state: &begun.run.state,
+    };
+    let results = run_chunks(rt, alloc, opening, source, workers, gate)?;
+    results_merge();
+    let state = mem::replace(&mut begun.run.state, RecordState::new(alloc, 0)?);
+    match merge_results(alloc, &mut begun.globals, state, results) {
+        Ok(merged) => Ok(Some(go_on_merged(job, begun, merged)?)),
+        Err(stop) => {
+            if lacks_memory(stop) {
+                Err(Refusal::Memory)
+            } else {
+                Ok(None)
+            }
+        }
+    }
+}
