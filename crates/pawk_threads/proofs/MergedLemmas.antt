@@ -55,8 +55,7 @@ module _ (code : Code) (roles : Roles) (budget : ℕ) (rs : List ℕ) (files : L
       × (Stops (phase_behind code roles budget e) → ⊥)
   merged r x few law is =
       let l = subst Law is law in
-      let records : Left → End Globals = λ left. records_from calls code.expressions code budget None (record e { left = left }) (items rs files) in
-      (
+      let records : Left → End Globals = λ left. records_from calls code.expressions code budget None (record e { left = left }) (items rs files) in (
         by_taken code budget rs files e (behind_output e.output x) few taken (ap records taken.came ∙ l.0),
         λ stops. l.1 (subst Stops (phase_of_end code roles budget rs e taken) stops),
       )
