@@ -16,7 +16,7 @@ use Rattle.pawk_input.proofs.files.Input.TheSendSync as input
 use Rattle.pawk_input.proofs.plan.Plan.TheSendSync as plan
 use Rattle.pawk_one.proofs.left.Left.TheSendSync as left
 use Rattle.pawk_store.proofs.globals.Globals.TheSendSync as globals
-use Rattle.pawk_crew.proofs.Programs.{code_row_sync}
+use Rattle.pawk_code.proofs.Sharing.{code_row_sync}
 use Rattle.pawk_crew.proofs.States.{state_row_sync, state_send}
 
 job_sync : (κ : NamedLft) → IsSync (Job.the_field κ).row

@@ -6,7 +6,8 @@ use Rattle.pawk_store.specs.Globals.{Globals}
 use Rattle.pawk_meaning.specs.Records.{End}
 use Rattle.pawk_join.specs.Tables.{all_take, join_table}
 use Rattle.pawk_join.specs.Merges.{Chunk, Stop, with_chunk, merge}
-use Rattle.pawk_join.specs.MergeViews.{in_a_row, stop_of, Merges, Continues, Goes}
+use Rattle.pawk_meaning.specs.Outputs.{in_a_row}
+use Rattle.pawk_join.specs.MergeViews.{stop_of, Merges, Continues, Goes}
 use Rattle.pawk_join.specs.declared.merging.Merged.{Merged}
 use Rattle.pawk_join.specs.declared.stop.JoinStop.{JoinStop}
 

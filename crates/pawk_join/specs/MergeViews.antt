@@ -1,9 +1,8 @@
 -- Merges of the code.
-use Rattle.std.specs.Prelude.{◌≡◌, ℕ, Bool, true, false, List, Vec, Option, Some, None, Result, Ok, Err, if◌then◌else◌}
-use Rattle.std.specs.declared.alloc.Global.{Global}
-use Rattle.std.specs.List.{flat_map}
+use Rattle.std.specs.Prelude.{◌≡◌, ℕ, Bool, true, false, List, Option, Some, None, Result, Ok, Err, if◌then◌else◌}
 use Rattle.pawk_store.specs.Globals.{Globals}
 use Rattle.pawk_store.specs.StateViews.{state_of}
+use Rattle.pawk_meaning.specs.Outputs.{in_a_row}
 use Rattle.pawk_meaning.specs.Records.{Left, through, exit, fault, clash, End}
 use Rattle.pawk_join.specs.Merges.{Chunk, Stop, at_cell, at_fault, at_clash, behind}
 use Rattle.pawk_join.specs.Tables.{all_take}
@@ -23,10 +22,6 @@ leaving_view leaving.Clash = clash
 
 abbrev pub part_view : Part → Chunk
 part_view p = record { table = p.table; state = state_of p.state; output = p.output.items; left = leaving_view p.leaving }
-
--- texts one behind the other
-abbrev pub in_a_row : List (Vec ℕ Global) → List ℕ
-in_a_row texts = flat_map (λ text. text.items) texts
 
 -- an end, with globals that stand beside it
 abbrev pub end_view : Globals → Merged → End Globals

@@ -38,21 +38,21 @@ use Rattle.pawk_meaning.specs.Places.{Aim, parameter, cell, local_element, nowhe
 use Rattle.pawk_meaning.specs.Places as places
 use Rattle.pawk_meaning.specs.Builtins.{within_limit, joined_by, index, bytes_where, is_from, letters_in, Replaced, replaced_by, found_by, sign_of, side_of, related, same_truth, formatted_text, decimal}
 use Rattle.pawk_meaning.specs.Meaning.{Way, on, by_break, by_continue, by_return, value_of_way, left_by, status_by, one_or_zero, both_of, decide, and_then, after_left, after_turn, turns, while_loop, pattern_of, print_text, value_of_leaf, print_line, key_of, fill_from, pieces_of, split_into, put_replaced, visit_keys, for_keys, eval, number_of, function_of, truth_of, text_of_textual, joined_texts, suffixed, texts_of, values_of, arguments_of, argument_of, aim_of, operand_of, format_of, separator_of, subscripts, act, leaves, act_or_none, test_or_true, exec, execs, run_function, run_function_at, call_at}
-use Rattle.pawk_meaning.specs.Records.{Left, through, clash, is_inside, End, end_of_halt, end_of, run_part, after_read, stays_inside, holds, does, reads, begins, in_range, selects, does_rule, rules_from, one_record}
+use Rattle.pawk_meaning.specs.Records.{Left, through, clash, is_inside, End, end_of_halt, end_of, run_part, after_read, stays_inside, holds, does, reads, begins, in_range, selects, does_rule, rules_from, one_record, actions}
 use Rattle.pawk_meaning.specs.Records as records
-use Rattle.pawk_meaning.specs.Runs.{is_skipped, behind, records_from}
-use Rattle.pawk_meaning.specs.Outputs.{with_output_before}
+use Rattle.pawk_meaning.specs.Runs.{is_skipped, behind, at_end, records_from, ends_from, behind_records}
+use Rattle.pawk_meaning.specs.Outputs.{with_output_before, finish_with_output_before}
 
 -- a moment and an outcome with this in front of the output
-abbrev later_moment : {S : Type 0} → List ℕ → Moment S → Moment S
+abbrev pub later_moment : {S : Type 0} → List ℕ → Moment S → Moment S
 later_moment out m = record m { output = out ++ m.output }
 
-abbrev later_outcome : {S X : Type 0} → List ℕ → Outcome S X → Outcome S X
+abbrev pub later_outcome : {S X : Type 0} → List ℕ → Outcome S X → Outcome S X
 later_outcome out (gives x m) = gives x (later_moment out m)
 later_outcome out (halts h s state o) = halts h s state (out ++ o)
 
 -- a part does not look at what was written before it
-record Appends {S X : Type 0} (out : List ℕ) (part : Part S X) : Type 0 where
+pub record Appends {S X : Type 0} (out : List ℕ) (part : Part S X) : Type 0 where
   same : (m : Moment S) → part (later_moment out m) ≡ later_outcome out (part m)
 
 module _ {S : Type 0} {out : List ℕ} where
@@ -60,10 +60,10 @@ module _ {S : Type 0} {out : List ℕ} where
   then_appends (gives x m) k h = (h x).same m
   then_appends (halts i s state o) k h = refl
 
-  bind_appends : {X Y : Type 0} {part : Part S X} {k : X → Part S Y} → Appends out part → ((x : X) → Appends out (k x)) → Appends out (bind part k)
+  pub bind_appends : {X Y : Type 0} {part : Part S X} {k : X → Part S Y} → Appends out part → ((x : X) → Appends out (k x)) → Appends out (bind part k)
   bind_appends {part = part} {k = k} g h = record { same = λ m. ap (λ o. then_do o k) (g.same m) ∙ then_appends (part m) k h }
 
-  give_appends : {X : Type 0} (x : X) → Appends {S = S} out (give x)
+  pub give_appends : {X : Type 0} (x : X) → Appends {S = S} out (give x)
   give_appends x = record { same = λ m. refl }
 
   halt_appends : {X : Type 0} (h : Halt) → Appends {S = S} {X = X} out (halt_with h)
@@ -407,7 +407,7 @@ module _ {S : Type 0} {out : List ℕ} (calls : Calls S) where
     holds_appends : (e : Expr) → Appends out (holds calls eres functions e)
     holds_appends e = bind_appends (truth_appends (eval_appends eres (call_at calls eres functions greatest_calls) (call_appends eres functions greatest_calls) e)) (λ r. settle_appends r)
 
-    does_appends : (body : Stmts) → Appends out (does calls eres functions body)
+    pub does_appends : (body : Stmts) → Appends out (does calls eres functions body)
     does_appends body = dropped_appends (execs_appends eres (call_at calls eres functions greatest_calls) (call_appends eres functions greatest_calls) body)
 
     after_read_appends : (f : Option Fault) → Appends {S = S} out (after_read f)
@@ -447,6 +447,10 @@ module _ {S : Type 0} {out : List ℕ} (calls : Calls S) where
     record_run_appends : (rules : List Rule) (i : Item) → Appends out (one_record calls eres functions rules i)
     record_run_appends rules i = bind_appends (reads_appends i) (λ _. rules_appends 0 rules)
 
+    actions_appends : (list : List Stmts) → Appends out (actions calls eres functions list)
+    actions_appends [] = give_appends (tt {0})
+    actions_appends (a ∷ rest) = bind_appends (does_appends a) (λ _. actions_appends rest)
+
 -- ---- ends
 
 module _ {S : Type 0} (out : List ℕ) where
@@ -461,7 +465,7 @@ module _ {S : Type 0} (out : List ℕ) where
   end_appends (gives x m) = refl
   end_appends (halts h s state o) = halt_end_appends h s state o
 
-  part_appends : {X : Type 0} {part : Part S X} → Appends out part → (budget : ℕ) (e : End S) → let f = with_output_before out e in run_part part budget f.world f.state f.output ≡ with_output_before out (run_part part budget e.world e.state e.output)
+  pub part_appends : {X : Type 0} {part : Part S X} → Appends out part → (budget : ℕ) (e : End S) → let f = with_output_before out e in run_part part budget f.world f.state f.output ≡ with_output_before out (run_part part budget e.world e.state e.output)
   part_appends {part = part} h budget e =
       let m : Moment S = record { world = e.world; state = e.state; frame = []; arrays = []; output = e.output; left = budget } in
       ap end_of (h.same m) ∙ end_appends (part m)
@@ -477,6 +481,13 @@ module _ {S : Type 0} (out : List ℕ) where
   skip_appends true e f e' f' h k = h
   skip_appends false e f e' f' h k = k
 
+  at_end_appends : (left : Left) (e : End S) → at_end left (with_output_before out e) ≡ finish_with_output_before out (at_end left e)
+  at_end_appends through e = refl
+  at_end_appends records.next_file e = refl
+  at_end_appends (records.exit n) e = refl
+  at_end_appends (records.fault f) e = refl
+  at_end_appends clash e = refl
+
   module _ (calls : Calls S) (eres : List (List ℕ)) (program : Code) (budget : ℕ) where
     pub records_append : (skip : Option ℕ) (items : List Item) (e : End S) → records_from calls eres program budget skip (with_output_before out e) items ≡ with_output_before out (records_from calls eres program budget skip e items)
     records_append skip [] e = refl
@@ -490,3 +501,16 @@ module _ {S : Type 0} (out : List ℕ) where
         (records_append skip is' e)
         (ap (λ x. behind go i.file x.left x) (part_appends (record_run_appends calls eres program.functions program.rules i) budget e)
         ∙ behind_appends go i.file (one e).left (one e) (λ s. records_append s is' (one e)))
+
+    ends_append : (e : End S) → ends_from calls eres program budget (with_output_before out e) ≡ finish_with_output_before out (ends_from calls eres program budget e)
+    ends_append e =
+        let r = run_part (actions calls eres program.functions program.ends) budget e.world e.state e.output in
+        ap (λ x. at_end x.left x) (part_appends (actions_appends calls eres program.functions program.ends) budget e)
+        ∙ at_end_appends r.left r
+
+    pub behind_records_append : (left : Left) (e : End S) → behind_records calls eres program budget left (with_output_before out e) ≡ finish_with_output_before out (behind_records calls eres program budget left e)
+    behind_records_append through e = ends_append e
+    behind_records_append records.next_file e = ends_append e
+    behind_records_append (records.exit n) e = ends_append e
+    behind_records_append (records.fault f) e = refl
+    behind_records_append clash e = refl

@@ -6,7 +6,7 @@ ghost use Rattle.pawk_meaning.specs.Laws.{StatementsLaw, RecordLaw, ActionsLaw, 
 ghost use Rattle.pawk_meaning.specs.Laws.{RunLaw, NeverDisallowsLaw};
 ghost use Rattle.pawk_meaning.specs.Steady.{RecordKeepsLaw, RecordsKeepLaw, RecordsFollowLaw};
 ghost use Rattle.pawk_meaning.specs.Steady.{RecordsResumeLaw, ReadsAnewLaw};
-ghost use Rattle.pawk_meaning.specs.Outputs.{OutputIsAppendedLaw};
+ghost use Rattle.pawk_meaning.specs.Outputs.{OutputIsAppendedLaw, OutputStaysLaw};
 
 /// Two worlds for each setting, as their definitions have them: the meaning of each one's calls, a
 /// relation of their states, an order of each one's states in which its calls go on, what a program
@@ -109,7 +109,8 @@ pub fn never_disallows<P: Policy>()
 {}
 
 /// What was written before records stays in front of what they write, and no record of any program
-/// looks at it.
+/// looks at it; and the same of END.
 pub fn output_is_appended<P: Policy>()
-    ensures { (i : P.Setting) → OutputIsAppendedLaw (P.calls i) }
+    ensures records { (i : P.Setting) → OutputIsAppendedLaw (P.calls i) }
+    ensures behind { (i : P.Setting) → OutputStaysLaw (P.calls i) }
 {}

@@ -22,7 +22,7 @@ use Rattle.pawk_chunks.specs.Phases.{Phase, FaultsOrCreates, in_order}
 use Rattle.pawk_gather.specs.Gathered.{behind_output, ResultsLaw}
 use Rattle.pawk_gather.specs.Results.{chunk_of}
 use Rattle.pawk_threads.specs.declared.report.Refusal.TheVariants as refusal
-use Rattle.pawk_threads.specs.Begun.{IsTaken}
+use Rattle.pawk_threads.specs.Prologue.{IsTaken}
 use Rattle.pawk_threads.specs.Routes.{phase_behind}
 use Rattle.pawk_threads.proofs.EndLemmas.{phase_of_end, by_taken}
 

@@ -19,7 +19,7 @@ use Rattle.pawk_meaning.specs.Runs.{Finish, behind_begin, records_by_rs, ends_fr
 use Rattle.pawk_chunks.specs.Phases.{FaultsOrCreates}
 use Rattle.pawk_one.specs.Ends.{Answers}
 use Rattle.pawk_one.specs.declared.outcome.Outcome.{Outcome}
-use Rattle.pawk_threads.specs.Begun.{Goes}
+use Rattle.pawk_threads.specs.Prologue.{Goes}
 use Rattle.pawk_threads.specs.Routes.{HasRecords, IsRedone, phase_behind, separator_of}
 use Rattle.pawk_threads.specs.declared.report.Route.TheVariants.{Parallel}
 use Rattle.pawk_threads.proofs.EndLemmas.{chosen}

@@ -1,3 +1,3 @@
 pub mod Routes
 pub mod Cuttings
-pub mod Begun
+pub mod Prologue

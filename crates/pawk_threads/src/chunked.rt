@@ -12,10 +12,10 @@ ghost use Rattle.pawk_admit.specs.Roles.{roles_view};
 ghost use Rattle.pawk_chunks.specs.Phases.{FaultsOrCreates};
 ghost use Rattle.pawk_crew.specs.Task.{IsChunked, IsCrew};
 ghost use Rattle.pawk_one.specs.Ends.{Answers};
-ghost use Rattle.pawk_threads.specs.Begun.{IsTaken, end_of};
+ghost use Rattle.pawk_threads.specs.Prologue.{IsTaken, end_of};
 ghost use Rattle.pawk_threads.specs.Routes.{phase_behind};
 
-use crate::begun::Begun;
+use crate::prologue::Prologue;
 use crate::merging::{go_on_merged, lacks_memory};
 use crate::report::Refusal;
 use pawk_admit::Roles;
@@ -35,7 +35,7 @@ use std::thread::Threads;
 pub(crate) fn run_plan<'a, G: Gate + Sync, R: Threads + Wait>(
     rt: &R,
     job: Job<'_>,
-    begun: Begun<'a>,
+    prologue: Prologue<'a>,
     roles: &Roles,
     source: Chunked<'_, 'a>,
     workers: usize,
@@ -44,37 +44,37 @@ pub(crate) fn run_plan<'a, G: Gate + Sync, R: Threads + Wait>(
     requires chunked { IsChunked source }
     requires few { length source.plan.now ≤ most_chunks }
     requires workers { IsCrew workers }
-    requires taken { IsTaken source.rs.now (end_of begun) }
+    requires taken { IsTaken source.rs.now (end_of prologue) }
     requires admissible { IsAdmissible (code_view job.code.now) }
     requires roles { AreRoles (Occurs (code_view job.code.now)) (roles_view roles.now) }
     ensures refused { IfErr result (λ e. e ≢ Refusal.Cutting) }
     ensures went { IfOk result (λ o. MatchOption o
         (FaultsOrCreates (phase_behind (code_view job.entry.code.now) (roles_view roles.now)
-        job.entry.budget (end_of begun.entry))
+        job.entry.budget (end_of prologue.entry))
         (items source.entry.rs.now (files_of source.entry.input.now)))
         (λ outcome. Answers (records_by_rs calls (code_view job.entry.code.now).expressions
         (code_view job.entry.code.now) job.entry.budget source.entry.rs.now
-        (files_of source.entry.input.now) (end_of begun.entry)) outcome
+        (files_of source.entry.input.now) (end_of prologue.entry)) outcome
         × ¬ FaultsOrCreates (phase_behind (code_view job.entry.code.now) (roles_view roles.now)
-        job.entry.budget (end_of begun.entry))
+        job.entry.budget (end_of prologue.entry))
         (items source.entry.rs.now (files_of source.entry.input.now)))) }
 {
-    let mut begun = begun;
-    let alloc = begun.run.alloc;
-    if !may_run(roles, &begun.globals)? {
+    let mut prologue = prologue;
+    let alloc = prologue.run.alloc;
+    if !may_run(roles, &prologue.globals)? {
         return Err(Refusal::Memory);
     }
     let opening = Opening {
         job,
-        globals: &begun.globals,
+        globals: &prologue.globals,
         roles,
-        state: &begun.run.state,
+        state: &prologue.run.state,
     };
     let results = run_chunks(rt, alloc, opening, source, workers, gate)?;
     results_merge();
-    let state = mem::replace(&mut begun.run.state, RecordState::new(alloc, 0)?);
-    match merge_results(alloc, &mut begun.globals, state, results) {
-        Ok(merged) => Ok(Some(go_on_merged(job, begun, merged)?)),
+    let state = mem::replace(&mut prologue.run.state, RecordState::new(alloc, 0)?);
+    match merge_results(alloc, &mut prologue.globals, state, results) {
+        Ok(merged) => Ok(Some(go_on_merged(job, prologue, merged)?)),
         Err(stop) => {
             if lacks_memory(stop) {
                 Err(Refusal::Memory)

@@ -5,12 +5,13 @@ ghost use Rattle.pawk_code.specs.ProgramViews.{code_view};
 ghost use Rattle.pawk_store.specs.Globals.{calls};
 ghost use Rattle.pawk_store.specs.StateViews.{state_of};
 ghost use Rattle.pawk_meaning.specs.Runs.{behind_records};
-ghost use Rattle.pawk_join.specs.MergeViews.{in_a_row, leaving_view};
+ghost use Rattle.pawk_meaning.specs.Outputs.{in_a_row};
+ghost use Rattle.pawk_join.specs.MergeViews.{leaving_view};
 ghost use Rattle.pawk_join.specs.MergeViews as merges;
 ghost use Rattle.pawk_one.specs.Ends.{Answers, left_view};
 ghost use Rattle.pawk_gather.specs.Gathered.{behind_output};
 
-use crate::begun::Begun;
+use crate::prologue::Prologue;
 use pawk_join::{JoinStop, Leaving, Merged};
 use pawk_one::{Job, Left, Outcome, run_behind_records};
 use std::alloc::AllocError;
@@ -53,20 +54,20 @@ fn push_texts(output: &mut Vec<u8>, texts: &[Vec<u8>]) -> Result<(), AllocError>
 /// Goes on behind records that were merged into the globals.
 pub(crate) fn go_on_merged<'a>(
     job: Job<'_>,
-    begun: Begun<'a>,
+    prologue: Prologue<'a>,
     merged: Merged<'a>,
 ) -> Result<Outcome, AllocError>
     ensures { IfOk result (Answers (behind_records calls
         (code_view job.entry.code.now).expressions (code_view job.entry.code.now)
         job.entry.budget (leaving_view merged.entry.leaving)
-        (behind_output begun.entry.run.output.items
-        (merges.end_view begun.entry.globals merged.entry)))) }
+        (behind_output prologue.entry.run.output.items
+        (merges.end_view prologue.entry.globals merged.entry)))) }
 {
-    let Begun {
+    let Prologue {
         globals,
         run,
         left: _,
-    } = begun;
+    } = prologue;
     let (mut globals, mut run) = (globals, run);
     push_texts(&mut run.output, merged.outputs.as_slice())?;
     let _before = mem::replace(&mut run.state, merged.state);

@@ -9,13 +9,13 @@ ghost use Rattle.pawk_admit.specs.Reaches.{Occurs};
 ghost use Rattle.pawk_admit.specs.Roles.{roles_view};
 ghost use Rattle.pawk_one.specs.Ends.{Answers};
 ghost use Rattle.pawk_crew.specs.Task.{IsCrew};
-ghost use Rattle.pawk_threads.specs.Begun.{Goes, end_of};
+ghost use Rattle.pawk_threads.specs.Prologue.{Goes, end_of};
 ghost use Rattle.pawk_threads.specs.Cuttings.{HasNoPlan, IsSized};
 ghost use Rattle.pawk_threads.specs.Routes.{HasRecords, IsRoute, begin_end, whole_run};
 
-use crate::begun::{Begun, begin, go_on, has_records};
 use crate::chunked::run_plan;
 use crate::cutting::{Way, plan_of};
+use crate::prologue::{Prologue, begin, go_on, has_records};
 use crate::report::{Refusal, Report, Route};
 use pawk_admit::{Reason, Roles, admit};
 use pawk_crew::{Chunked, Gate};
@@ -41,7 +41,7 @@ fn is_memory(reason: Reason) -> bool
 fn run_admitted<G: Gate + Sync, R: Threads + Wait>(
     rt: &R,
     job: Job<'_>,
-    begun: Begun<'_>,
+    prologue: Prologue<'_>,
     roles: &Roles,
     input: &mut Input,
     way: Way<'_>,
@@ -49,34 +49,34 @@ fn run_admitted<G: Gate + Sync, R: Threads + Wait>(
 ) -> Result<Option<(Outcome, Route)>, Refusal>
     requires sized { IsSized way.cutting.now }
     requires workers { IsCrew way.workers }
-    requires records { HasRecords (code_view job.code.now) (end_of begun) }
-    requires unread { begun.run.state.nr ≡ 0 }
+    requires records { HasRecords (code_view job.code.now) (end_of prologue) }
+    requires unread { prologue.run.state.nr ≡ 0 }
     requires admissible { IsAdmissible (code_view job.code.now) }
     requires roles { AreRoles (Occurs (code_view job.code.now)) (roles_view roles.now) }
     ensures went { IfOk result (Goes (code_view job.entry.code.now) job.entry.budget
-        (files_of input.old) (end_of begun.entry)) }
+        (files_of input.old) (end_of prologue.entry)) }
     ensures accepted { IfOk result (λ _. ¬ HasNoPlan (code_view job.entry.code.now)
-        (end_of begun.entry) (files_of input.old) way.entry.cutting.now) }
+        (end_of prologue.entry) (files_of input.old) way.entry.cutting.now) }
     ensures refused { result ≡ Err Refusal.Cutting → HasNoPlan (code_view job.entry.code.now)
-        (end_of begun.entry) (files_of input.old) way.entry.cutting.now }
+        (end_of prologue.entry) (files_of input.old) way.entry.cutting.now }
     ensures same { files_of input.new ≡ files_of input.old }
 {
-    let Begun { globals, run, left } = begun;
+    let Prologue { globals, run, left } = prologue;
     let mut run = run;
     let rs = take_separator(&globals, &mut run)?;
-    let begun = Begun { globals, run, left };
+    let prologue = Prologue { globals, run, left };
     if rs.len() > 1 {
-        let outcome = go_on(job, begun, input)?;
+        let outcome = go_on(job, prologue, input)?;
         return Ok(Some((outcome, Route::Redo)));
     }
     input.mend(rs.as_slice())?;
-    let plan = plan_of(begun.run.alloc, input, rs.as_slice(), way.cutting)?;
+    let plan = plan_of(prologue.run.alloc, input, rs.as_slice(), way.cutting)?;
     let source = Chunked {
         input,
         plan: &plan,
         rs: rs.as_slice(),
     };
-    match run_plan(rt, job, begun, roles, source, way.workers, gate)? {
+    match run_plan(rt, job, prologue, roles, source, way.workers, gate)? {
         Some(outcome) => Ok(Some((outcome, Route::Parallel))),
         None => Ok(None),
     }
@@ -106,18 +106,18 @@ fn run_once<G: Gate + Sync, R: Threads + Wait>(
         (files_of input.old) way.entry.cutting.now }
     ensures same { files_of input.new ≡ files_of input.old }
 {
-    let begun = begin(alloc, job, assignments)?;
-    if !has_records(job, &begun) {
-        let outcome = go_on(job, begun, input)?;
+    let prologue = begin(alloc, job, assignments)?;
+    if !has_records(job, &prologue) {
+        let outcome = go_on(job, prologue, input)?;
         return Ok(Some((outcome, Route::NoMain)));
     }
     match admit(alloc, job.code) {
-        Ok(roles) => run_admitted(rt, job, begun, &roles, input, way, gate),
+        Ok(roles) => run_admitted(rt, job, prologue, &roles, input, way, gate),
         Err(reason) => {
             if is_memory(reason) {
                 return Err(Refusal::Memory);
             }
-            let finish = go_on(job, begun, input)?;
+            let finish = go_on(job, prologue, input)?;
             Ok(Some((finish, Route::NotAdmitted(reason))))
         }
     }

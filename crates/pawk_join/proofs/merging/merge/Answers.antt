@@ -4,7 +4,8 @@ use Rattle.pawk_store.specs.Globals.{Globals}
 use Rattle.pawk_store.specs.StateViews.{state_of}
 use Rattle.pawk_meaning.specs.Records.{End}
 use Rattle.pawk_join.specs.Merges.{before_chunks, merge}
-use Rattle.pawk_join.specs.MergeViews.{part_view, leaving_view, in_a_row, Continues}
+use Rattle.pawk_meaning.specs.Outputs.{in_a_row}
+use Rattle.pawk_join.specs.MergeViews.{part_view, leaving_view, Continues}
 use Rattle.pawk_join.proofs.MergeLemmas.{goes_on, ends, stops, stops_merge, same_end, no_items}
 use Rattle.pawk_join.proofs.merging.merge.Goals as goal
 use Rattle.pawk_join.proofs.merging.merge.Goals.{in-None, in-Some+in_ok-take_part+then-not-branch}

@@ -2,7 +2,8 @@ use Rattle.std.proofs.Common.{◌≡◌, length, map}
 use Rattle.std.specs.Vec.Iter.{into_iter_items, into_iter_len}
 use Rattle.pawk_store.specs.StateViews.{state_of}
 use Rattle.pawk_join.specs.Merges.{before_chunks, merge}
-use Rattle.pawk_join.specs.MergeViews.{part_view, leaving_view, in_a_row}
+use Rattle.pawk_meaning.specs.Outputs.{in_a_row}
+use Rattle.pawk_join.specs.MergeViews.{part_view, leaving_view}
 use Rattle.pawk_join.proofs.merging.merge.Given as goal
 
 abbrev pub invariant-loop-part : goal.invariant-loop-part

@@ -10,7 +10,7 @@ use Rattle.pawk_join.specs.Merges.{merge, before_chunks}
 use Rattle.pawk_join.specs.MergeViews.{end_view}
 use Rattle.pawk_one.specs.Ends.{Answers}
 use Rattle.pawk_gather.specs.Results.{chunk_of}
-use Rattle.pawk_threads.specs.Begun.{end_of}
+use Rattle.pawk_threads.specs.Prologue.{end_of}
 use Rattle.pawk_threads.proofs.MergedLemmas.{law_of, merged, no_cutting, stopped, stop_told}
 use Rattle.pawk_threads.proofs.chunked.run_plan.Goals as goal
 
@@ -26,7 +26,7 @@ returns-in-Ok-clause-went g c =
     let budget = c.args.job.budget in
     let rs = c.args.source.rs.now in
     let files = files_of c.args.source.input.now in
-    let e = end_of c.args.begun in
+    let e = end_of c.args.prologue in
     let results = c.in_ok-results.results.items in
     let may = c.in_ok-may_run.ensures.ready c.if-not-branch.false in
     let law = law_of code roles budget rs files e c.requires.taken c.results_merge.ensures may c.requires.admissible c.requires.roles c.args.source.plan.now c.requires.chunked.planned results c.in_ok-results.ensures in
@@ -43,7 +43,7 @@ returns g c =
     let budget = c.args.job.budget in
     let rs = c.args.source.rs.now in
     let files = files_of c.args.source.input.now in
-    let e = end_of c.args.begun in
+    let e = end_of c.args.prologue in
     let results = c.in_ok-results.results.items in
     let may = c.in_ok-may_run.ensures.ready c.if-not-branch.false in
     let law = law_of code roles budget rs files e c.requires.taken c.results_merge.ensures may c.requires.admissible c.requires.roles c.args.source.plan.now c.requires.chunked.planned results c.in_ok-results.ensures in

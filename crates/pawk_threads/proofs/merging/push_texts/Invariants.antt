@@ -1,5 +1,5 @@
 use Rattle.std.proofs.Common.{◌≡◌, ◌++◌, take}
-use Rattle.pawk_join.specs.MergeViews.{in_a_row}
+use Rattle.pawk_meaning.specs.Outputs.{in_a_row}
 use Rattle.pawk_threads.proofs.merging.push_texts.Given as goal
 
 abbrev pub invariant-loop-text : goal.invariant-loop-text

@@ -7,7 +7,7 @@ ghost use Rattle.pawk_store.specs.Globals.{calls};
 ghost use Rattle.pawk_store.specs.Openings.{pairs_of};
 ghost use Rattle.pawk_meaning.specs.Runs as spec;
 ghost use Rattle.pawk_one.specs.Ends.{Answers, left_view};
-ghost use Rattle.pawk_threads.specs.Begun.{end_of};
+ghost use Rattle.pawk_threads.specs.Prologue.{end_of};
 ghost use Rattle.pawk_threads.specs.Routes.{HasRecords, begin_end};
 
 use pawk_input::Input;
@@ -19,7 +19,7 @@ use std::alloc::{AllocError, Global};
 
 /// What BEGIN leaves.
 #[derive(Drop)]
-pub(crate) struct Begun<'a> {
+pub(crate) struct Prologue<'a> {
     pub globals: Globals,
     pub run: Run<'a>,
     pub left: Left,
@@ -30,24 +30,24 @@ pub(crate) fn begin<'a>(
     alloc: Global,
     job: Job<'_>,
     assignments: &[Assignment],
-) -> Result<Begun<'a>, AllocError>
-    ensures { IfOk result (λ begun.
+) -> Result<Prologue<'a>, AllocError>
+    ensures { IfOk result (λ prologue.
         begin_end (code_view job.entry.code.now) job.entry.budget (pairs_of assignments.now)
-        ≡ end_of begun) }
+        ≡ end_of prologue) }
 {
     let names = job.code.scalars.as_slice();
     let arrays = job.code.arrays.len();
     let mut globals = Globals::open(alloc, names, arrays, assignments)?;
     let mut run = opening_run(alloc, job)?;
     let left = run_begin(job, &mut globals, &mut run)?;
-    Ok(Begun { globals, run, left })
+    Ok(Prologue { globals, run, left })
 }
 
 /// Whether records are read behind BEGIN that was left so.
-pub(crate) fn has_records(job: Job<'_>, begun: &Begun<'_>) -> bool
-    ensures { IsTrue result ↔ HasRecords (code_view job.entry.code.now) (end_of begun.now) }
+pub(crate) fn has_records(job: Job<'_>, prologue: &Prologue<'_>) -> bool
+    ensures { IsTrue result ↔ HasRecords (code_view job.entry.code.now) (end_of prologue.now) }
 {
-    match begun.left {
+    match prologue.left {
         Left::Through => job.reads_records(),
         Left::NextFile => false,
         Left::Exit(_) => false,
@@ -59,15 +59,16 @@ pub(crate) fn has_records(job: Job<'_>, begun: &Begun<'_>) -> bool
 /// Goes on behind BEGIN on this thread.
 pub(crate) fn go_on(
     job: Job<'_>,
-    begun: Begun<'_>,
+    prologue: Prologue<'_>,
     input: &mut Input,
 ) -> Result<Outcome, AllocError>
     ensures outcome { IfOk result (Answers (spec.behind_begin calls
         (code_view job.entry.code.now).expressions (code_view job.entry.code.now)
-        job.entry.budget (files_of input.old) (left_view begun.entry.left) (end_of begun.entry))) }
+        job.entry.budget (files_of input.old) (left_view prologue.entry.left)
+        (end_of prologue.entry))) }
     ensures same { files_of input.new ≡ files_of input.old }
 {
-    let Begun { globals, run, left } = begun;
+    let Prologue { globals, run, left } = prologue;
     let mut globals = globals;
     let (output, ending) = run_behind_begin(job, left, input, &mut globals, run)?;
     Ok(Outcome {

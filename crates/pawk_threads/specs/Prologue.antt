@@ -8,11 +8,11 @@ use Rattle.pawk_meaning.specs.Runs.{behind_begin, take_separator}
 use Rattle.pawk_one.specs.Ends.{Answers, end_view}
 use Rattle.pawk_one.specs.declared.outcome.Outcome.{Outcome}
 use Rattle.pawk_threads.specs.Routes.{IsRoute, separator_of}
-use Rattle.pawk_threads.specs.declared.begun.Begun.{Begun}
+use Rattle.pawk_threads.specs.declared.prologue.Prologue.{Prologue}
 use Rattle.pawk_threads.specs.declared.report.Route.{Route}
 use Rattle.pawk_threads.specs.declared.report.Route.TheVariants.{Redo}
 
-abbrev pub end_of : Begun → End Globals
+abbrev pub end_of : Prologue → End Globals
 end_of b = end_view b.globals b.run b.left
 
 -- no record was read, and this RS, which BEGIN left, was taken

@@ -1,0 +1,3 @@
+pub mod SizeLemmas
+pub mod PlaceLemmas
+pub mod CountLemmas
