@@ -1,6 +1,5 @@
 //! What the command does.
 
-use crate::chunks::{Shape, run_chunks};
 use crate::command_line::{Request, Source, read_words};
 use crate::files::read_file;
 use crate::reports::{Stop, tell_ending, tell_stop};
@@ -31,16 +30,13 @@ fn do_request<R, I, O, E>(
     errors: &mut E,
 ) -> Result<io::Result<u8>, Stop>
 where
-    R: Files + AllocGlobal + Threads + Wait,
+    R: Files + AllocGlobal + Threads + Wait + Sync,
     I: Read + Drop,
     O: Write,
     E: Write,
 {
     let text = program_text(rt, request.program)?;
-    let end = match Shape::of(rt.alloc(), request, text.as_slice())? {
-        Shape::Chunks => run_chunks(rt, request, text.as_slice(), input, output)?,
-        Shape::Other => run_whole(rt, request, text.as_slice(), input, output)?,
-    };
+    let end = run_whole(rt, request, text.as_slice(), input, output)?;
     if output.flush().is_err() {
         return Err(Stop::Write);
     }
@@ -55,7 +51,7 @@ fn do_words<R, I, O, E>(
     errors: &mut E,
 ) -> Result<io::Result<u8>, Stop>
 where
-    R: Files + AllocGlobal + Threads + Wait,
+    R: Files + AllocGlobal + Threads + Wait + Sync,
     I: Read + Drop,
     O: Write,
     E: Write,
@@ -74,7 +70,7 @@ pub(crate) fn command<R, I, O, E>(
     mut errors: E,
 ) -> u8
 where
-    R: Files + AllocGlobal + Threads + Wait,
+    R: Files + AllocGlobal + Threads + Wait + Sync,
     I: Read + Drop,
     O: Write + Drop,
     E: Write + Drop,

@@ -1,7 +1,7 @@
 //! The files that are the input.
 
 use crate::reports::Stop;
-use pawk_par::{Input, TooLarge};
+use pawk_input::{Input, TooLarge};
 use std::alloc::Global;
 use std::fs::File;
 use std::io::Read;

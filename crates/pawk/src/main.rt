@@ -1,7 +1,6 @@
 //! `pawk`: awk in whole numbers, whose main rules run over chunks of the input.
 #![tactic(auto)]
 
-mod chunks;
 mod command;
 mod command_line;
 mod deep;

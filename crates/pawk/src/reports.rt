@@ -2,10 +2,9 @@
 
 use clap::Error;
 use clap::error::ErrorKind;
-use pawk_code::program::Code;
-use pawk_one::{Ending as OneEnding, Place as OnePlace};
-use pawk_par::{Ending, Place, Route, StreamRefusal};
+use pawk_one::{Ending, Place};
 use pawk_syntax::SyntaxRefusal;
+use pawk_threads::{Refusal, Route};
 use std::alloc::{AllocError, AllocFailed, Global};
 use std::io;
 use std::io::Write;
@@ -55,6 +54,16 @@ impl From<Error> for Stop {
     }
 }
 
+impl From<Refusal> for Stop {
+    fn from(refusal: Refusal) -> Stop {
+        match refusal {
+            Refusal::Memory => Stop::Memory,
+            Refusal::Thread => Stop::Thread,
+            Refusal::Cutting => Stop::Cutting,
+        }
+    }
+}
+
 /// A file's name as messages show it: with `?` for each control character.
 fn printable(alloc: Global, name: &str) -> Result<String, AllocError> {
     let mut text = String::with_capacity(alloc, name.len())?;
@@ -77,20 +86,6 @@ impl Stop {
         match printable(alloc, name) {
             Ok(name) => Stop::Read(name),
             Err(_) => Stop::Memory,
-        }
-    }
-
-    /// The same of a run over standard input, which has no name.
-    pub(crate) fn of_streams(alloc: Global, refusal: StreamRefusal) -> Stop {
-        match refusal {
-            StreamRefusal::Memory => Stop::Memory,
-            StreamRefusal::Thread => Stop::Thread,
-            StreamRefusal::Cutting => Stop::Cutting,
-            StreamRefusal::Program(_) => Stop::Memory,
-            StreamRefusal::Settings(refusal) => Stop::Settings(refusal as u8),
-            StreamRefusal::Read => Stop::Read(String::new(alloc)),
-            StreamRefusal::Write(_) => Stop::Write,
-            StreamRefusal::Input => Stop::Input,
         }
     }
 }
@@ -147,59 +142,49 @@ fn tell_line<O: Write, E: Write>(
     Ok(0)
 }
 
-/// How a run ended, and the way it went, as far as it is told.
+/// How a run ended, and which way it went.
 #[derive(Clone, Copy)]
 pub(crate) struct End {
-    ending: Ending,
-    route: Option<&'static str>,
+    pub(crate) ending: Ending,
+    pub(crate) route: Route,
 }
 
-impl End {
-    /// The end of a run over chunks.
-    pub(crate) fn of_chunks(ending: Ending, route: Route) -> End {
-        let route = match route {
-            Route::Redo => "redo",
-            Route::Parallel => "parallel",
-        };
-        End {
-            ending,
-            route: Some(route),
+/// Tells which way a run went.
+fn tell_route<E: Write>(route: Route, errors: &mut E) -> io::Result<()> {
+    match route {
+        Route::NoMain => errors.write_all(b"pawk: route no main\n"),
+        Route::NotAdmitted(reason) => {
+            let number = reason.number();
+            writeln!(errors, "pawk: route not admitted {number}")
         }
-    }
-
-    /// The end of a run of one thread. The globals of one thread allow all that is asked of them, so it is never disallowed.
-    pub(crate) fn of_one(ending: OneEnding, code: &Code) -> Result<End, Stop> {
-        let has_records = !code.rules.is_empty() || !code.ends.is_empty();
-        let ending = match ending {
-            OneEnding::Status(status) => Ending::Status(status),
-            OneEnding::Fault(fault, OnePlace::Begin) => Ending::Fault(fault, Place::Begin),
-            OneEnding::Fault(fault, OnePlace::Record(n)) => Ending::Fault(fault, Place::Record(n)),
-            OneEnding::Fault(fault, OnePlace::End) => Ending::Fault(fault, Place::End),
-            OneEnding::Disallowed => return Err(Stop::Memory),
-        };
-        Ok(End {
-            ending,
-            route: if has_records { None } else { Some("no main") },
-        })
+        Route::Redo => errors.write_all(b"pawk: route redo\n"),
+        Route::Parallel => errors.write_all(b"pawk: route parallel\n"),
     }
 }
 
-/// Tells the route where it is asked for, and a fault, and gives the exit status.
+/// Tells a fault and where it came.
+fn tell_fault<E: Write>(name: &str, place: Place, errors: &mut E) -> io::Result<()> {
+    match place {
+        Place::Begin => writeln!(errors, "pawk: fault {name} in BEGIN"),
+        Place::Record(number) => writeln!(errors, "pawk: fault {name} at record {number}"),
+        Place::End => writeln!(errors, "pawk: fault {name} in END"),
+    }
+}
+
+/// Tells the route where it is asked for, and a fault, and gives the exit status. The globals of a run
+/// allow all that is asked of them, so it is never disallowed.
 pub(crate) fn tell_ending<E: Write>(end: End, why: bool, errors: &mut E) -> io::Result<u8> {
-    if let Some(route) = end.route {
-        if why {
-            writeln!(errors, "pawk: route {route}")?;
-        }
+    if why {
+        tell_route(end.route, errors)?;
     }
     match end.ending {
         Ending::Status(status) => Ok(status),
         Ending::Fault(fault, place) => {
-            let name = fault.name();
-            match place {
-                Place::Begin => writeln!(errors, "pawk: fault {name} in BEGIN")?,
-                Place::Record(number) => writeln!(errors, "pawk: fault {name} at record {number}")?,
-                Place::End => writeln!(errors, "pawk: fault {name} in END")?,
-            }
+            tell_fault(fault.name(), place, errors)?;
+            Ok(2)
+        }
+        Ending::Disallowed => {
+            errors.write_all(b"pawk: refused: memory\n")?;
             Ok(2)
         }
     }

@@ -1,12 +1,12 @@
-//! Programs that are run on one thread.
+//! Whole runs: from a program's text to its output.
 
 use crate::command_line::Request;
-use crate::deep::run_deep;
+use crate::deep::{Division, run_deep};
 use crate::files::{read_files, read_stream};
 use crate::reports::{End, Stop};
 use pawk_code::program::Code;
 use pawk_one::Job;
-use pawk_par::Input;
+use pawk_input::Input;
 use pawk_resolve_program::program::resolve;
 use pawk_settings::{Settings, SettingsRefusal};
 use pawk_syntax::{Program, SyntaxRefusal, parse};
@@ -78,7 +78,21 @@ fn open_input<R: Files + AllocGlobal, I: Read + Drop>(
     read_files(rt, &request.files)
 }
 
-/// Runs the program of this text on one thread, and writes its output.
+/// How the input is divided. A program with functions has one worker, which is the run's own thread:
+/// the stack of no other is deep enough for calls inside each other.
+fn division(request: &Request<'_>, code: &Code) -> Division {
+    let workers = if code.functions.is_empty() {
+        usize::from(request.workers)
+    } else {
+        1
+    };
+    Division {
+        chunk: request.chunk,
+        workers,
+    }
+}
+
+/// Runs the program of this text, and writes its output.
 pub(crate) fn run_whole<R, I, O>(
     rt: &R,
     request: &Request<'_>,
@@ -87,7 +101,7 @@ pub(crate) fn run_whole<R, I, O>(
     output: &mut O,
 ) -> Result<End, Stop>
 where
-    R: Files + AllocGlobal + Threads + Wait,
+    R: Files + AllocGlobal + Threads + Wait + Sync,
     I: Read + Drop,
     O: Write,
 {
@@ -100,9 +114,13 @@ where
         code: &code,
         budget: settings.budget(),
     };
-    let (shown, ending) = run_deep(rt, alloc, job, settings.assignments(), &mut input)?;
-    if output.write_all(&shown).is_err() {
+    let division = division(request, &code);
+    let shown = run_deep(rt, alloc, job, settings.assignments(), &mut input, division)?;
+    if output.write_all(&shown.output).is_err() {
         return Err(Stop::Write);
     }
-    End::of_one(ending, &code)
+    Ok(End {
+        ending: shown.ending,
+        route: shown.route,
+    })
 }
