@@ -84,11 +84,7 @@ pub(crate) fn run_deep<R: Threads + Wait + Sync>(
     input: &mut Input,
     division: Division,
 ) -> Result<Shown, Stop> {
-    thread::scope(
-        thread::scope_env(),
-        rt,
-        |scope| -> Result<Shown, Stop> {
-            show_in(scope, rt, alloc, job, assignments, input, division)
-        },
-    )
+    thread::scope(thread::scope_env(), rt, |scope| -> Result<Shown, Stop> {
+        show_in(scope, rt, alloc, job, assignments, input, division)
+    })
 }

@@ -15,8 +15,8 @@ ghost use Rattle.pawk_one.specs.Ends.{Answers};
 ghost use Rattle.pawk_threads.specs.Prologue.{IsTaken, end_of};
 ghost use Rattle.pawk_threads.specs.Routes.{phase_behind};
 
-use crate::prologue::Prologue;
 use crate::merging::{go_on_merged, lacks_memory};
+use crate::prologue::Prologue;
 use crate::report::Refusal;
 use pawk_admit::Roles;
 use pawk_chunk::Opening;
