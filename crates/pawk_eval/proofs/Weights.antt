@@ -79,9 +79,9 @@ abbrev mutual
 abbrev pub simple_weight : Simple → ℕ
 simple_weight (drop e) = weight e + 1
 simple_weight (set p e) = place_weight p + weight e + 2
-simple_weight (add s p e) = place_weight p + weight e + 2
+simple_weight (add s p e) = place_weight p + weight e + 4
 simple_weight (count s p) = place_weight p + 2
-simple_weight (print calm es) = row_weight es + 2
+simple_weight (print calm es) = row_weight es + 3
 simple_weight (printf f calm es) = format_weight f + row_weight es + 3
 simple_weight (delete a ks) = row_weight ks + 2
 simple_weight (clear a) = 1

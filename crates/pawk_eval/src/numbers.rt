@@ -38,6 +38,7 @@ use pawk_world::{Halt, World, sum};
 
 /// What gives a number.
 #[cycle(evaluate)]
+#[inline(always)]
 pub(crate) fn numeric<W: World>(
     context: Context<'_>,
     depth: u64,

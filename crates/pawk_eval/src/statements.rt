@@ -8,7 +8,7 @@ ghost use Rattle.pawk_code.specs.Expressions as codes;
 ghost use Rattle.pawk_code.specs.ExpressionViews.{format_view, place_view, view, views};
 ghost use Rattle.pawk_code.specs.StatementViews.{leave_view, seen, simple_view, stmt_view};
 ghost use Rattle.pawk_code.specs.Statements as actions;
-ghost use Rattle.pawk_meaning.specs.Parts.{bind};
+ghost use Rattle.pawk_meaning.specs.Parts.{as_number, bind};
 ghost use Rattle.pawk_meaning.specs.Meaning.{
   act,
   aim_of,
@@ -43,9 +43,9 @@ use pawk_code::name::Array;
 use pawk_code::statement::{Leave, Simple, Statement};
 use pawk_code::word::Sign;
 use pawk_places::{
-    Run, add_to_field_key, add_to_number, add_to_place, clear_array, element_target, give_back,
-    give_back_target, print_alone, print_bytes, print_line, remove_element, table_of, take_buffer,
-    tick, write_place,
+    Run, add_to_field_key, add_to_number, add_to_place, are_plain, clear_array, element_target,
+    give_back, give_back_target, leaf_number, print_alone, print_bytes, print_line, print_plain,
+    remove_element, table_of, take_buffer, tick, write_place,
 };
 use pawk_value::{Value, lend_held};
 use pawk_world::{Halt, World};
@@ -116,6 +116,7 @@ pub(crate) fn statement<W: World>(
 
 /// Runs a statement that leaves nothing and has no body.
 #[cycle(evaluate)]
+#[inline(always)]
 pub(crate) fn perform<W: World>(
     context: Context<'_>,
     depth: u64,
@@ -137,13 +138,7 @@ pub(crate) fn perform<W: World>(
             Ok(())
         }
         Simple::Set(to, e) => set(context, depth, to, e, world, run),
-        Simple::Add(sign, to, e) => {
-            let target = place(context, depth, to, world, run)?;
-            let amount = number(context, depth, e, world, run)?;
-            add_to_place(*sign, &target, amount, world, run)?;
-            give_back_target(&mut run.spare, target);
-            Ok(())
-        }
+        Simple::Add(sign, to, e) => add(context, depth, *sign, to, e, world, run),
         Simple::Count(step, to) => tally(context, depth, step_sign(*step), to, world, run),
         Simple::Print(operands) => print(context, depth, &operands.values, world, run),
         Simple::Printf(format, operands) => {
@@ -157,6 +152,75 @@ pub(crate) fn perform<W: World>(
         }
         Simple::Clear(array) => clear_array(table_of(&run.frame, *array), world, run),
     }
+}
+
+/// Adds the number of an expression to a place, or takes it away.
+#[cycle(evaluate)]
+#[inline(never)]
+pub(crate) fn add<W: World>(
+    context: Context<'_>,
+    depth: u64,
+    sign: Sign,
+    to: &Place,
+    e: &Expr,
+    world: &mut W,
+    run: &mut Run<'_>,
+) -> Result<(), Halt>
+    ensures left { run.new.left ≤ run.old.left }
+    ensures outcome { Yields (λ _. tt)
+        (act W.calls (eres_of context.entry) (enter_of W.calls context.entry depth)
+        (actions.add sign (place_view to.now) (view e.now))
+        (moment (W.state world.old) run.old)) result (moment (W.state world.new) run.new) }
+{
+    if let Place::Global(slot) = to {
+        let amount = number(context, depth, e, world, run)?;
+        return world.add_scalar(*slot, sign, amount);
+    }
+    if let Place::Element(array, keys) = to {
+        return add_element(context, depth, sign, *array, keys, e, world, run);
+    }
+    let target = place(context, depth, to, world, run)?;
+    let amount = number(context, depth, e, world, run)?;
+    add_to_place(sign, &target, amount, world, run)?;
+    give_back_target(&mut run.spare, target);
+    Ok(())
+}
+
+/// Adds the number of an expression to an element of an array, or takes it away. A key that is a field is
+/// not copied where the expression is a leaf.
+#[cycle(evaluate)]
+#[inline(never)]
+pub(crate) fn add_element<W: World>(
+    context: Context<'_>,
+    depth: u64,
+    sign: Sign,
+    array: Array,
+    keys: &[Expr],
+    e: &Expr,
+    world: &mut W,
+    run: &mut Run<'_>,
+) -> Result<(), Halt>
+    ensures left { run.new.left ≤ run.old.left }
+    ensures outcome { Yields (λ _. tt)
+        (bind (subscripts W.calls (eres_of context.entry) (enter_of W.calls context.entry depth)
+        (exprs (views keys.now)))
+        (λ key m. bind (as_number (spec.eval W.calls (eres_of context.entry)
+        (enter_of W.calls context.entry depth) (view e.now)))
+        (add_at W.calls sign (element_of (array_at m.frame array) key)) m)
+        (moment (W.state world.old) run.old)) result (moment (W.state world.new) run.new) }
+{
+    if let [Expr::Leaf(Leaf::Field(n))] = keys {
+        if let Expr::Leaf(amount) = e {
+            let amount = leaf_number(amount, world, run)?;
+            return add_to_field_key(sign, table_of(&run.frame, array), *n, amount, world, run);
+        }
+    }
+    let key = key(context, depth, keys, world, run)?;
+    let target = element_target(table_of(&run.frame, array), key);
+    let amount = number(context, depth, e, world, run)?;
+    add_to_place(sign, &target, amount, world, run)?;
+    give_back_target(&mut run.spare, target);
+    Ok(())
 }
 
 /// Adds 1 to a place, or takes it away.
@@ -251,6 +315,32 @@ pub(crate) fn set<W: World>(
 #[cycle(evaluate)]
 #[inline(never)]
 pub(crate) fn print<W: World>(
+    context: Context<'_>,
+    depth: u64,
+    es: &[Expr],
+    world: &mut W,
+    run: &mut Run<'_>,
+) -> Result<(), Halt>
+    ensures left { run.new.left ≤ run.old.left }
+    ensures outcome { Yields (λ _. tt)
+        (bind (texts_of W.calls (eres_of context.entry) (enter_of W.calls context.entry depth)
+        (exprs (views es.now)) []) (spec.print_line W.calls)
+        (moment (W.state world.old) run.old)) result (moment (W.state world.new) run.new) }
+{
+    if !are_plain(es) {
+        return print_values(context, depth, es, world, run);
+    }
+    let printed = print_plain(es, world, run)?;
+    if printed {
+        return Ok(());
+    }
+    print_values(context, depth, es, world, run)
+}
+
+/// Prints the values of expressions, each of which is laid down first.
+#[cycle(evaluate)]
+#[inline(never)]
+pub(crate) fn print_values<W: World>(
     context: Context<'_>,
     depth: u64,
     es: &[Expr],

@@ -1,2 +1,3 @@
 pub mod Joining
 pub mod Putting
+pub mod Pushing

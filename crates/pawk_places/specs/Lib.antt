@@ -2,3 +2,4 @@ pub mod Yields
 pub mod Moments
 pub mod Ready
 pub mod Joined
+pub mod Plain

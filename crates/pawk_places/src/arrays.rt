@@ -1,13 +1,15 @@
 //! What is done with whole arrays and with the keys of them.
 
-ghost use Rattle.std.specs.Prelude.{◌≡◌, ◌≤◌, IfOk};
-ghost use Rattle.pawk_value.specs.Value.{lent_value};
+ghost use Rattle.std.specs.Prelude.{◌≡◌, ◌≤◌, [], IfOk};
+ghost use Rattle.pawk_value.specs.Conversion.{text_of};
+ghost use Rattle.pawk_value.specs.Value.{Num, lent_value};
 ghost use Rattle.pawk_array.specs.Texts.{AreWithin};
+ghost use Rattle.pawk_code.specs.Expressions.{field};
 ghost use Rattle.pawk_code.specs.ExpressionViews.{fields_view};
 ghost use Rattle.pawk_builtins.specs.ExpressionViews.{texts_of};
 ghost use Rattle.pawk_builtins.specs.Pieces.{pieces_in};
-ghost use Rattle.pawk_meaning.specs.Parts.{bind, settle};
-ghost use Rattle.pawk_meaning.specs.Meaning.{fill_from, pieces_of, split_into};
+ghost use Rattle.pawk_meaning.specs.Parts.{as_text, bind, settle};
+ghost use Rattle.pawk_meaning.specs.Meaning.{fill_from, pieces_of, split_into, value_of_leaf};
 ghost use Rattle.pawk_meaning.specs.Places.{clear_of, element_of, holds_in, keys_of};
 ghost use Rattle.pawk_meaning.specs.Places.{remove_in, write_at};
 ghost use Rattle.pawk_places.specs.Moments.{moment, table_view};
@@ -20,7 +22,7 @@ use crate::target::Table;
 use itoa::Buffer;
 use pawk_array::Texts;
 use pawk_code::expression::FieldsBy;
-use pawk_value::ValueRef;
+use pawk_value::{ValueRef, text_in};
 use pawk_world::{Halt, World};
 use std::ops::Range;
 
@@ -49,6 +51,51 @@ pub fn element_exists<W: World>(
         (holds_in W.calls (table_view table) key.now
         (moment (W.state world.old) run.old)) result (moment (W.state world.new) run.new) }
 {
+    match table {
+        Table::None => Ok(false),
+        Table::Global(slot) => world.holds(slot, key),
+        Table::Local(number) => { Ok(locals::element_exists(run.arrays.as_slice(), number, key)) }
+    }
+}
+
+/// Whether an array has an element whose key is the text of a number, which is not copied.
+///
+/// POSIX.1-2017, awk, "Expressions in awk" (`in`).
+#[inline(never)]
+pub fn number_exists<W: World>(
+    table: Table,
+    key: i64,
+    world: &mut W,
+    run: &mut Run<'_>,
+) -> Result<bool, Halt>
+    ensures left { run.new.left ≤ run.old.left }
+    ensures outcome { Yields (λ holds. holds)
+        (holds_in W.calls (table_view table) (text_of (Num key))
+        (moment (W.state world.old) run.old)) result (moment (W.state world.new) run.new) }
+{
+    let mut buffer = Buffer::new();
+    element_exists(table, buffer.format(key).as_bytes(), world, run)
+}
+
+/// Whether an array has an element whose key is the text of a field, which is not copied.
+///
+/// POSIX.1-2017, awk, "Expressions in awk" (`in`).
+#[inline(never)]
+pub fn field_exists<W: World>(
+    table: Table,
+    n: usize,
+    world: &mut W,
+    run: &mut Run<'_>,
+) -> Result<bool, Halt>
+    ensures left { run.new.left ≤ run.old.left }
+    ensures outcome { Yields (λ holds. holds)
+        (bind (as_text [] (value_of_leaf W.calls (field n)))
+        (λ key. holds_in W.calls (table_view table) key)
+        (moment (W.state world.old) run.old)) result (moment (W.state world.new) run.new) }
+{
+    run.state.line.prepare(n)?;
+    let mut buffer = Buffer::new();
+    let key = text_in(run.state.line.field(n), &mut buffer);
     match table {
         Table::None => Ok(false),
         Table::Global(slot) => world.holds(slot, key),

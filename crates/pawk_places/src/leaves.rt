@@ -3,7 +3,7 @@
 ghost use Rattle.std.specs.Prelude.{◌≡◌, ◌≤◌, ◌++◌, [], IfSome, Ok, OnOk, length, pos};
 ghost use Rattle.pawk_world.specs.Sums.{arith_by};
 ghost use Rattle.pawk_value.specs.Held.{added, held_value};
-ghost use Rattle.pawk_value.specs.Value.{Num, lent_value};
+ghost use Rattle.pawk_value.specs.Value.{Num, lent_value, shown};
 ghost use Rattle.pawk_code.specs.ExpressionViews.{leaf_view};
 ghost use Rattle.pawk_store.specs.StateViews.{state_of};
 ghost use Rattle.pawk_meaning.specs.Parts.{as_number, as_text, as_truth, bind, give, local_at, settle};
@@ -22,8 +22,8 @@ use pawk_code::leaf::{Leaf, Special};
 use pawk_code::word::Relation;
 use pawk_store::RecordState;
 use pawk_value::{
-    Fault, Held, Op, ValueRef, arith, compare_lent, hold, lend, push_text_lent, text_in,
-    to_num_lent, truth_lent,
+    Fault, Held, Op, Value, ValueRef, arith, compare_lent, copy_lent, hold, lend, push_text_lent,
+    text_in, to_num_lent, truth_lent,
 };
 use pawk_world::{Halt, World};
 use std::alloc::AllocError;
@@ -85,7 +85,7 @@ fn number_in(value: ValueRef<'_>) -> Option<i64>
 
 /// The number that a leaf is, if it is one for which nothing has to be looked for.
 #[inline(always)]
-fn plain_number<W: World>(leaf: &Leaf, world: &W, run: &Run<'_>) -> Option<i64>
+pub fn plain_number<W: World>(leaf: &Leaf, world: &W, run: &Run<'_>) -> Option<i64>
     ensures { IfSome result (λ number. meaning.leaf_value W.calls (leaf_view leaf.now)
         (moment (W.state world.now) run.now) ≡ Num number) }
 {
@@ -128,12 +128,28 @@ pub fn leaf_number<W: World>(
     if let Some(number) = plain_number(leaf, world, run) {
         return Ok(Ok(number));
     }
+    lent_number(leaf, world, run)
+}
+
+/// The number of a leaf, as [`leaf_number`], which is looked for.
+#[inline(never)]
+pub(crate) fn lent_number<W: World>(
+    leaf: &Leaf,
+    world: &W,
+    run: &mut Run<'_>,
+) -> Result<Result<i64, Fault>, Halt>
+    ensures same { moment (W.state world.now) run.new ≡ moment (W.state world.now) run.old }
+    ensures left { run.new.left ≤ run.old.left }
+    ensures outcome { Yields (λ number. number)
+        (as_number (value_of_leaf W.calls (leaf_view leaf.now))
+        (moment (W.state world.now) run.old)) result (moment (W.state world.now) run.new) }
+{
     prepare_leaf(leaf, &mut run.state)?;
     Ok(to_num_lent(lend_leaf(leaf, world, run)))
 }
 
 /// The truth of a leaf, or the fault of its conversion.
-#[inline(always)]
+#[inline(never)]
 pub fn leaf_truth<W: World>(
     leaf: &Leaf,
     world: &W,
@@ -151,7 +167,9 @@ pub fn leaf_truth<W: World>(
 /// The length of the text of a leaf in bytes. Nothing is copied.
 ///
 /// POSIX.1-2017, awk, "String Functions" (`length`).
+#[inline(never)]
 pub fn leaf_length<W: World>(leaf: &Leaf, world: &W, run: &mut Run<'_>) -> Result<i64, Halt>
+    ensures same { moment (W.state world.now) run.new ≡ moment (W.state world.now) run.old }
     ensures left { run.new.left ≤ run.old.left }
     ensures outcome { Yields (λ number. number)
         (bind (as_text [] (value_of_leaf W.calls (leaf_view leaf.now))) (λ s. give (pos (length s)))
@@ -163,6 +181,7 @@ pub fn leaf_length<W: World>(leaf: &Leaf, world: &W, run: &mut Run<'_>) -> Resul
 }
 
 /// Appends the text of a leaf.
+#[inline(never)]
 pub fn leaf_text<W: World>(
     leaf: &Leaf,
     out: &mut Vec<u8>,
@@ -180,6 +199,7 @@ pub fn leaf_text<W: World>(
 }
 
 /// Lays down the value of a leaf: its bytes are appended to `out`.
+#[inline(never)]
 pub fn leaf_value<W: World>(
     leaf: &Leaf,
     out: &mut Vec<u8>,
@@ -195,6 +215,17 @@ pub fn leaf_value<W: World>(
 {
     prepare_leaf(leaf, &mut run.state)?;
     Ok(hold(lend_leaf(leaf, world, run), out)?)
+}
+
+/// The value of a leaf, copied.
+#[inline(never)]
+pub fn leaf_copy<W: World>(leaf: &Leaf, world: &W, run: &mut Run<'_>) -> Result<Value, Halt>
+    ensures left { run.new.left ≤ run.old.left }
+    ensures outcome { Yields shown (value_of_leaf W.calls (leaf_view leaf.now)
+        (moment (W.state world.now) run.old)) result (moment (W.state world.now) run.new) }
+{
+    prepare_leaf(leaf, &mut run.state)?;
+    Ok(copy_lent(run.alloc, lend_leaf(leaf, world, run))?)
 }
 
 /// How two leaves compare. Nothing is copied.
@@ -217,6 +248,24 @@ pub fn compare_leaves<W: World>(
     if let Some(x) = plain_number(left, world, run) {
         return compare_number(relation, x, right, world, run);
     }
+    compare_lent_leaves(relation, left, right, world, run)
+}
+
+/// How two leaves compare, which are looked for.
+#[inline(never)]
+fn compare_lent_leaves<W: World>(
+    relation: Relation,
+    left: &Leaf,
+    right: &Leaf,
+    world: &W,
+    run: &mut Run<'_>,
+) -> Result<bool, Halt>
+    ensures left { run.new.left ≤ run.old.left }
+    ensures outcome { Yields (λ holds. holds)
+        (bind (value_of_leaf W.calls (leaf_view left.now)) (λ x.
+        bind (value_of_leaf W.calls (leaf_view right.now)) (λ y. settle (related relation x y)))
+        (moment (W.state world.now) run.old)) result (moment (W.state world.now) run.new) }
+{
     prepare_leaf(left, &mut run.state)?;
     prepare_leaf(right, &mut run.state)?;
     let order = compare_lent(lend_leaf(left, world, run), lend_leaf(right, world, run))?;
@@ -242,8 +291,29 @@ pub fn compare_number<W: World>(
     if let Some(y) = plain_number(right, world, run) {
         return Ok(holds_for(relation, x.cmp(&y)));
     }
+    compare_lent_behind(relation, x, right, world, run)
+}
+
+/// How a number and a leaf compare, which is looked for.
+#[inline(never)]
+fn compare_lent_behind<W: World>(
+    relation: Relation,
+    x: i64,
+    right: &Leaf,
+    world: &W,
+    run: &mut Run<'_>,
+) -> Result<bool, Halt>
+    ensures left { run.new.left ≤ run.old.left }
+    ensures outcome { Yields (λ holds. holds)
+        (bind (value_of_leaf W.calls (leaf_view right.now)) (λ y. settle (related relation (Num x) y))
+        (moment (W.state world.now) run.old)) result (moment (W.state world.now) run.new) }
+{
     prepare_leaf(right, &mut run.state)?;
-    let order = compare_lent(ValueRef::Num(x), lend_leaf(right, world, run))?;
+    let value = lend_leaf(right, world, run);
+    if let ValueRef::Num(y) = value {
+        return Ok(holds_for(relation, x.cmp(&y)));
+    }
+    let order = compare_lent(ValueRef::Num(x), value)?;
     Ok(holds_for(relation, order))
 }
 
@@ -265,9 +335,8 @@ pub fn arithmetic_behind<W: World>(
     if let Some(y) = plain_number(right, world, run) {
         return Ok(arith(op, x, y)?);
     }
-    prepare_leaf(right, &mut run.state)?;
-    let y = to_num_lent(lend_leaf(right, world, run))?;
-    Ok(arith(op, x, y)?)
+    let y = lent_number(right, world, run)?;
+    Ok(arith(op, x, y?)?)
 }
 
 /// The place where one text first stands in another, in bytes counted from 1; 0 where it does not.

@@ -5,22 +5,29 @@ mod arrays;
 mod leaves;
 mod locals;
 mod outputs;
+mod plain;
+mod quick;
 mod reading;
 mod run;
 mod scalars;
 mod target;
 mod writing;
 
-pub use arrays::{Separator, array_keys, clear_array, element_exists, remove_element, split_into};
+pub use arrays::{
+    Separator, array_keys, clear_array, element_exists, field_exists, number_exists,
+    remove_element, split_into,
+};
 pub use leaves::{
-    arithmetic_behind, compare_leaves, compare_number, leaf_length, leaf_number, leaf_text,
-    leaf_truth, leaf_value, place_in, place_in_leaf,
+    arithmetic_behind, compare_leaves, compare_number, leaf_copy, leaf_length, leaf_number,
+    leaf_text, leaf_truth, leaf_value, place_in, place_in_leaf, plain_number,
 };
 pub use outputs::{key_of_texts, print_alone, print_bytes, print_line, tick};
+pub use plain::{are_plain, print_plain};
+pub use quick::{quick_number, quick_numeric};
 pub use reading::read_place;
 pub use run::{Parameter, Run, give_back, parameters, take_buffer};
 pub use target::{Table, Target, element_target, give_back_target, table_of, variable_target};
 pub use writing::{
-    add_to_field_key, add_to_number, add_to_place, change_place, put_text, set_match_place,
-    write_place,
+    add_to_field_key, add_to_key, add_to_number, add_to_place, change_place, put_text,
+    set_at_number, set_match_place, write_place,
 };

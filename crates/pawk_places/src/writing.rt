@@ -6,13 +6,23 @@ ghost use Rattle.pawk_value.specs.Conversion.{text_of};
 ghost use Rattle.pawk_code.specs.Expressions.{field};
 ghost use Rattle.pawk_meaning.specs.Builtins.{Replaced};
 ghost use Rattle.pawk_meaning.specs.Meaning.{place_of_match, put_replaced, set_match, value_of_leaf};
-ghost use Rattle.pawk_meaning.specs.Places.{add_at, change_at, element_of, field_value, write_at};
+ghost use Rattle.pawk_meaning.specs.Places.{
+  add_at,
+  cell,
+  change_at,
+  element_of,
+  field_value,
+  parameter,
+  write_at,
+};
+ghost use Rattle.pawk_world.specs.Worlds.{element};
 ghost use Rattle.pawk_meaning.specs.Parts.{as_text, bind};
 ghost use Rattle.pawk_meaning.specs.Parts as parts;
 ghost use Rattle.pawk_world.specs.Sums as sums;
 ghost use Rattle.pawk_places.specs.Moments.{aim_view, hold_of, holds_of, moment, table_view};
 ghost use Rattle.pawk_places.specs.Yields.{Yields};
 
+use crate::leaves::lend_parameter;
 use crate::locals;
 use crate::reading::old_number;
 use crate::run::{Parameter, Run, take_buffer};
@@ -20,7 +30,9 @@ use crate::scalars::{FS, OFS, scalar_text};
 use crate::target::{Table, Target, element_target};
 use itoa::Buffer;
 use pawk_code::word::Sign;
-use pawk_value::{Fault, LENGTH_LIMIT, Op, ValueRef, arith, assign, copy_lent, text_in};
+use pawk_value::{
+    Fault, LENGTH_LIMIT, Op, ValueRef, arith, assign, copy_lent, text_in, to_num_lent,
+};
 use pawk_world::{Halt, World};
 use std::alloc::{AllocError, Global};
 
@@ -163,6 +175,27 @@ fn op_of(sign: Sign) -> Op
     }
 }
 
+/// Adds an amount to a parameter, or takes it away, as [`change_place`] does; the value is dropped.
+#[inline(never)]
+fn add_to_parameter<W: World>(
+    sign: Sign,
+    number: usize,
+    amount: Result<i64, Fault>,
+    world: &mut W,
+    run: &mut Run<'_>,
+) -> Result<(), Halt>
+    ensures left { run.new.left ≤ run.old.left }
+    ensures outcome { Yields (λ _. tt)
+        (add_at W.calls sign (parameter number) amount
+        (moment (W.state world.old) run.old)) result (moment (W.state world.new) run.new) }
+{
+    let old = to_num_lent(lend_parameter(run.frame.as_slice(), number))?;
+    let amount = amount?;
+    let new = arith(op_of(sign), old, amount)?;
+    set_parameter(run.alloc, &mut run.frame, number, ValueRef::Num(new))?;
+    Ok(())
+}
+
 /// Adds an amount to a place, or takes it away, as [`change_place`] does; the value is dropped.
 pub fn add_to_place<W: World>(
     sign: Sign,
@@ -179,6 +212,7 @@ pub fn add_to_place<W: World>(
     match target {
         Target::Scalar(slot) => world.add_scalar(*slot, sign, amount),
         Target::Element(slot, key) => world.add_element(*slot, key.as_slice(), sign, amount),
+        Target::Parameter(number) => add_to_parameter(sign, *number, amount, world, run),
         _ => {
             let _numbers = change_place(op_of(sign), target, amount, world, run)?;
             Ok(())
@@ -187,7 +221,8 @@ pub fn add_to_place<W: World>(
 }
 
 /// Adds an amount to the element of an array with this key, or takes it away, as [`add_to_place`] does.
-fn add_to_key<W: World>(
+#[inline(never)]
+pub fn add_to_key<W: World>(
     sign: Sign,
     table: Table,
     key: &[u8],
@@ -259,6 +294,24 @@ pub fn add_to_field_key<W: World>(
     let mut bytes = take_buffer(run.alloc, &mut run.spare);
     bytes.extend_from_slice(text_in(run.state.line.field(n), &mut buffer))?;
     add_to_place(sign, &element_target(table, bytes), amount, world, run)
+}
+
+/// Assigns a number to the element of a global array whose key is the text of a number.
+#[inline(never)]
+pub fn set_at_number<W: World>(
+    slot: usize,
+    key: i64,
+    value: i64,
+    world: &mut W,
+    run: &mut Run<'_>,
+) -> Result<(), Halt>
+    ensures left { run.new.left ≤ run.old.left }
+    ensures outcome { Yields (λ _. tt)
+        (write_at W.calls (cell (element slot (text_of (Num key)))) (Num value)
+        (moment (W.state world.old) run.old)) result (moment (W.state world.new) run.new) }
+{
+    let mut buffer = Buffer::new();
+    world.set_element(slot, buffer.format(key).as_bytes(), ValueRef::Num(value))
 }
 
 /// Assigns to a place the text in which so many matches were replaced, if there are some, and gives how

@@ -115,6 +115,12 @@ decreases-functions::call g l = rank (functions_of l.context) l.depth (0)
 abbrev pub decreases-statements::perform : goal.decreases-statements::perform
 decreases-statements::perform g l = rank (functions_of l.context) l.depth (simple_weight (simple_view l.s.now))
 
+abbrev pub decreases-statements::add : goal.decreases-statements::add
+decreases-statements::add g l = rank (functions_of l.context) l.depth (place_weight (place_view l.to.now) + weight (view l.e.now) + 3)
+
+abbrev pub decreases-statements::add_element : goal.decreases-statements::add_element
+decreases-statements::add_element g l = rank (functions_of l.context) l.depth (row_weight (exprs (views l.keys.now)) + weight (view l.e.now) + 4)
+
 abbrev pub decreases-statements::tally : goal.decreases-statements::tally
 decreases-statements::tally g l = rank (functions_of l.context) l.depth (place_weight (place_view l.to.now) + 1)
 
@@ -125,7 +131,10 @@ abbrev pub decreases-statements::set : goal.decreases-statements::set
 decreases-statements::set g l = rank (functions_of l.context) l.depth (place_weight (place_view l.to.now) + weight (view l.e.now) + 1)
 
 abbrev pub decreases-statements::print : goal.decreases-statements::print
-decreases-statements::print g l = rank (functions_of l.context) l.depth (row_weight (exprs (views l.es.now)) + 1)
+decreases-statements::print g l = rank (functions_of l.context) l.depth (row_weight (exprs (views l.es.now)) + 2)
+
+abbrev pub decreases-statements::print_values : goal.decreases-statements::print_values
+decreases-statements::print_values g l = rank (functions_of l.context) l.depth (row_weight (exprs (views l.es.now)) + 1)
 
 abbrev pub decreases-statements::printf : goal.decreases-statements::printf
 decreases-statements::printf g l = rank (functions_of l.context) l.depth (format_weight (format_view l.format.now) + row_weight (exprs (views l.es.now)) + 2)

@@ -1,0 +1,96 @@
+//! Numbers of expressions that have no effect.
+//!
+//! POSIX.1-2017, awk, "Expressions in awk".
+
+ghost use Rattle.std.specs.Prelude.{◌≡◌, ◌≤◌, ℕ, List, Ok, IfSome};
+ghost use Rattle.pawk_value.specs.Conversion.{num_of};
+ghost use Rattle.pawk_value.specs.Value.{Val};
+ghost use Rattle.pawk_code.specs.ExpressionViews.{leaf_view, numeric_view, view};
+ghost use Rattle.pawk_code.specs.Expressions.{length_of};
+ghost use Rattle.pawk_meaning.specs.Meaning.{eval, function_of, leaf_value, number_of};
+ghost use Rattle.pawk_meaning.specs.Parts.{Hold, Part, as_number, gives};
+ghost use Rattle.pawk_places.specs.Moments.{moment};
+
+use crate::leaves::{leaf_length, lent_number, plain_number};
+use crate::run::Run;
+use pawk_code::expression::{Expr, Numeric, NumericFunction};
+use pawk_code::leaf::Leaf;
+use pawk_value::arith;
+use pawk_world::World;
+
+/// The number of a leaf, if it has one.
+#[inline(always)]
+fn quick_leaf<W: World>(leaf: &Leaf, world: &W, run: &mut Run<'_>) -> Option<i64>
+    ensures same { moment (W.state world.now) run.new ≡ moment (W.state world.now) run.old }
+    ensures left { run.new.left ≤ run.old.left }
+    ensures number { IfSome result (λ number. num_of (leaf_value W.calls (leaf_view leaf.now)
+        (moment (W.state world.now) run.old)) ≡ Ok number) }
+{
+    if let Some(number) = plain_number(leaf, world, run) {
+        return Some(number);
+    }
+    match lent_number(leaf, world, run) {
+        Ok(Ok(number)) => Some(number),
+        _ => None,
+    }
+}
+
+/// The number of an expression, where it is a leaf or made of leaves by operations and `length`, and there
+/// is no fault; then no moment changes.
+///
+/// Where there is none nothing is said of the expression: it may have a number too.
+#[cycle(quick)]
+pub fn quick_number<W: World>(e: &Expr, world: &W, run: &mut Run<'_>) -> Option<i64>
+    ensures same { moment (W.state world.now) run.new ≡ moment (W.state world.now) run.old }
+    ensures left { run.new.left ≤ run.old.left }
+    ensures number { IfSome result (λ number. (eres : List (List ℕ))
+        → (enter : ℕ → List Hold → Part W.State Val)
+        → as_number (eval W.calls eres enter (view e.now)) (moment (W.state world.now) run.old)
+        ≡ gives (Ok number) (moment (W.state world.now) run.old)) }
+{
+    match e {
+        Expr::Leaf(leaf) => quick_leaf(leaf, world, run),
+        Expr::Numeric(n) => quick_numeric(n, world, run),
+        _ => None,
+    }
+}
+
+/// The same of what gives a number.
+#[cycle(quick)]
+pub fn quick_numeric<W: World>(n: &Numeric, world: &W, run: &mut Run<'_>) -> Option<i64>
+    ensures same { moment (W.state world.now) run.new ≡ moment (W.state world.now) run.old }
+    ensures left { run.new.left ≤ run.old.left }
+    ensures number { IfSome result (λ number. (eres : List (List ℕ))
+        → (enter : ℕ → List Hold → Part W.State Val)
+        → number_of W.calls eres enter (numeric_view n.now) (moment (W.state world.now) run.old)
+        ≡ gives number (moment (W.state world.now) run.old)) }
+{
+    match n {
+        Numeric::Arithmetic(op, a, b) => {
+            let x = quick_number(a, world, run)?;
+            let y = quick_number(b, world, run)?;
+            arith(*op, x, y).ok()
+        }
+        Numeric::Function(NumericFunction::Length(e)) => quick_length(e, world, run),
+        _ => None,
+    }
+}
+
+/// The length of the text of an expression in bytes, where it is a leaf.
+fn quick_length<W: World>(e: &Expr, world: &W, run: &mut Run<'_>) -> Option<i64>
+    ensures same { moment (W.state world.now) run.new ≡ moment (W.state world.now) run.old }
+    ensures left { run.new.left ≤ run.old.left }
+    ensures number { IfSome result (λ number. (eres : List (List ℕ))
+        → (enter : ℕ → List Hold → Part W.State Val)
+        → function_of W.calls eres enter (length_of (view e.now))
+        (moment (W.state world.now) run.old)
+        ≡ gives number (moment (W.state world.now) run.old)) }
+{
+    match e {
+        Expr::Leaf(leaf) => match leaf_length(leaf, world, run) {
+            Ok(length) => Some(length),
+            Err(_) => None,
+        },
+        _ => None,
+    }
+}
