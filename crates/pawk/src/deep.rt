@@ -4,7 +4,7 @@ ghost use Rattle.std.specs.Prelude.{◌<◌, ◌≤◌};
 
 use crate::reports::Stop;
 use pawk_input::Input;
-use pawk_one::{Ending, Job};
+use pawk_one::{Ending, Job, Output};
 use pawk_settings::Assignment;
 use pawk_threads::{Cutting, Open, Route, Way, run};
 use std::alloc::Global;
@@ -29,7 +29,7 @@ pub(crate) struct Division {
 /// What a run shows: its output, how it ended, and which way it went.
 #[derive(Drop)]
 pub(crate) struct Shown {
-    pub(crate) output: Vec<u8>,
+    pub(crate) output: Output,
     pub(crate) ending: Ending,
     pub(crate) route: Route,
 }

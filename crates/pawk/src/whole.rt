@@ -6,11 +6,12 @@ use crate::files::{read_files, read_stream};
 use crate::reports::{End, Stop};
 use pawk_code::program::Code;
 use pawk_input::Input;
-use pawk_one::Job;
+use pawk_one::{Job, Output};
 use pawk_resolve_program::program::resolve;
 use pawk_settings::{Settings, SettingsRefusal};
 use pawk_syntax::{Program, SyntaxRefusal, parse};
 use std::alloc::{AllocError, Global};
+use std::io;
 use std::io::{Read, Write};
 use std::rt::Files;
 use std::sync::Wait;
@@ -92,6 +93,14 @@ fn division(request: &Request<'_>, code: &Code) -> Division {
     }
 }
 
+/// Writes the parts of an output, in order.
+fn write_parts<O: Write>(output: &mut O, parts: &Output) -> io::Result<()> {
+    for part in parts.parts() {
+        output.write_all(part.as_slice())?;
+    }
+    Ok(())
+}
+
 /// Runs the program of this text, and writes its output.
 pub(crate) fn run_whole<R, I, O>(
     rt: &R,
@@ -116,7 +125,7 @@ where
     };
     let division = division(request, &code);
     let shown = run_deep(rt, alloc, job, settings.assignments(), &mut input, division)?;
-    if output.write_all(&shown.output).is_err() {
+    if write_parts(output, &shown.output).is_err() {
         return Err(Stop::Write);
     }
     Ok(End {

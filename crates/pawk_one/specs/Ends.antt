@@ -84,6 +84,6 @@ Finishes meant world shown =
 
 -- the output, the globals and the ending are those with which a run finished
 pub record Answers (meant : Finish Globals) (outcome : CodeOutcome) : Type 0 where
-  pub output : meant.output ≡ outcome.output.items
+  pub output : meant.output ≡ outcome.output
   pub globals : meant.world ≡ outcome.globals
   pub ending : meant.ending ≡ ending_view outcome.ending

@@ -5,6 +5,7 @@ mod ending;
 mod left;
 mod limits;
 mod outcome;
+mod output;
 mod part;
 mod rules;
 mod whole;
@@ -12,6 +13,7 @@ mod whole;
 pub use ending::{Ending, Place};
 pub use left::Left;
 pub use outcome::{Outcome, opening_run, run_one};
+pub use output::Output;
 pub use part::{actions, record};
 pub use whole::{
     Job, run_begin, run_behind_begin, run_behind_records, run_program, run_records, take_separator,

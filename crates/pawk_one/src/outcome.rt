@@ -11,6 +11,7 @@ ghost use Rattle.pawk_meaning.specs.Runs as spec;
 ghost use Rattle.pawk_one.specs.Ends.{Answers};
 
 use crate::ending::Ending;
+use crate::output::Output;
 use crate::whole::{Job, run_program};
 use pawk_builtins::Matchers;
 use pawk_input::Input;
@@ -22,7 +23,7 @@ use std::alloc::{AllocError, Global};
 /// What a run leaves.
 #[derive(Drop)]
 pub struct Outcome {
-    pub output: Vec<u8>,
+    pub output: Output,
     pub globals: Globals,
     pub ending: Ending,
 }
@@ -69,7 +70,7 @@ pub fn run_one(
     let run = opening_run(alloc, job)?;
     let (output, ending) = run_program(job, input, &mut globals, run)?;
     Ok(Outcome {
-        output,
+        output: Output::whole(alloc, output)?,
         globals,
         ending,
     })

@@ -2,3 +2,4 @@ pub mod BeginLemmas
 pub mod RouteLemmas
 pub mod EndLemmas
 pub mod MergedLemmas
+pub mod OutputLemmas

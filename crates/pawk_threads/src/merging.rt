@@ -1,6 +1,6 @@
 //! Records that were run in chunks, and what follows them.
 
-ghost use Rattle.std.specs.Prelude.{◌≡◌, ◌↔◌, ◌++◌, IfOk, IsTrue, OnOk};
+ghost use Rattle.std.specs.Prelude.{◌≡◌, ◌↔◌, ◌++◌, IfOk, IsTrue};
 ghost use Rattle.pawk_code.specs.ProgramViews.{code_view};
 ghost use Rattle.pawk_store.specs.Globals.{calls};
 ghost use Rattle.pawk_store.specs.StateViews.{state_of};
@@ -13,8 +13,8 @@ ghost use Rattle.pawk_gather.specs.Gathered.{behind_output};
 
 use crate::prologue::Prologue;
 use pawk_join::{JoinStop, Leaving, Merged};
-use pawk_one::{Job, Left, Outcome, run_behind_records};
-use std::alloc::AllocError;
+use pawk_one::{Job, Left, Outcome, Output, run_behind_records};
+use std::alloc::{AllocError, Global};
 use std::mem;
 
 /// How records were left that were merged so.
@@ -41,14 +41,22 @@ pub(crate) fn lacks_memory(stop: JoinStop) -> bool
     }
 }
 
-/// Puts texts behind an output.
-fn push_texts(output: &mut Vec<u8>, texts: &[Vec<u8>]) -> Result<(), AllocError>
-    ensures { OnOk result (output.new.items ≡ output.old.items ++ in_a_row texts.now) }
+/// The output of a run: what `BEGIN` wrote, the outputs of the chunks, and what END wrote.
+fn output_of(
+    alloc: Global,
+    before: Vec<u8>,
+    outputs: Vec<Vec<u8>>,
+    behind: Vec<u8>,
+) -> Result<Output, AllocError>
+    ensures { IfOk result (λ output.
+        output ≡ (before.items ++ in_a_row outputs.entry.items) ++ behind.items) }
 {
-    for text in texts {
-        output.extend_from_slice(text.as_slice())?;
-    }
-    Ok(())
+    let mut outputs = outputs;
+    let mut parts = Vec::with_capacity(alloc, outputs.len().saturating_add(2))?;
+    parts.push(before)?;
+    parts.append(&mut outputs)?;
+    parts.push(behind)?;
+    Ok(Output::of(parts))
 }
 
 /// Goes on behind records that were merged into the globals.
@@ -69,12 +77,14 @@ pub(crate) fn go_on_merged<'a>(
         left: _,
     } = prologue;
     let (mut globals, mut run) = (globals, run);
-    push_texts(&mut run.output, merged.outputs.as_slice())?;
+    let alloc = run.alloc;
+    let before = mem::replace(&mut run.output, Vec::new(alloc));
     let _before = mem::replace(&mut run.state, merged.state);
     let left = left_of(merged.leaving);
     let ending = run_behind_records(job, left, &mut globals, &mut run)?;
+    let output = output_of(alloc, before, merged.outputs, run.output)?;
     Ok(Outcome {
-        output: run.output,
+        output,
         globals,
         ending,
     })
