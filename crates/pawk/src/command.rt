@@ -6,6 +6,7 @@ use crate::reports::{Stop, tell_ending, tell_stop};
 use crate::whole::run_whole;
 use std::io;
 use std::io::{Read, Write};
+use std::os::unix::fs::FileExt;
 use std::rt::Files;
 use std::sync::Wait;
 use std::thread::Threads;
@@ -31,6 +32,7 @@ fn do_request<R, I, O, E>(
 ) -> Result<io::Result<u8>, Stop>
 where
     R: Files + AllocGlobal + Threads + Wait + Sync,
+    R::File: FileExt + Sync,
     I: Read + Drop,
     O: Write,
     E: Write,
@@ -52,6 +54,7 @@ fn do_words<R, I, O, E>(
 ) -> Result<io::Result<u8>, Stop>
 where
     R: Files + AllocGlobal + Threads + Wait + Sync,
+    R::File: FileExt + Sync,
     I: Read + Drop,
     O: Write,
     E: Write,
@@ -71,6 +74,7 @@ pub(crate) fn command<R, I, O, E>(
 ) -> u8
 where
     R: Files + AllocGlobal + Threads + Wait + Sync,
+    R::File: FileExt + Sync,
     I: Read + Drop,
     O: Write + Drop,
     E: Write + Drop,

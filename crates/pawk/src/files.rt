@@ -1,11 +1,14 @@
 //! The files that are the input.
 
 use crate::reports::Stop;
-use pawk_input::{Input, TooLarge};
+use crate::stripes::{count_stripes, read_stripes};
+use pawk_input::{Blocks, Input, TooLarge};
 use std::alloc::Global;
 use std::fs::File;
 use std::io::Read;
+use std::os::unix::fs::FileExt;
 use std::rt::Files;
+use std::thread::Threads;
 use std::{fs, io};
 
 /// The size of a regular file in bytes, and 0 where nothing is known of it.
@@ -50,24 +53,48 @@ pub(crate) fn read_file<R: Files + AllocGlobal>(rt: &R, name: &str) -> io::Resul
     Ok(bytes)
 }
 
+/// Reads a file to its end, by so many threads at most.
+fn read_blocks<R>(rt: &R, name: &str, workers: usize) -> io::Result<Blocks>
+where
+    R: Files + AllocGlobal + Threads + Sync,
+    R::File: FileExt + Sync,
+{
+    let alloc = rt.alloc();
+    let size = known_size(rt, name);
+    let count = count_stripes(size, workers);
+    if count < 2 {
+        return Ok(Blocks::whole(alloc, read_file(rt, name)?)?);
+    }
+    let file = File::open(rt, name)?;
+    match read_stripes(rt, alloc, &file, size, count) {
+        Ok(vectors) => Ok(Blocks::of(alloc, vectors)?),
+        Err(kind) => Err(io::Error::from(kind)),
+    }
+}
+
 /// The input of these files, names with bytes.
-fn input_of(files: Vec<(Vec<u8>, Vec<u8>)>) -> Result<Input, Stop> {
-    match Input::new(files) {
+fn input_of(files: Vec<(Vec<u8>, Blocks)>) -> Result<Input, Stop> {
+    match Input::from_blocks(files) {
         Ok(input) => Ok(input),
         Err(TooLarge) => Err(Stop::Input),
     }
 }
 
-/// Reads the files of these names in order; the first that cannot be read is told.
-pub(crate) fn read_files<R: Files + AllocGlobal>(rt: &R, names: &[&str]) -> Result<Input, Stop> {
+/// Reads the files of these names in order, each by so many threads at most; the first that cannot be
+/// read is told.
+pub(crate) fn read_files<R>(rt: &R, names: &[&str], workers: usize) -> Result<Input, Stop>
+where
+    R: Files + AllocGlobal + Threads + Sync,
+    R::File: FileExt + Sync,
+{
     let alloc = rt.alloc();
     let mut files = Vec::with_capacity(alloc, names.len())?;
     for name in names {
-        let bytes = match read_file(rt, *name) {
-            Ok(bytes) => bytes,
+        let blocks = match read_blocks(rt, *name, workers) {
+            Ok(blocks) => blocks,
             Err(error) => return Err(Stop::read(alloc, *name, &error)),
         };
-        files.push((Vec::from_slice(alloc, name.as_bytes())?, bytes))?;
+        files.push((Vec::from_slice(alloc, name.as_bytes())?, blocks))?;
     }
     input_of(files)
 }
@@ -79,6 +106,6 @@ pub(crate) fn read_stream<I: Read + Drop>(alloc: Global, mut input: I) -> Result
         return Err(Stop::read(alloc, "", &error));
     }
     let mut files = Vec::new(alloc);
-    files.push((Vec::new(alloc), bytes))?;
+    files.push((Vec::new(alloc), Blocks::whole(alloc, bytes)?))?;
     input_of(files)
 }

@@ -6,6 +6,7 @@ mod command_line;
 mod deep;
 mod files;
 mod reports;
+mod stripes;
 mod whole;
 
 use std::io;

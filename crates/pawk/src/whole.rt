@@ -13,6 +13,7 @@ use pawk_syntax::{Program, SyntaxRefusal, parse};
 use std::alloc::{AllocError, Global};
 use std::io;
 use std::io::{Read, Write};
+use std::os::unix::fs::FileExt;
 use std::rt::Files;
 use std::sync::Wait;
 use std::thread::Threads;
@@ -63,20 +64,46 @@ fn read_settings(
     }
 }
 
+/// Whether a program's text may name the record separator.
+fn may_separate(text: &[u8]) -> bool {
+    text.windows(2).any(|pair| pair == b"RS".as_slice())
+}
+
+/// How many threads may read a file: those of the run, and one where the record separator may be another
+/// than a byte, since records that are paragraphs are brought to one piece again.
+fn readers(request: &Request<'_>, text: &[u8]) -> usize {
+    if may_separate(text)
+        || request
+            .assignments
+            .iter()
+            .any(|text| text.starts_with("RS="))
+    {
+        1
+    } else {
+        usize::from(request.workers)
+    }
+}
+
 /// The input: the files that were named, or standard input; nothing is read where no record is.
-fn open_input<R: Files + AllocGlobal, I: Read + Drop>(
+fn open_input<R, I>(
     rt: &R,
     request: &Request<'_>,
+    readers: usize,
     code: &Code,
     input: I,
-) -> Result<Input, Stop> {
+) -> Result<Input, Stop>
+where
+    R: Files + AllocGlobal + Threads + Sync,
+    R::File: FileExt + Sync,
+    I: Read + Drop,
+{
     if code.rules.is_empty() && code.ends.is_empty() {
-        return read_files(rt, &[]);
+        return read_files(rt, &[], 1);
     }
     if request.files.is_empty() {
         return read_stream(rt.alloc(), input);
     }
-    read_files(rt, &request.files)
+    read_files(rt, &request.files, readers)
 }
 
 /// How the input is divided. A program with functions has one worker, which is the run's own thread:
@@ -93,9 +120,9 @@ fn division(request: &Request<'_>, code: &Code) -> Division {
     }
 }
 
-/// Writes the parts of an output, in order.
-fn write_parts<O: Write>(output: &mut O, parts: &Output) -> io::Result<()> {
-    for part in parts.parts() {
+/// Writes the parts of what a run wrote in order, and gives the room of each back when it was written.
+fn write_parts<O: Write>(output: &mut O, parts: Output) -> io::Result<()> {
+    for part in parts.into_parts() {
         output.write_all(part.as_slice())?;
     }
     Ok(())
@@ -111,6 +138,7 @@ pub(crate) fn run_whole<R, I, O>(
 ) -> Result<End, Stop>
 where
     R: Files + AllocGlobal + Threads + Wait + Sync,
+    R::File: FileExt + Sync,
     I: Read + Drop,
     O: Write,
 {
@@ -118,14 +146,14 @@ where
     let program = read_program(alloc, text)?;
     let settings = read_settings(alloc, request, &program)?;
     let code = resolve(alloc, &program)?;
-    let mut input = open_input(rt, request, &code, input)?;
+    let mut input = open_input(rt, request, readers(request, text), &code, input)?;
     let job = Job {
         code: &code,
         budget: settings.budget(),
     };
     let division = division(request, &code);
     let shown = run_deep(rt, alloc, job, settings.assignments(), &mut input, division)?;
-    if write_parts(output, &shown.output).is_err() {
+    if write_parts(output, shown.output).is_err() {
         return Err(Stop::Write);
     }
     Ok(End {

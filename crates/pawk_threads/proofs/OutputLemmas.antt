@@ -1,0 +1,25 @@
+-- Outputs in parts, and what follows the records behind them.
+use Rattle.std.proofs.Common.{◌≡◌, ◌∙◌, ℕ, List, [], ◌∷◌, ◌++◌, ap, sym}
+use Rattle.std.specs.Prelude.{Vec}
+use Rattle.std.specs.declared.alloc.Global.{Global}
+use Rattle.std.proofs.lemmas.List.{append-nil}
+use Rattle.pawk_code.specs.Programs.{Code}
+use Rattle.pawk_store.specs.Globals.{Globals, calls}
+use Rattle.pawk_meaning.specs.Outputs.{in_a_row, finish_with_output_before}
+use Rattle.pawk_meaning.specs.Records.{Left, End}
+use Rattle.pawk_meaning.specs.Runs.{Finish, behind_records}
+use Rattle.pawk_meaning.proofs.Framing.{behind_records_append}
+use Rattle.pawk_join.proofs.MergeLemmas.{in_a_row-push}
+
+-- what the parts of an output are together
+pub parts_together : (before : Vec ℕ Global) (outputs : List (Vec ℕ Global)) (behind : Vec ℕ Global) →
+    in_a_row (((before ∷ []) ++ outputs) ++ (behind ∷ [])) ≡ (before.items ++ in_a_row outputs) ++ behind.items
+parts_together before outputs behind = in_a_row-push (before ∷ outputs) behind
+
+-- what follows the records, with what was written before them in front
+pub in_front : (code : Code) (budget : ℕ) (left : Left) (out : List ℕ) (e : End Globals) (f : Finish Globals) → e.output ≡ [] →
+    behind_records calls code.expressions code budget left e ≡ f →
+    behind_records calls code.expressions code budget left (record e { output = out }) ≡ finish_with_output_before out f
+in_front code budget left out e f none is =
+    ap (λ (o : List ℕ). behind_records calls code.expressions code budget left (record e { output = o })) (sym (append-nil out) ∙ ap (λ (o : List ℕ). out ++ o) (sym none))
+    ∙ behind_records_append out calls code.expressions code budget left e ∙ ap (finish_with_output_before out) is
