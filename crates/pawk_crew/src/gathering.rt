@@ -7,11 +7,11 @@ ghost use Rattle.pawk_chunk.specs.Chunks.{AreResults};
 ghost use Rattle.pawk_crew.specs.Shifts.{limit_of, results_of};
 ghost use Rattle.pawk_crew.specs.Task.{IsChunked, IsCrew, end_in};
 
-use crate::gate::Gate;
-use crate::shifts::{CrewRefusal, Shift, all_work};
+use crate::shifts::{Shift, all_work};
 use crate::task::{Chunked, Task};
 use pawk_board::{Board, BoardSeat};
 use pawk_chunk::{ChunkResult, Opening};
+use pawk_labour::{CrewRefusal, Gate};
 use std::alloc::{AllocError, Global};
 use std::sync::Wait;
 use std::thread::Threads;

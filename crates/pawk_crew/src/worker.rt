@@ -5,10 +5,10 @@ ghost use Rattle.pawk_board.specs.Claims.{IsUndone, HasClaimed};
 ghost use Rattle.pawk_crew.specs.Task.{IsTask};
 ghost use Rattle.pawk_crew.specs.Worker.{HasWorked, IsResultOf, Runs, Skips, stops};
 
-use crate::gate::Gate;
 use crate::task::Task;
 use pawk_board::{BoardSeat, Claim};
 use pawk_chunk::{ChunkResult, run_chunk};
+use pawk_labour::Gate;
 use pawk_one::Left;
 use std::alloc::{AllocError, Global};
 

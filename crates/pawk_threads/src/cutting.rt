@@ -1,14 +1,20 @@
 //! How the input is to be cut into chunks.
 
-ghost use Rattle.std.specs.Prelude.{◌≡◌, ◌≢◌, ◌≤◌, length, Err, IfErr, IfOk};
+ghost use Rattle.std.specs.Prelude.{◌≡◌, ◌<◌, ◌≤◌, length, Err, IfOk};
 ghost use Rattle.pawk_board.specs.Limits.{most_chunks};
+ghost use Rattle.pawk_crew.specs.Task.{IsCrew};
+ghost use Rattle.pawk_input.specs.Counts.{block_counts};
 ghost use Rattle.pawk_input.specs.Input.{IsReady, files_of};
 ghost use Rattle.pawk_input.specs.Plan.{IsPlanOf};
-ghost use Rattle.pawk_threads.specs.Cuttings.{IsSized, IsRefused, PlanRefused};
+ghost use Rattle.pawk_threads.specs.Cuttings.{IsSized, IsRefused};
 
 use crate::report::Refusal;
+use pawk_count::{block_size, count_records};
+use pawk_crew::{CrewRefusal, Gate};
 use pawk_input::{CutRefusal, Input, Plan};
 use std::alloc::Global;
+use std::sync::Wait;
+use std::thread::Threads;
 
 /// How the input is to be cut into chunks.
 #[derive(Drop)]
@@ -28,41 +34,110 @@ pub struct Way<'a> {
     pub workers: usize,
 }
 
-/// The plan of a cutting.
-fn cut(alloc: Global, input: &Input, rs: &[u8], cutting: &Cutting) -> Result<Plan, CutRefusal>
-    requires sized { IsSized cutting.now }
+/// The plan by size, made on this thread.
+fn plan_here(alloc: Global, input: &Input, rs: &[u8], bytes: u64) -> Result<Plan, Refusal>
+    requires sized { 0 < bytes }
     requires one_byte { length rs.now ≤ 1 }
     requires ready { IsReady rs.now input.now }
     ensures plan { IfOk result (λ p. IsPlanOf rs.now (files_of input.now) p) }
     ensures few { IfOk result (λ p. length p ≤ most_chunks) }
-    ensures accepted { IfOk result (λ _. ¬ IsRefused rs.now (files_of input.now) cutting.now) }
-    ensures refused { IfErr result (PlanRefused rs.now (files_of input.now) cutting.now) }
+    ensures accepted { IfOk result (λ _.
+        ¬ IsRefused rs.now (files_of input.now) (Cutting.Size bytes)) }
+    ensures refused { result ≡ Err Refusal.Cutting
+        → IsRefused rs.now (files_of input.now) (Cutting.Size bytes) }
 {
-    match cutting {
-        Cutting::Size(bytes) => Plan::by_size(alloc, input, rs, *bytes),
-        Cutting::At(cuts) => Plan::at(alloc, input, rs, cuts),
+    match Plan::by_size(alloc, input, rs, bytes) {
+        Ok(plan) => Ok(plan),
+        Err(CutRefusal::Memory) => Err(Refusal::Memory),
+        Err(_) => Err(Refusal::Cutting),
+    }
+}
+
+/// The same plan, out of how many records begin in each block of `block` bytes.
+fn plan_by_counts(
+    alloc: Global,
+    input: &Input,
+    rs: &[u8],
+    bytes: u64,
+    block: usize,
+    counts: &[u64],
+) -> Result<Plan, Refusal>
+    requires sized { 0 < bytes }
+    requires one_byte { length rs.now ≤ 1 }
+    requires ready { IsReady rs.now input.now }
+    requires block { 0 < block }
+    requires counts { counts.now ≡ block_counts rs.now block (files_of input.now) }
+    ensures plan { IfOk result (λ p. IsPlanOf rs.now (files_of input.now) p) }
+    ensures few { IfOk result (λ p. length p ≤ most_chunks) }
+    ensures accepted { IfOk result (λ _.
+        ¬ IsRefused rs.now (files_of input.now) (Cutting.Size bytes)) }
+    ensures refused { result ≡ Err Refusal.Cutting
+        → IsRefused rs.now (files_of input.now) (Cutting.Size bytes) }
+{
+    match Plan::by_counts(alloc, input, rs, bytes, block, counts) {
+        Ok(plan) => Ok(plan),
+        Err(CutRefusal::Memory) => Err(Refusal::Memory),
+        Err(_) => Err(Refusal::Cutting),
+    }
+}
+
+/// The plan by size, out of counts of records that workers make, where the input has few enough blocks.
+fn plan_by_size<G: Gate + Sync, R: Threads + Wait>(
+    rt: &R,
+    alloc: Global,
+    input: &Input,
+    rs: &[u8],
+    bytes: u64,
+    workers: usize,
+    gate: &G,
+) -> Result<Plan, Refusal>
+    requires sized { 0 < bytes }
+    requires one_byte { length rs.now ≤ 1 }
+    requires ready { IsReady rs.now input.now }
+    requires workers { IsCrew workers }
+    ensures plan { IfOk result (λ p. IsPlanOf rs.now (files_of input.now) p) }
+    ensures few { IfOk result (λ p. length p ≤ most_chunks) }
+    ensures accepted { IfOk result (λ _.
+        ¬ IsRefused rs.now (files_of input.now) (Cutting.Size bytes)) }
+    ensures refused { result ≡ Err Refusal.Cutting
+        → IsRefused rs.now (files_of input.now) (Cutting.Size bytes) }
+{
+    let Some(block) = block_size(input) else {
+        return plan_here(alloc, input, rs, bytes);
+    };
+    match count_records(rt, alloc, input, rs, block, workers, gate) {
+        Ok(counts) => plan_by_counts(alloc, input, rs, bytes, block, counts.as_slice()),
+        Err(CrewRefusal::Memory) => Err(Refusal::Memory),
+        Err(CrewRefusal::Thread) => Err(Refusal::Thread),
     }
 }
 
 /// The plan of a cutting, by the bytes of RS.
-pub(crate) fn plan_of(
+pub(crate) fn plan_of<G: Gate + Sync, R: Threads + Wait>(
+    rt: &R,
     alloc: Global,
     input: &Input,
     rs: &[u8],
-    cutting: &Cutting,
+    way: Way<'_>,
+    gate: &G,
 ) -> Result<Plan, Refusal>
-    requires sized { IsSized cutting.now }
+    requires sized { IsSized way.cutting.now }
     requires one_byte { length rs.now ≤ 1 }
     requires ready { IsReady rs.now input.now }
+    requires workers { IsCrew way.workers }
     ensures plan { IfOk result (λ p. IsPlanOf rs.now (files_of input.now) p) }
     ensures few { IfOk result (λ p. length p ≤ most_chunks) }
-    ensures accepted { IfOk result (λ _. ¬ IsRefused rs.now (files_of input.now) cutting.now) }
+    ensures accepted { IfOk result (λ _.
+        ¬ IsRefused rs.now (files_of input.now) way.entry.cutting.now) }
     ensures refused { result ≡ Err Refusal.Cutting
-        → IsRefused rs.now (files_of input.now) cutting.now }
+        → IsRefused rs.now (files_of input.now) way.entry.cutting.now }
 {
-    match cut(alloc, input, rs, cutting) {
-        Ok(plan) => Ok(plan),
-        Err(CutRefusal::Memory) => Err(Refusal::Memory),
-        Err(_) => Err(Refusal::Cutting),
+    match way.cutting {
+        Cutting::Size(bytes) => plan_by_size(rt, alloc, input, rs, *bytes, way.workers, gate),
+        Cutting::At(cuts) => match Plan::at(alloc, input, rs, cuts) {
+            Ok(plan) => Ok(plan),
+            Err(CutRefusal::Memory) => Err(Refusal::Memory),
+            Err(_) => Err(Refusal::Cutting),
+        },
     }
 }

@@ -70,7 +70,7 @@ fn run_admitted<G: Gate + Sync, R: Threads + Wait>(
         return Ok(Some((outcome, Route::Redo)));
     }
     input.mend(rs.as_slice())?;
-    let plan = plan_of(prologue.run.alloc, input, rs.as_slice(), way.cutting)?;
+    let plan = plan_of(rt, prologue.run.alloc, input, rs.as_slice(), way, gate)?;
     let source = Chunked {
         input,
         plan: &plan,
