@@ -23,3 +23,10 @@ pub in_front : (code : Code) (budget : ℕ) (left : Left) (out : List ℕ) (e : 
 in_front code budget left out e f none is =
     ap (λ (o : List ℕ). behind_records calls code.expressions code budget left (record e { output = o })) (sym (append-nil out) ∙ ap (λ (o : List ℕ). out ++ o) (sym none))
     ∙ behind_records_append out calls code.expressions code budget left e ∙ ap (finish_with_output_before out) is
+
+-- the same of an end that is told otherwise
+pub gone_on : (code : Code) (budget : ℕ) (out : List ℕ) (e x : End Globals) (f : Finish Globals) → x ≡ record e { output = out } → e.output ≡ [] →
+    behind_records calls code.expressions code budget e.left e ≡ f →
+    behind_records calls code.expressions code budget x.left x ≡ finish_with_output_before out f
+gone_on code budget out e x f same none is =
+    ap (λ (y : End Globals). behind_records calls code.expressions code budget y.left y) same ∙ in_front code budget e.left out e f none is

@@ -49,7 +49,7 @@ fn output_of(
     behind: Vec<u8>,
 ) -> Result<Output, AllocError>
     ensures { IfOk result (λ output.
-        output ≡ (before.items ++ in_a_row outputs.entry.items) ++ behind.items) }
+        output ≡ (before.items ++ in_a_row outputs.items) ++ behind.items) }
 {
     let mut outputs = outputs;
     let mut parts = Vec::with_capacity(alloc, outputs.len().saturating_add(2))?;
@@ -82,7 +82,8 @@ pub(crate) fn go_on_merged<'a>(
     let _before = mem::replace(&mut run.state, merged.state);
     let left = left_of(merged.leaving);
     let ending = run_behind_records(job, left, &mut globals, &mut run)?;
-    let output = output_of(alloc, before, merged.outputs, run.output)?;
+    let behind = mem::replace(&mut run.output, Vec::new(alloc));
+    let output = output_of(alloc, before, merged.outputs, behind)?;
     Ok(Outcome {
         output,
         globals,
