@@ -1,6 +1,6 @@
 # How rows of programs are read, as programs/README writes them: for a script that says what `check` does at the end of
 # each row, and has set $work to a folder of its own. Then read_rows FILE TOPIC goes through a file, and in `check`
-# run_row WORDS.. runs the row with its words behind those. $row is its name, $work/output and $work/errors what it must
+# run_row WORDS.. runs the row with its words behind those, which stand in $words, one run in a line. $row is its name, $work/output and $work/errors what it must
 # write, $work/got_output and $work/got_errors what it wrote; $want_status and $status are the same of its status.
 newline='
 '
