@@ -41,6 +41,7 @@ test: toolchain
 bench: build
 	@test -e $(BENCH_DATA)/ten.txt || bench/data $(BENCH_DATA)
 	@test -e $(BENCH_DATA)/log.txt || bench/log $(BENCH_DATA)
+	@test -e $(BENCH_DATA)/suite/values.txt || bench/records $(BENCH_DATA)/suite
 	bench/run $(BENCH_DATA)
 	bench/workers $(BENCH_DATA)
 	cd crates/pawk_ere_bench && rt run </dev/null
@@ -48,7 +49,6 @@ bench: build
 	@test -e $(BENCH_DATA)/paragraphs.txt || bench/words $(BENCH_DATA)
 	cd crates/pawk_split_bench && rt run </dev/null
 	bench/fields $(BENCH_DATA)
-	@test -e $(BENCH_DATA)/suite/values.txt || bench/records $(BENCH_DATA)/suite
 	bench/suite $(BENCH_DATA)/suite
 
 install: build
