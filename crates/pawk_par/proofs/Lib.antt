@@ -1,3 +1,1 @@
-pub mod PlanRunLemmas
-pub mod StreamLemmas
-pub mod GatheringLemmas
+pub mod WritingLemmas
