@@ -1,1 +1,3 @@
+pub mod RequestLemmas
+pub mod StreamLemmas
 pub mod WritingLemmas
