@@ -1,7 +1,6 @@
 -- Requests that are accepted, and why others are not.
 use Rattle.std.specs.Prelude.{◌≡◌, ◌≢◌, ℕ, List, map, Some, None}
 use Rattle.pawk_token.specs.Bytes.{Text}
-use Rattle.pawk_token.specs.declared.refusal.SyntaxRefusal.{SyntaxRefusal}
 use Rattle.pawk_token.specs.declared.refusal.SyntaxRefusal.TheVariants as syntax_refusal
 use Rattle.pawk_lex.specs.Cut.{Cut}
 use Rattle.pawk_syntax_program.specs.Item.{Part}
