@@ -19,11 +19,10 @@ returns-in-Err-clause-part g c =
     let size = c.loop-part.invariant.size in
     let told = rw c.deref.ensures.value at c.in-Err.ensures.part in
     let small : n < length text = told.0 in
-    let wrote : Appends (g.K.Sink.taken c.loop-part.sink) (g.K.Sink.taken c.write_all.new.sink) (take n text) = told.1 in
-    (
+    let wrote : Appends (g.K.Sink.taken c.loop-part.sink) (g.K.Sink.taken c.write_all.new.sink) (take n text) = told.1 in (
       omega (arith, size, long, sum, small),
       subst (λ (l : List ℕ). Appends (g.K.Sink.taken c.args.sink.now) (g.K.Sink.taken c.write_all.new.sink) l) (take-into whole text rest done n row (omega (arith, small)))
-      (Appends-more _ _ _ (take done whole) (take n text) c.loop-part.invariant.took wrote),
+          (Appends-more _ _ _ (take done whole) (take n text) c.loop-part.invariant.took wrote),
     )
 
 pub loop-part-preserved : goal.loop-part-preserved
