@@ -156,24 +156,8 @@ fn plan_of_lines(alloc: Global, input: &Input) -> Result<Plan, Fail>
     }
 }
 
-/// The chunks that one worker ran, with their results.
-type Results<'a> = Result<Vec<(u64, ChunkResult<'a>)>, AllocError>;
-
-/// The work of one thread.
-fn work_alone<'a, G: Gate>(
-    alloc: Global,
-    task: Task<'_, 'a>,
-    mut seat: BoardSeat,
-    gate: &G,
-) -> Results<'a>
-    requires task { IsTask task }
-    requires seat { seat ≡ fresh task.board.now.id }
-{
-    work(alloc, &task, &mut seat, gate)
-}
-
 /// The number of the one chunk that a worker ran, and whether it was left through with an output of this byte and a newline.
-fn only_line(results: &Results<'_>) -> Option<(u64, u8)> {
+fn only_line(results: &Result<Vec<(u64, ChunkResult<'_>)>, AllocError>) -> Option<(u64, u8)> {
     match results {
         Ok(results) => match results.as_slice() {
             [(chunk, result)] => match (result.left, result.output.as_slice()) {
@@ -184,6 +168,19 @@ fn only_line(results: &Results<'_>) -> Option<(u64, u8)> {
         },
         Err(_) => None,
     }
+}
+
+/// The work of one thread: the number and the line of the one chunk that it ran.
+fn work_alone<G: Gate>(
+    alloc: Global,
+    task: Task<'_, '_>,
+    mut seat: BoardSeat,
+    gate: &G,
+) -> Option<(u64, u8)>
+    requires task { IsTask task }
+    requires seat { seat ≡ fresh task.board.now.id }
+{
+    only_line(&work(alloc, &task, &mut seat, gate))
 }
 
 /// A board of two seats, and a thread for each of them: what each worker ran.
@@ -205,12 +202,11 @@ fn both_work<G: Gate + Sync, R: AllocGlobal + Threads>(
         source,
         board: &board,
     };
-    let (first, second) = thread::join(
+    Ok(thread::join(
         rt,
         move || work_alone(alloc, task, a, gate),
         move || work_alone(alloc, task, b, gate),
-    );
-    Ok((only_line(&first), only_line(&second)))
+    ))
 }
 
 /// Both threads run a program over an input with a chunk for each line.
