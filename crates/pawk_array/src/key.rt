@@ -13,19 +13,19 @@ use std::hash::{Hash, Hasher};
 #[derive(Drop)]
 pub enum Key {
     /// So many of these bytes, from the first on.
-    Short(u8, [u8; 22]),
+    Short(u8, [u8; 30]),
     Long(Vec<u8>),
 }
 
 impl Key {
-    /// A key with these bytes. One of at most 22 bytes takes no memory.
+    /// A key with these bytes. One of at most 30 bytes takes no memory.
     pub fn new(alloc: Global, text: &[u8]) -> Result<Key, AllocError>
         ensures { IfOk result (λ key. text_of key ≡ text.now) }
     {
-        if text.len() > 22 {
+        if text.len() > 30 {
             return Ok(Key::Long(Vec::from_slice(alloc, text)?));
         }
-        let mut room = [0; 22];
+        let mut room = [0; 30];
         room[..text.len()].copy_from_slice(text);
         Ok(Key::Short(text.len() as u8, room))
     }
