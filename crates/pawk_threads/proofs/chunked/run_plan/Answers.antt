@@ -19,6 +19,11 @@ returns-in_err-new-clause-refused g c =
     let p = err_from_is_err_and c.from_residual-in_err-new.result c.from_residual-in_err-new.ensures.1 in
     rw (p.1, p.2) no_cutting
 
+pub returns-in_err-results-clause-refused : goal.returns-in_err-results-clause-refused
+returns-in_err-results-clause-refused g c =
+    let p = err_from_is_err_and c.from_residual-in_err-results.result c.from_residual-in_err-results.ensures.1 in
+    rw p.1 p.2
+
 pub returns-in-Ok-clause-went : goal.returns-in-Ok-clause-went
 returns-in-Ok-clause-went g c =
     let code = code_view c.args.job.code.now in
