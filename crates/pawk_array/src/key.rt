@@ -7,29 +7,31 @@ use indexmap::Equivalent;
 use std::alloc::{AllocError, Global};
 use std::hash::{Hash, Hasher};
 
-/// A key of an element. A short one stands where it is, a long one in a room of its own.
+/// A key of an element, for maps by such keys. A short one stands where it is, a long one in a room of
+/// its own. Contracts see its bytes by `text_of`; two keys are equal where their bytes are, and are
+/// hashed as them. A map looks one up by lent bytes, which a [`Query`] is.
 #[derive(Drop)]
-pub(crate) enum Key {
+pub enum Key {
     /// So many of these bytes, from the first on.
-    Short(u8, [u8; 22]),
+    Short(u8, [u8; 30]),
     Long(Vec<u8>),
 }
 
 impl Key {
-    /// A key with these bytes.
-    pub(crate) fn new(alloc: Global, text: &[u8]) -> Result<Key, AllocError>
+    /// A key with these bytes. One of at most 30 bytes takes no memory.
+    pub fn new(alloc: Global, text: &[u8]) -> Result<Key, AllocError>
         ensures { IfOk result (λ key. text_of key ≡ text.now) }
     {
-        if text.len() > 22 {
+        if text.len() > 30 {
             return Ok(Key::Long(Vec::from_slice(alloc, text)?));
         }
-        let mut room = [0; 22];
+        let mut room = [0; 30];
         room[..text.len()].copy_from_slice(text);
         Ok(Key::Short(text.len() as u8, room))
     }
 
     /// The bytes of the key.
-    pub(crate) fn text(&self) -> &[u8]
+    pub fn text(&self) -> &[u8]
         ensures { result.now ≡ text_of self.now }
     {
         match self {
@@ -76,9 +78,9 @@ impl Hash for Key {
     }
 }
 
-/// The bytes of a key that is looked for.
+/// The bytes of a [`Key`] that is looked for in a map, lent.
 #[derive(Clone, Copy)]
-pub(crate) struct Query<'a>(pub(crate) &'a [u8]);
+pub struct Query<'a>(pub &'a [u8]);
 
 impl PartialEq for Query<'_> {
     ghost use Rattle.std.specs.Str.{bytes_eq};

@@ -8,4 +8,5 @@ pub mod laws;
 mod texts;
 
 pub use array::{Array, Element};
+pub use key::{Key, Query};
 pub use texts::Texts;

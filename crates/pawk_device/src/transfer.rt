@@ -96,6 +96,7 @@ fn past(bytes: &[u8], count: usize) -> &[u8]
 /// Writes all the bytes, in order. The error is the count of bytes that went out before a write failed, or took nothing.
 pub fn write_all<K: Sink>(sink: &mut K, bytes: &[u8]) -> Result<(), u64>
     ensures all { OnOk result (Appends (K.taken sink.old) (K.taken sink.new) bytes.now) }
+    ensures unfailing { OnOk result (K.failures sink.new ≡ K.failures sink.old) }
     ensures failed { IfErr result (λ _. K.failures sink.old < K.failures sink.new) }
     ensures part { IfErr result (λ n.
         (n < length bytes.now) × Appends (K.taken sink.old) (K.taken sink.new) (take n bytes.now)) }

@@ -1,6 +1,6 @@
 -- What the pairs of a map have, in the order of their keys.
-use Rattle.std.proofs.Common.{◌≡◌, ℕ, suc, ◌+◌, ◌<◌, Bool, slice_get, true, false, cond, List, [], ◌∷◌, ◌++◌, length, Option, Some, None, Global, refl, sym, ◌∙◌, ap, subst, arith, add-one}
-use Rattle.std.specs.Prelude.{not, is_some, if◌then◌else◌, Vec, position, nat_lt}
+use Rattle.std.proofs.Common.{◌≡◌, ℕ, suc, ◌+◌, ◌<◌, Bool, slice_get, true, false, cond, List, [], ◌∷◌, ◌++◌, length, Option, Some, None, refl, sym, ◌∙◌, ap, subst, arith, add-one}
+use Rattle.std.specs.Prelude.{not, is_some, if◌then◌else◌, position, nat_lt}
 use Rattle.std.specs.Option.{option_map}
 use Rattle.std.specs.Str.{bytes_eq}
 use Rattle.std.specs.List.{IsDistinct, AllByRecursion, position_or_len}
@@ -16,28 +16,27 @@ use Rattle.std.proofs.lemmas.Slice.Eq.{bytes_eq-Decides}
 use Rattle.indexmap.specs.IndexMap.{IndexMap, IsUnique, values, insert_entry, set_value_at}
 use Rattle.indexmap.proofs.CallerLemmas.{updates-with_value_at}
 use Rattle.pawk_array.specs.Entries.{order}
+use Rattle.pawk_array.specs.declared.key.Key.{Key}
+use Rattle.pawk_array.specs.Keys.{text_of}
 use Rattle.pawk_frozen.specs.declared.mark.Mark.{Mark as Code}
 use Rattle.pawk_frozen.specs.declared.mark.Mark.TheVariants as code
 use Rattle.pawk_frozen.specs.Marks.{Mark, Marks, mark_found, mark_or_blank, put_mark}
 use Rattle.pawk_frozen.specs.MarkViews.{mark_view, marks_of, HasKeyAt, Rise}
 use Rattle.pawk_frozen.proofs.KeyLemmas.{none_rise, rise-put, found-put, found-put_here, same_found, length-put_new, flip, put_same}
 
-abbrev pub Key : Type 0
-Key = Vec ℕ Global
-
 abbrev pub Pairs : Type 0
 Pairs = List (Key × Code)
 
 -- whether a key of a map has these bytes
 abbrev pub has_bytes : List ℕ → Key → Bool
-has_bytes q k = bytes_eq q k.items
+has_bytes q k = bytes_eq q (text_of k)
 
 abbrev pub same_bytes : Key → Key → Bool
-same_bytes x y = bytes_eq x.items y.items
+same_bytes x y = bytes_eq (text_of x) (text_of y)
 
 pub rise-marks_of : (es : Pairs) → Rise (marks_of es)
 rise-marks_of [] = none_rise
-rise-marks_of (e ∷ es) = rise-put e.0.items (mark_view e.1) (marks_of es) (rise-marks_of es)
+rise-marks_of (e ∷ es) = rise-put (text_of e.0) (mark_view e.1) (marks_of es) (rise-marks_of es)
 
 map_if : (b : Bool) (v : Code) (o : Option Code) → (if b then Some (mark_view v) else option_map mark_view o) ≡ option_map mark_view (cond b (Some v) o)
 map_if true v o = refl
@@ -47,33 +46,33 @@ map_if false v o = refl
 pub found-marks_of : (q : List ℕ) (es : Pairs) → find order q (marks_of es) ≡ option_map mark_view (lookup (has_bytes q) es)
 found-marks_of q [] = refl
 found-marks_of q (e ∷ es) =
-    found-put q e.0.items (mark_view e.1) (marks_of es)
+    found-put q (text_of e.0) (mark_view e.1) (marks_of es)
     ∙ ap (λ o. if has_bytes q e.0 then Some (mark_view e.1) else o) (found-marks_of q es)
     ∙ map_if (has_bytes q e.0) e.1 (lookup (has_bytes q) es)
 
-none_passes : (k : Key) (es : Pairs) → AllByRecursion (λ y. same_bytes k y ≡ false) (keys_of es) → NonePasses (has_bytes k.items) es
+none_passes : (k : Key) (es : Pairs) → AllByRecursion (λ y. same_bytes k y ≡ false) (keys_of es) → NonePasses (has_bytes (text_of k)) es
 none_passes k [] h = tt
 none_passes k (e ∷ es) h = (h.0, none_passes k es h.1)
 
 pub length-marks_of : (es : Pairs) → IsDistinct same_bytes (keys_of es) → length (marks_of es) ≡ length es
 length-marks_of [] h = refl
 length-marks_of (e ∷ es) h =
-    let absent : find order e.0.items (marks_of es) ≡ None =
-    found-marks_of e.0.items es ∙ ap (option_map mark_view) (lookup-none (has_bytes e.0.items) es (none_passes e.0 es (IsDistinct-head same_bytes e.0 (keys_of es) h))) in
-    length-put_new e.0.items (mark_view e.1) (marks_of es) (rise-marks_of es) absent
+    let absent : find order (text_of e.0) (marks_of es) ≡ None =
+    found-marks_of (text_of e.0) es ∙ ap (option_map mark_view) (lookup-none (has_bytes (text_of e.0)) es (none_passes e.0 es (IsDistinct-head same_bytes e.0 (keys_of es) h))) in
+    length-put_new (text_of e.0) (mark_view e.1) (marks_of es) (rise-marks_of es) absent
     ∙ add-one (length (marks_of es))
     ∙ ap suc (length-marks_of es (IsDistinct-tail same_bytes e.0 (keys_of es) h))
 
 is_key_test : (q : List ℕ) → IsKeyTest same_bytes (has_bytes q)
-is_key_test q x y e = let same = (bytes_eq-Decides q x.items).0 e in rw (← same) refl
+is_key_test q x y e = let same = (bytes_eq-Decides q (text_of x)).0 e in rw (← same) refl
 
 apart : (k q : List ℕ) → bytes_eq k q ≡ false → AreApart (has_bytes k) (has_bytes q)
 apart k q e x h = by_cases (has_bytes q x) refl where
   by_cases : (b : Bool) → has_bytes q x ≡ b → has_bytes q x ≡ false
   by_cases false p = p
   by_cases true p =
-      let first = (bytes_eq-Decides k x.items).0 h in
-      let second = (bytes_eq-Decides q x.items).0 p in
+      let first = (bytes_eq-Decides k (text_of x)).0 h in
+      let second = (bytes_eq-Decides q (text_of x)).0 p in
       let yes : bytes_eq k q ≡ true = (bytes_eq-Decides k q).1 (first ∙ sym second) in
       cc
 
@@ -108,21 +107,21 @@ lookup-last test (x ∷ es) e = by_cases (test x.0) (lookup-last test es e) wher
   by_cases false h = h
 
 -- pairs with one more that has a key of its own
-pub marks_of-last : (es : Pairs) (e : Key × Code) → lookup (has_bytes e.0.items) es ≡ None → marks_of (es ++ e ∷ []) ≡ put_mark e.0.items (mark_view e.1) (marks_of es)
+pub marks_of-last : (es : Pairs) (e : Key × Code) → lookup (has_bytes (text_of e.0)) es ≡ None → marks_of (es ++ e ∷ []) ≡ put_mark (text_of e.0) (mark_view e.1) (marks_of es)
 marks_of-last es e absent =
-    same_found (marks_of (es ++ e ∷ [])) (put_mark e.0.items (mark_view e.1) (marks_of es)) (rise-marks_of (es ++ e ∷ [])) (rise-put e.0.items (mark_view e.1) (marks_of es) (rise-marks_of es))
+    same_found (marks_of (es ++ e ∷ [])) (put_mark (text_of e.0) (mark_view e.1) (marks_of es)) (rise-marks_of (es ++ e ∷ [])) (rise-put (text_of e.0) (mark_view e.1) (marks_of es) (rise-marks_of es))
     (λ q. found-marks_of q (es ++ e ∷ [])
     ∙ ap (option_map mark_view) (lookup-last (has_bytes q) es e)
-    ∙ by_cases q (bytes_eq q e.0.items) refl
-    ∙ sym (found-put q e.0.items (mark_view e.1) (marks_of es))) where
+    ∙ by_cases q (bytes_eq q (text_of e.0)) refl
+    ∙ sym (found-put q (text_of e.0) (mark_view e.1) (marks_of es))) where
       other : (o : Option Code) → option_map mark_view (if is_some o then o else None) ≡ option_map mark_view o
       other None = refl
       other (Some v) = refl
 
-      by_cases : (q : List ℕ) (b : Bool) → bytes_eq q e.0.items ≡ b →
+      by_cases : (q : List ℕ) (b : Bool) → bytes_eq q (text_of e.0) ≡ b →
           option_map mark_view (if is_some (lookup (has_bytes q) es) then lookup (has_bytes q) es else cond b (Some e.1) None) ≡ (if b then Some (mark_view e.1) else find order q (marks_of es))
       by_cases q true p =
-          let same = (bytes_eq-Decides q e.0.items).0 p in
+          let same = (bytes_eq-Decides q (text_of e.0)).0 p in
           rw (same, absent) refl
       by_cases q false p = other (lookup (has_bytes q) es) ∙ sym (found-marks_of q es)
 
@@ -139,7 +138,7 @@ first_place k (e ∷ es) h = by_cases (has_bytes k e.0) refl h (first_place k es
   by_cases : (b : Bool) → has_bytes k e.0 ≡ b → cond (not b) (1 + position_or_len (has_bytes k) (keys_of es)) 0 < suc (length es) →
       (position_or_len (has_bytes k) (keys_of es) < length es → HasKeyAt es (position_or_len (has_bytes k) (keys_of es)) k) →
       HasKeyAt (e ∷ es) (cond (not b) (1 + position_or_len (has_bytes k) (keys_of es)) 0) k
-  by_cases true p g rest = (e, refl, sym ((bytes_eq-Decides k e.0.items).0 p))
+  by_cases true p g rest = (e, refl, sym ((bytes_eq-Decides k (text_of e.0)).0 p))
   by_cases false p g rest =
       let next : 1 + position_or_len (has_bytes k) (keys_of es) ≡ suc (position_or_len (has_bytes k) (keys_of es)) = omega arith in
       rw next (further e es _ k (rest (omega (arith, g))))
@@ -155,15 +154,15 @@ place_found k es i e h =
     subst P same (first_place k es (rw same h))
 
 -- a key that is put in stands at its place
-pub place_inserted : (k : Key) (v : Code) (es : Pairs) → HasKeyAt (insert_entry same_bytes es k v) (position_or_len (same_bytes k) (keys_of es)) k.items
+pub place_inserted : (k : Key) (v : Code) (es : Pairs) → HasKeyAt (insert_entry same_bytes es k v) (position_or_len (same_bytes k) (keys_of es)) (text_of k)
 place_inserted k v [] = ((k, v), refl, refl)
 place_inserted k v (e ∷ es) = by_cases (same_bytes k e.0) refl (place_inserted k v es) where
-  by_cases : (b : Bool) → same_bytes k e.0 ≡ b → HasKeyAt (insert_entry same_bytes es k v) (position_or_len (same_bytes k) (keys_of es)) k.items →
-      HasKeyAt (if b then (e.0, v) ∷ es else e ∷ insert_entry same_bytes es k v) (cond (not b) (1 + position_or_len (same_bytes k) (keys_of es)) 0) k.items
-  by_cases true p rest = ((e.0, v), refl, sym ((bytes_eq-Decides k.items e.0.items).0 p))
+  by_cases : (b : Bool) → same_bytes k e.0 ≡ b → HasKeyAt (insert_entry same_bytes es k v) (position_or_len (same_bytes k) (keys_of es)) (text_of k) →
+      HasKeyAt (if b then (e.0, v) ∷ es else e ∷ insert_entry same_bytes es k v) (cond (not b) (1 + position_or_len (same_bytes k) (keys_of es)) 0) (text_of k)
+  by_cases true p rest = ((e.0, v), refl, sym ((bytes_eq-Decides (text_of k) (text_of e.0)).0 p))
   by_cases false p rest =
       let next : 1 + position_or_len (same_bytes k) (keys_of es) ≡ suc (position_or_len (same_bytes k) (keys_of es)) = omega arith in
-      rw next (further e (insert_entry same_bytes es k v) _ k.items rest)
+      rw next (further e (insert_entry same_bytes es k v) _ (text_of k) rest)
 
 -- ---- marks that are made
 
@@ -183,22 +182,22 @@ named_there k es e =
     sym (put_same k (mark_found k (marks_of es)) (marks_of es) (rise-marks_of es) there)
 
 -- one that is missing is made, blank
-pub named_new : (k : Key) (old new : Pairs) → is_some (lookup (has_bytes k.items) old) ≡ false → lookup (has_bytes k.items) new ≡ Some code.Blank →
-    KeepsOthers same_bytes (has_bytes k.items) old new → marks_of new ≡ put_mark k.items (mark_found k.items (marks_of old)) (marks_of old)
+pub named_new : (k : Key) (old new : Pairs) → is_some (lookup (has_bytes (text_of k)) old) ≡ false → lookup (has_bytes (text_of k)) new ≡ Some code.Blank →
+    KeepsOthers same_bytes (has_bytes (text_of k)) old new → marks_of new ≡ put_mark (text_of k) (mark_found (text_of k) (marks_of old)) (marks_of old)
 named_new k old new absent here others =
-    let none = found-marks_of k.items old ∙ none_is (lookup (has_bytes k.items) old) absent in
-    put_updated k.items old new code.Blank here others ∙ ap (λ o. put_mark k.items (mark_or_blank o) (marks_of old)) (sym none)
+    let none = found-marks_of (text_of k) old ∙ none_is (lookup (has_bytes (text_of k)) old) absent in
+    put_updated (text_of k) old new code.Blank here others ∙ ap (λ o. put_mark (text_of k) (mark_or_blank o) (marks_of old)) (sym none)
 
 -- ---- a mark that is written at a place
 
 same_bytes_equiv : IsEquivalence same_bytes
-same_bytes_equiv = on_texts_equal (λ k. k.items)
+same_bytes_equiv = on_texts_equal (λ k. (text_of k))
 
 pub put_written : {S : Type 0} (m : IndexMap Key Code S) → IsUnique same_bytes m → (i : ℕ) (k : List ℕ) (w : Code) → HasKeyAt m.entries i k →
     marks_of (set_value_at m.entries i w) ≡ put_mark k (mark_view w) (marks_of m.entries)
 put_written m unique i k w h =
     let u = updates-with_value_at m i w same_bytes_equiv unique h.0.0 h.0.1 h.1 in
-    put_updated h.0.0.items m.entries (set_value_at m.entries i w) w u.1 u.3 ∙ ap (λ q. put_mark q (mark_view w) (marks_of m.entries)) h.2
+    put_updated (text_of h.0.0) m.entries (set_value_at m.entries i w) w u.1 u.3 ∙ ap (λ q. put_mark q (mark_view w) (marks_of m.entries)) h.2
 
 some_same : {A : Type 0} (x y : A) → Some x ≡ Some y → x ≡ y
 some_same x y e = cc
@@ -207,8 +206,8 @@ pub mark_at_place : {S : Type 0} (m : IndexMap Key Code S) → IsUnique same_byt
     slice_get (values m) i ≡ Some v → find order k (marks_of m.entries) ≡ Some (mark_view v)
 mark_at_place m unique i k v h e =
     let at : Some h.0.1 ≡ Some v = sym (ap (option_map (λ x. x.1)) h.1) ∙ sym (slice_get-map (λ (x : Key × Code). x.1) m.entries i) ∙ e in
-    let there : lookup (has_bytes h.0.0.items) m.entries ≡ Some h.0.1 = hash_map_get_place same_bytes_equiv m i h.0.0 h.0.1 unique h.1 in
-    ap (λ q. find order q (marks_of m.entries)) (sym h.2) ∙ found-marks_of h.0.0.items m.entries ∙ ap (option_map mark_view) (there ∙ at)
+    let there : lookup (has_bytes (text_of h.0.0)) m.entries ≡ Some h.0.1 = hash_map_get_place same_bytes_equiv m i h.0.0 h.0.1 unique h.1 in
+    ap (λ q. find order q (marks_of m.entries)) (sym h.2) ∙ found-marks_of (text_of h.0.0) m.entries ∙ ap (option_map mark_view) (there ∙ at)
 
 -- the mark with which a key is named
 pub mark_named : (k : List ℕ) (old new : Marks) (m : Mark) → new ≡ put_mark k (mark_found k old) old → find order k new ≡ Some m → m ≡ mark_found k old

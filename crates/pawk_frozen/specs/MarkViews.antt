@@ -1,8 +1,9 @@
 -- Marks of the code.
-use Rattle.std.specs.Prelude.{◌≡◌, ℕ, true, List, [], ◌∷◌, Some, Vec, if◌then◌else◌, slice_get}
-use Rattle.std.specs.declared.alloc.Global.{Global}
+use Rattle.std.specs.Prelude.{◌≡◌, ℕ, true, List, [], ◌∷◌, Some, if◌then◌else◌, slice_get}
 use Rattle.std.specs.FinMap.Entries.{is_sorted}
 use Rattle.pawk_array.specs.Entries.{order}
+use Rattle.pawk_array.specs.declared.key.Key.{Key}
+use Rattle.pawk_array.specs.Keys.{text_of}
 use Rattle.pawk_value.specs.Fault.TheVariants as fault
 use Rattle.pawk_value.specs.Value.{shown}
 use Rattle.pawk_world.specs.Halts as halt
@@ -23,17 +24,17 @@ mark_view (code.Put v) = last_put (shown v)
 mark_view code.Created = created
 
 -- pairs of a map, as marks by keys
-abbrev pub marks_of : List (Vec ℕ Global × Code) → Marks
+abbrev pub marks_of : List (Key × Code) → Marks
 marks_of [] = []
-marks_of (e ∷ es) = put_mark e.0.items (mark_view e.1) (marks_of es)
+marks_of (e ∷ es) = put_mark (text_of e.0) (mark_view e.1) (marks_of es)
 
 -- the keys rise strictly
 abbrev pub Rise : Marks → Type 0
 Rise marks = is_sorted order marks ≡ true
 
 -- at this place is the pair of the key
-abbrev pub HasKeyAt : List (Vec ℕ Global × Code) → ℕ → List ℕ → Type 0
-HasKeyAt es place k = (e : Vec ℕ Global × Code) × (slice_get es place ≡ Some e) × (e.0.items ≡ k)
+abbrev pub HasKeyAt : List (Key × Code) → ℕ → List ℕ → Type 0
+HasKeyAt es place k = (e : Key × Code) × (slice_get es place ≡ Some e) × (text_of e.0 ≡ k)
 
 -- a mark is kept where its sum may still be one; else what was there stays
 abbrev pub kept : {S : Type 0} → Mark → S → S → Answer S (Unit {0})

@@ -6,6 +6,7 @@ ghost use Rattle.std.specs.Borrow.{sem};
 ghost use Rattle.std.specs.FinMap.Entries.{find};
 ghost use Rattle.pawk_value.specs.Value.{lent_value};
 ghost use Rattle.pawk_array.specs.Entries.{order};
+ghost use Rattle.pawk_array.specs.Keys.{text_of};
 ghost use Rattle.pawk_world.specs.Answers.{Answers};
 ghost use Rattle.pawk_frozen.specs.Marks.{created, last_put, mark_found, put_mark, with_amount};
 ghost use Rattle.pawk_frozen.specs.Frozens.{signed_amount};
@@ -14,6 +15,7 @@ ghost use Rattle.pawk_frozen.specs.MarkLending.{LendsMark};
 
 use crate::mark::Mark;
 use indexmap::IndexMap;
+use pawk_array::{Key, Query};
 use pawk_code::word::Sign;
 use pawk_value::ValueRef;
 use pawk_world::Halt;
@@ -25,7 +27,7 @@ use std::marker::Model;
 #[derive(Drop)]
 pub struct Marks {
     alloc: Global,
-    map: IndexMap<Vec<u8>, Mark>,
+    map: IndexMap<Key, Mark>,
 }
 
 impl Model for Marks {
@@ -38,21 +40,17 @@ impl Model for Marks {
 }
 
 /// The place of a key among the pairs; a key that is missing is added, with nothing noted.
-fn place_of(
-    alloc: Global,
-    map: &mut IndexMap<Vec<u8>, Mark>,
-    key: &[u8],
-) -> Result<usize, AllocError>
+fn place_of(alloc: Global, map: &mut IndexMap<Key, Mark>, key: &[u8]) -> Result<usize, AllocError>
     ensures place { IfOk result (λ place. HasKeyAt map.new.entries place key.now) }
     ensures named { OnOk result (marks_of map.new.entries
         ≡ put_mark key.now (mark_found key.now (marks_of map.old.entries))
         (marks_of map.old.entries)) }
     ensures err { OnErr result (map.new.entries ≡ map.old.entries) }
 {
-    match map.get_index_of(key) {
+    match map.get_index_of(Query(key)) {
         Some(place) => Ok(place),
         None => {
-            let key = Vec::from_slice(alloc, key)?;
+            let key = Key::new(alloc, key)?;
             let (place, _) = map.insert_full(key, Mark::Blank)?;
             Ok(place)
         }
@@ -82,15 +80,15 @@ impl Marks {
     pub fn get(&self, key: &[u8]) -> Option<&Mark>
         ensures { option_map (λ mark. mark_view mark.now) result ≡ find order key.now self.now }
     {
-        self.map.get(key)
+        self.map.get(Query(key))
     }
 
     /// Takes out an element's key and mark, the latest new one first; each that is left has another
     /// key. None where there is none.
-    pub fn pop(&mut self) -> Option<(Vec<u8>, Mark)>
+    pub fn pop(&mut self) -> Option<(Key, Mark)>
         ensures { MatchOption result ((self.old ≡ []) × (self.new ≡ [])) (λ pair.
-            (self.old ≡ put_mark pair.0.items (mark_view pair.1) self.new)
-            × (find order pair.0.items self.new ≡ None)) }
+            (self.old ≡ put_mark (text_of pair.0) (mark_view pair.1) self.new)
+            × (find order (text_of pair.0) self.new ≡ None)) }
     {
         self.map.pop()
     }

@@ -36,7 +36,7 @@ pub(crate) fn join_array(elements: &mut Array, marks: Marks) -> Result<(), JoinS
     let mut marks = marks;
     while let Some((key, mark)) = marks.pop() {
         elements.order_law();
-        join_element(elements, key.as_slice(), mark)?;
+        join_element(elements, key.text(), mark)?;
     }
     Ok(())
 }

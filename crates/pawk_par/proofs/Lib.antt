@@ -1,3 +1,3 @@
-pub mod PlanRunLemmas
+pub mod RequestLemmas
 pub mod StreamLemmas
-pub mod GatheringLemmas
+pub mod WritingLemmas

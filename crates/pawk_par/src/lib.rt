@@ -1,21 +1,21 @@
-//! Programs run over chunks of their input, by workers in threads.
+//! Whole runs from a source to a sink, of every program, the records in threads where it allows it.
 #![tactic(auto)]
 
-mod cutting;
-mod gathering;
-mod job;
-mod report;
-mod running;
+mod preparing;
+mod reading;
+mod refusal;
+mod request;
 mod streaming;
+mod writing;
 
-pub use cutting::Cutting;
-pub use job::Job;
+pub use pawk_chunk::{ChunkResult, Opening, run_chunk};
+pub use pawk_crew::{Chunked, Task, work};
 pub use pawk_device::{Failed, Reader, Sink, Source, Writer};
-pub use pawk_input::{Blocks, Input, TooLarge};
-pub use pawk_merge::{ChunkResult, Left, MergeResult, MergeStop, RecordState, Store, Sums, merge};
-pub use pawk_sequence::{Ending, Global, Outcome, Place, run_chunk, state_after};
-pub use pawk_shape::{Assignment, Program, Settings, SettingsRefusal, SyntaxRefusal, parse};
-pub use pawk_worker::{Gate, Open, Task, work};
-pub use report::{Refusal, Report, Route};
-pub use running::run;
-pub use streaming::{Request, StreamRefusal, run_streams};
+pub use pawk_gather::merge_results;
+pub use pawk_one::{Ending, Job, Left, Outcome, Place};
+pub use pawk_settings::SettingsRefusal;
+pub use pawk_syntax::SyntaxRefusal;
+pub use pawk_threads::{Cutting, Gate, Open, Refusal, Report, Route, Way, run};
+pub use refusal::StreamRefusal;
+pub use request::Request;
+pub use streaming::run_streams;

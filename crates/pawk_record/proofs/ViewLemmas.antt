@@ -2,7 +2,7 @@
 use Rattle.std.proofs.Common.{◌≡◌, ◌⊎◌, ℕ, ◌-◌, ◌<◌, ◌≤◌, arith, zero, suc, Bool, cond, leb, List, [], ◌∷◌, ◌++◌, length, map, Option, Some, None, Result, Ok, Err, refl, sym, ap, ◌∙◌, subst, ⊎_elim, true, false, append-nil, length-append}
 use Rattle.std.proofs.lemmas.Bool.{cases_lt, le-leb, leb-true}
 use Rattle.std.proofs.lemmas.Option.{slice_get_past}
-use Rattle.std.specs.Prelude.{slice_get}
+use Rattle.std.specs.Prelude.{is_none, slice_get}
 use Rattle.std.specs.declared.ops.Range.{Range}
 use Rattle.pawk_scalar.specs.Value.{Val}
 use Rattle.pawk_value.specs.Fault.{Fault}
@@ -13,7 +13,7 @@ use Rattle.pawk_record.specs.declared.layout.Kind.{Kind}
 use Rattle.pawk_record.specs.declared.layout.Layout.{Layout}
 use Rattle.pawk_record.specs.declared.record.Record.TheInside.{Inside}
 use Rattle.pawk_record.specs.declared.splitter.Splitter.{Splitter}
-use Rattle.pawk_record.specs.Lines.{IsLaidOut, values}
+use Rattle.pawk_record.specs.Lines.{IsLaidOut, line_of, values}
 use Rattle.pawk_record.specs.Records.{Record, IsPrepared, field_at, joined, of_fields, read, record_or_fault, value_or_uninit, with_field, with_value}
 use Rattle.pawk_record.specs.Splitting.{first_place, left}
 use Rattle.pawk_record.specs.Views.{record_of, shown, text_of}
@@ -55,8 +55,15 @@ field_prepared r n some ready = ⊎_elim
     ks : List Kind
     ks = r.here.kinds.items
 
+pub is_left : (next : Option ℕ) → is_none next ≡ true → next ≡ None
+is_left None h = refl
+is_left (Some p) h = cc
+
+pub some_left : (next : Option ℕ) → next ≡ None → is_none next ≡ false → ⊥
+some_left next h e = let same : is_none next ≡ true = ap is_none h in cc
+
 -- with no place to go on from, all fields were found
-none_more : (r : Inside) → r.next ≡ None → length (record_of r).fields ≡ length r.here.ranges.items
+pub none_more : (r : Inside) → r.next ≡ None → length (record_of r).fields ≡ length r.here.ranges.items
 none_more r h =
     length-values (text_of r) (r.here.ranges.items ++ map range_of (left r.splitter (text_of r) r.next)) r.here.kinds.items
     ∙ ap (λ o. length (r.here.ranges.items ++ map range_of (left r.splitter (text_of r) o))) h
@@ -89,6 +96,19 @@ found_values r h =
     let long = length-values (text_of r) (rs ++ more) r.here.kinds.items in
     let none : more ≡ [] = no_length more (omega (arith, long, length-append rs more, h)) in
     ap (λ l. values (text_of r) l r.here.kinds.items) (sym (append-nil rs) ∙ ap (λ l. rs ++ l) (sym none))
+
+-- the record of a line that was made its own
+pub owned : (r : Inside) (own : Bool) (here : Layout) (s : Splitter) → line_of own here.text.items r.lent.now ≡ text_of r
+    → values (line_of own here.text.items r.lent.now) here.ranges.items here.kinds.items ≡ values (text_of r) r.here.ranges.items r.here.kinds.items
+    → length r.here.ranges.items ≡ length (record_of r).fields
+    → record { text = line_of own here.text.items r.lent.now; fields = values (line_of own here.text.items r.lent.now) (here.ranges.items ++ map range_of (left s (line_of own here.text.items r.lent.now) None)) here.kinds.items } ≡ record_of r
+owned r own here s same fields all =
+    let line = line_of own here.text.items r.lent.now in
+    let pair : List ℕ → List Val → Record = λ t vs. record { text = t; fields = vs } in
+    ap (λ l. pair line (values line (here.ranges.items ++ map range_of l) here.kinds.items)) (left_none s line)
+    ∙ ap (λ l. pair line (values line l here.kinds.items)) (append-nil here.ranges.items)
+    ∙ ap (pair line) (fields ∙ found_values r all)
+    ∙ ap (λ t. pair t (record_of r).fields) same
 
 -- ---- reading
 

@@ -1,18 +1,19 @@
 //! A line, and where its fields stand in it.
 
-ghost use Rattle.std.specs.Prelude.{◌≡◌, ◌+◌, ◌<◌, ◌≤◌, ◌++◌, [], None, Some, length, max, slice_get, slice_range, IfErr, MatchOption, OnOk};
+ghost use Rattle.std.specs.Prelude.{◌≡◌, ◌+◌, ◌<◌, ◌≤◌, ◌++◌, true, false, [], None, Some, length, max, replicate, slice_get, slice_range, IfErr, IfOk, MatchOption, OnErr, OnOk};
 ghost use Rattle.pawk_fields.specs.FieldSeparator.{range_of};
 ghost use Rattle.pawk_scalar.specs.Conversion.{text_of};
 ghost use Rattle.pawk_scalar.specs.Limits.{length_limit};
 ghost use Rattle.pawk_scalar.specs.Value.{lent_value};
 ghost use Rattle.pawk_scalar.specs.declared.faults.Fault.TheVariants.{Length};
 ghost use Rattle.pawk_split.specs.FieldsOf.{IfFault};
-ghost use Rattle.pawk_record.specs.Lines.{Adds, IsLaidOut, before_at, kind_of, value_by, values};
+ghost use Rattle.pawk_record.specs.Lines.{Adds, IsJoined, IsLaidOut, Replaces, before_at, exchanged, kind_of, line_of, value_by, values, values_of};
 ghost use Rattle.pawk_record.specs.Records.{joined, value_or_uninit, with_value};
 
+use crate::places::{are_joined, before_at, bytes_in, exchange, move_end};
 use itoa::Buffer;
 use pawk_value::{Fault, LENGTH_LIMIT, Stop, ValueRef, text_in};
-use std::alloc::Global;
+use std::alloc::{AllocError, Global};
 use std::ops::Range;
 
 /// What a field is. The bytes of a text stand in the line, and so does the decimal text of a number.
@@ -38,16 +39,6 @@ fn kind_of(value: ValueRef<'_>) -> Kind
         ValueRef::Text(_) => Kind::Text,
         ValueRef::Maybe(_) => Kind::Maybe,
     }
-}
-
-/// The bytes of a text in a range, as far as there are any.
-#[inline]
-fn bytes_in(text: &[u8], start: usize, end: usize) -> &[u8]
-    ensures { result.now ≡ slice_range text.now start end }
-{
-    let first = start.min(text.len());
-    let past = end.min(text.len()).max(first);
-    &text[first..past]
 }
 
 /// The range with that number, if there is one.
@@ -82,14 +73,6 @@ fn value_by(kind: Option<Kind>, bytes: &[u8]) -> ValueRef<'_>
         Some(Kind::Text) => ValueRef::Text(bytes),
         Some(Kind::Maybe) => ValueRef::Maybe(bytes),
     }
-}
-
-/// What stands before a value, by the number of values before it.
-#[inline]
-fn before_at(ofs: &[u8], number: usize) -> &[u8]
-    ensures { result.now ≡ before_at number ofs.now }
-{
-    if number == 0 { b"" } else { ofs }
 }
 
 /// A line that is lent, with its fields: where each one stands, as a range in bytes counted from 0, and what it is. A
@@ -146,6 +129,10 @@ pub(crate) struct Layout {
     pub(crate) text: Vec<u8>,
     pub(crate) ranges: Vec<Range<usize>>,
     pub(crate) kinds: Vec<Kind>,
+    /// The OFS of the last assignment that laid the fields out.
+    pub(crate) ofs: Vec<u8>,
+    /// Whether the line is the texts of the fields with that OFS between them.
+    pub(crate) is_joined: bool,
 }
 
 impl Layout {
@@ -154,11 +141,14 @@ impl Layout {
         ensures text { result.text.items ≡ [] }
         ensures ranges { result.ranges.items ≡ [] }
         ensures kinds { result.kinds.items ≡ [] }
+        ensures apart { result.is_joined ≡ false }
     {
         Layout {
             text: Vec::new(alloc),
             ranges: Vec::new(alloc),
             kinds: Vec::new(alloc),
+            ofs: Vec::new(alloc),
+            is_joined: false,
         }
     }
 
@@ -167,10 +157,80 @@ impl Layout {
         ensures text { self.new.text.items ≡ [] }
         ensures ranges { self.new.ranges.items ≡ [] }
         ensures kinds { self.new.kinds.items ≡ [] }
+        ensures apart { self.new.is_joined ≡ false }
     {
         self.text.clear();
         self.ranges.clear();
         self.kinds.clear();
+        self.is_joined = false;
+    }
+
+    /// Whether the line is the texts of the fields with that OFS between them.
+    #[inline]
+    pub(crate) fn is_joined_by(&self, ofs: &[u8]) -> bool
+        ensures { result ≡ true
+            → (self.now.is_joined ≡ true) × (self.now.ofs.items ≡ ofs.now) }
+    {
+        self.is_joined && self.ofs.as_slice() == ofs
+    }
+
+    /// Says that the line is the texts of the fields with that OFS between them.
+    fn set_joined(&mut self, ofs: &[u8]) -> Result<(), AllocError>
+        ensures joined { OnOk result
+            ((self.new.is_joined ≡ true) × (self.new.ofs.items ≡ ofs.now)) }
+        ensures refused { OnErr result (self.new.is_joined ≡ false) }
+        ensures text { self.new.text.items ≡ self.old.text.items }
+        ensures ranges { self.new.ranges.items ≡ self.old.ranges.items }
+        ensures kinds { self.new.kinds.items ≡ self.old.kinds.items }
+    {
+        self.is_joined = false;
+        if self.ofs.as_slice() != ofs {
+            self.ofs.clear();
+            self.ofs.extend_from_slice(ofs)?;
+        }
+        self.is_joined = true;
+        Ok(())
+    }
+
+    /// Says of each field, where that is said of none, that it came from outside.
+    fn set_outside(&mut self) -> Result<(), AllocError>
+        requires { self.old.kinds.items ≡ [] }
+        ensures kinds { OnOk result (self.new.kinds.items
+            ≡ replicate (length self.old.ranges.items) Kind.Maybe) }
+        ensures text { self.new.text.items ≡ self.old.text.items }
+        ensures ranges { self.new.ranges.items ≡ self.old.ranges.items }
+        ensures mark { self.new.is_joined ≡ self.old.is_joined }
+    {
+        for _ in 0..self.ranges.len() {
+            self.kinds.push(Kind::Maybe)?;
+        }
+        Ok(())
+    }
+
+    /// Makes a copy of a lent line its own where the fields stand in it with `ofs` between them and all came from outside.
+    /// Whether the line is its own afterwards.
+    pub(crate) fn own(&mut self, is_own: bool, lent: &[u8], ofs: &[u8]) -> Result<bool, AllocError>
+        requires own { self.old.is_joined ≡ true → is_own ≡ true }
+        requires joined { self.old.is_joined ≡ true → IsJoined self.old }
+        ensures line { IfOk result (λ own. line_of own self.new.text.items lent.now
+            ≡ line_of is_own self.old.text.items lent.now) }
+        ensures fields { IfOk result (λ own. values (line_of own self.new.text.items lent.now)
+            self.new.ranges.items self.new.kinds.items
+            ≡ values (line_of is_own self.old.text.items lent.now) self.old.ranges.items
+            self.old.kinds.items) }
+        ensures own { IfOk result (λ own. self.new.is_joined ≡ true → own ≡ true) }
+        ensures joined { OnOk result (self.new.is_joined ≡ true → IsJoined self.new) }
+        ensures refused { OnErr result ((is_own ≡ false) × (self.new.is_joined ≡ false)) }
+        ensures ranges { self.new.ranges.items ≡ self.old.ranges.items }
+    {
+        if is_own || !self.kinds.is_empty() || !are_joined(lent, self.ranges.as_slice(), ofs) {
+            return Ok(is_own);
+        }
+        self.text.clear();
+        self.text.extend_from_slice(lent)?;
+        self.set_outside()?;
+        self.set_joined(ofs)?;
+        Ok(true)
     }
 
     /// Adds a field behind the line: some bytes, and then the text of its value. Fault `length` where the line would be
@@ -181,6 +241,9 @@ impl Layout {
         ensures fault { IfErr result (λ stop. IfFault stop (λ fault. (fault ≡ Length)
             × (length_limit < length self.old.text.items
             + (length before.now + length (text_of (lent_value value.entry)))))) }
+        ensures stays { IfErr result (λ stop. IfFault stop (λ _. self.new ≡ self.old)) }
+        ensures ofs { self.new.ofs ≡ self.old.ofs }
+        ensures mark { self.new.is_joined ≡ self.old.is_joined }
     {
         let mut buffer = Buffer::new();
         let text = text_in(value, &mut buffer);
@@ -194,6 +257,76 @@ impl Layout {
         self.ranges.push(start..self.text.len())?;
         self.kinds.push(kind_of(value))?;
         Ok(())
+    }
+
+    /// Puts a value in the place of the field with that number, counted from 0, which stands in that range. What stands
+    /// behind it moves. Fault `length` where the line would be longer than a text may be.
+    fn replace(
+        &mut self,
+        number: usize,
+        range: (usize, usize),
+        value: ValueRef<'_>,
+        room: &mut Vec<u8>,
+    ) -> Result<(), Stop>
+        requires range { slice_get self.old.ranges.items number ≡ Some (range_of range) }
+        requires order { range.0 ≤ range.1 }
+        requires within { range.1 ≤ length self.old.text.items }
+        requires number { number < length self.old.ranges.items }
+        requires kind { number < length self.old.kinds.items }
+        ensures replaced { OnOk result (Replaces number range (lent_value value.entry)
+            self.old self.new) }
+        ensures short { OnOk result (length self.new.text.items ≤ length_limit) }
+        ensures fault { IfErr result (λ stop. IfFault stop (λ fault. (fault ≡ Length)
+            × (length_limit < length (exchanged self.old.text.items range.0 range.1
+            (text_of (lent_value value.entry)))))) }
+        ensures stays { IfErr result (λ stop. IfFault stop (λ _. self.new ≡ self.old)) }
+        ensures ofs { self.new.ofs ≡ self.old.ofs }
+        ensures mark { self.new.is_joined ≡ self.old.is_joined }
+    {
+        let (start, end) = range;
+        let mut buffer = Buffer::new();
+        let text = text_in(value, &mut buffer);
+        let rest = self.text.len() - (end - start);
+        if rest.saturating_add(text.len()) > LENGTH_LIMIT {
+            return Err(Stop::Fault(Fault::Length));
+        }
+        exchange(&mut self.text, range, text, room)?;
+        move_end(
+            self.ranges.as_mut_slice(),
+            number,
+            range,
+            start + text.len(),
+        );
+        self.kinds[number] = kind_of(value);
+        Ok(())
+    }
+
+    /// Assigns to a field, or behind the last one, in a line that is the texts of the fields with `ofs` between them, and
+    /// stays so. Fault `length` where the line would be longer than a text may be; then it stays.
+    pub(crate) fn assign(
+        &mut self,
+        change: Assignment<'_>,
+        ofs: &[u8],
+        room: &mut Vec<u8>,
+    ) -> Result<(), Stop>
+        requires first { 1 ≤ change.n }
+        requires last { change.n ≤ length self.old.ranges.items + 1 }
+        requires joined { IsLaidOut ofs.now (values_of self.old) self.old }
+        ensures line { OnOk result (IsLaidOut ofs.now (with_value change.entry.n
+            (lent_value change.entry.value) (values_of self.old)) self.new) }
+        ensures short { OnOk result (length self.new.text.items ≤ length_limit) }
+        ensures fault { IfErr result (λ stop. IfFault stop (λ fault. (fault ≡ Length)
+            × (length_limit < length (joined ofs.now (with_value change.entry.n
+            (lent_value change.entry.value) (values_of self.old)))))) }
+        ensures stays { IfErr result (λ stop. IfFault stop (λ _. self.new ≡ self.old)) }
+        ensures ofs { self.new.ofs ≡ self.old.ofs }
+        ensures mark { self.new.is_joined ≡ self.old.is_joined }
+    {
+        let number = change.n - 1;
+        match range_at(self.ranges.as_slice(), number) {
+            Some(range) => self.replace(number, range, change.value, room),
+            None => self.push(before_at(ofs, number), change.value),
+        }
     }
 
     /// Lays out the fields after an assignment, with OFS between them. Fault `length` where their line is longer than a
@@ -214,11 +347,14 @@ impl Layout {
             × (length_limit < length (joined ofs.now (with_value change.entry.n
             (lent_value change.entry.value) (values fields.entry.text.now
             fields.entry.ranges.now fields.entry.kinds.now)))))) }
+        ensures joined { OnOk result
+            ((self.new.is_joined ≡ true) × (self.new.ofs.items ≡ ofs.now)) }
     {
         self.clear();
         for number in 0..change.n.max(fields.ranges.len()) {
             self.push(before_at(ofs, number), value_after(fields, change, number))?;
         }
+        self.set_joined(ofs)?;
         Ok(())
     }
 }

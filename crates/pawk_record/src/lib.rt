@@ -3,6 +3,7 @@
 
 mod layout;
 mod limits;
+mod places;
 mod record;
 mod splitter;
 

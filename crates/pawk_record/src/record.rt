@@ -110,6 +110,9 @@ impl<'a> Record<'a> {
         ensures ready { OnOk result (IsPrepared self.new n) }
         ensures more { self.old.found ≤ self.new.found }
     {
+        if self.next.is_none() {
+            return Ok(());
+        }
         let text = line(self.is_own, self.here.text.as_slice(), self.lent);
         self.splitter
             .find(text, &mut self.here.ranges, &mut self.next, n)
@@ -121,6 +124,9 @@ impl<'a> Record<'a> {
         ensures ready { OnOk result (self.new.found ≡ length self.new.record_now.fields) }
         ensures more { self.old.found ≤ self.new.found }
     {
+        if self.next.is_none() {
+            return Ok(());
+        }
         let text = line(self.is_own, self.here.text.as_slice(), self.lent);
         self.splitter
             .find(text, &mut self.here.ranges, &mut self.next, usize::MAX)
@@ -185,6 +191,15 @@ impl<'a> Record<'a> {
             return Err(Stop::Fault(Fault::Field));
         }
         self.prepare_all()?;
+        self.next = None;
+        self.is_own = self.here.own(self.is_own, self.lent, ofs)?;
+        if self.here.is_joined_by(ofs) && n - 1 <= self.here.ranges.len() {
+            self.here.is_joined = false;
+            self.here
+                .assign(Assignment { n, value }, ofs, &mut self.spare.text)?;
+            self.here.is_joined = true;
+            return Ok(());
+        }
         let fields = FieldsRef {
             text: line(self.is_own, self.here.text.as_slice(), self.lent),
             ranges: self.here.ranges.as_slice(),
@@ -193,7 +208,6 @@ impl<'a> Record<'a> {
         self.spare.lay_out(fields, Assignment { n, value }, ofs)?;
         mem::swap(&mut self.here, &mut self.spare);
         self.is_own = true;
-        self.next = None;
         Ok(())
     }
 

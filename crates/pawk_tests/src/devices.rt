@@ -2,9 +2,10 @@
 
 use crate::fixtures::SUM;
 use pawk_par::{
-    Cutting, Ending, Open, Reader, Report, Request, SettingsRefusal, StreamRefusal, SyntaxRefusal,
-    Writer, run_streams,
+    Cutting, Ending, Open, Reader, Report, Request, Route, SettingsRefusal, StreamRefusal, Writer,
+    run_streams,
 };
+use std::alloc::{AllocError, Global};
 use std::io;
 use std::io::{ErrorKind, Read, Write};
 use std::sync::Wait;
@@ -76,33 +77,47 @@ struct Answer {
     taken: Vec<u8>,
 }
 
-/// Runs a text with a budget over the lines 1, 2 and 3.
-fn run_lines<R: AllocGlobal + Threads + Wait>(
-    rt: &R,
-    text: &[u8],
-    budget: u64,
+/// How much a reader and a writer do, and whether the writer then fails, or takes nothing.
+#[derive(Clone, Copy)]
+struct Limits {
     reads: usize,
     room: usize,
     fails: bool,
+}
+
+/// A reader and a writer without a limit that is met.
+const ENOUGH: Limits = Limits {
+    reads: 100,
+    room: 100,
+    fails: true,
+};
+
+/// Runs a text with assignments and a budget over the lines 1, 2 and 3, each of which is a chunk.
+fn run_lines<R: AllocGlobal + Threads + Wait>(
+    rt: &R,
+    text: &[u8],
+    assigns: &[(Vec<u8>, Vec<u8>)],
+    budget: u64,
+    limits: Limits,
 ) -> Answer {
     let alloc = rt.alloc();
     let cutting = Cutting::Size(1);
     let request = Request {
         text,
-        assigns: &[],
+        assigns,
         budget,
         cutting: &cutting,
         workers: 2,
     };
     let mut source = Reader::new(Trickle {
         rest: b"1\n2\n3\n",
-        reads_left: reads,
+        reads_left: limits.reads,
         interrupted: false,
     });
     let mut sink = Writer::new(Narrow {
         taken: Vec::new(alloc),
-        room,
-        fails,
+        room: limits.room,
+        fails: limits.fails,
     });
     let answer = run_streams(rt, alloc, &request, &mut source, &mut sink, &Open);
     Answer {
@@ -131,14 +146,15 @@ fn a_read_fails(rt: HostRuntime) -> Result<(), Fail> {
         (0, Some(StreamRefusal::Read), b""),
     ];
     for (reads, wanted, output) in rows {
-        let answer = run_lines(&rt, SUM, 1, reads, 100, true);
+        let limits = Limits { reads, ..ENOUGH };
+        let answer = run_lines(&rt, SUM, &[], 1, limits);
         assert!(rt; refusal_in(&answer)? == wanted, "{reads} reads");
         assert!(rt; answer.taken.as_slice() == output, "{reads} reads");
     }
     Ok(())
 }
 
-// A write fails, or takes nothing, after so many bytes.
+// A write fails, or takes nothing, after so many bytes of the output 6 and a newline.
 #[test]
 fn a_write_fails(rt: HostRuntime) -> Result<(), Fail> {
     let rows: [(usize, bool, Option<StreamRefusal>, &[u8]); 4] = [
@@ -148,27 +164,121 @@ fn a_write_fails(rt: HostRuntime) -> Result<(), Fail> {
         (0, true, Some(StreamRefusal::Write(0)), b""),
     ];
     for (room, fails, wanted, output) in rows {
-        let answer = run_lines(&rt, SUM, 1, 100, room, fails);
+        let limits = Limits {
+            room,
+            fails,
+            ..ENOUGH
+        };
+        let answer = run_lines(&rt, SUM, &[], 1, limits);
         assert!(rt; refusal_in(&answer)? == wanted, "room {room}");
         assert!(rt; answer.taken.as_slice() == output, "room {room}");
     }
     Ok(())
 }
 
-// A program or a budget that is refused is told, where each read would fail.
+// The count of the bytes that went out goes over the outputs of all chunks, here a line each, and of BEGIN and END.
+#[test]
+fn a_write_fails_behind_others(rt: HostRuntime) -> Result<(), Fail> {
+    let text = b"BEGIN { print 0 } { print $1 } END { print 4 }";
+    let rows: [(usize, Option<StreamRefusal>, &[u8]); 4] = [
+        (10, None, b"0\n1\n2\n3\n4\n"),
+        (9, Some(StreamRefusal::Write(9)), b"0\n1\n2\n3\n4"),
+        (5, Some(StreamRefusal::Write(5)), b"0\n1\n2"),
+        (2, Some(StreamRefusal::Write(2)), b"0\n"),
+    ];
+    for (room, wanted, output) in rows {
+        let limits = Limits { room, ..ENOUGH };
+        let answer = run_lines(&rt, text, &[], 1, limits);
+        assert!(rt; refusal_in(&answer)? == wanted, "room {room}");
+        assert!(rt; answer.taken.as_slice() == output, "room {room}");
+    }
+    Ok(())
+}
+
+/// The numbers of a refusal: its own, and that of the program's cause or of the setting, else 0.
+fn numbers_in(answer: &Answer) -> Result<(u8, u8), Fail> {
+    match refusal_in(answer)? {
+        Some(refusal) => Ok(match refusal {
+            StreamRefusal::Program(why) => (refusal.number(), why.number()),
+            StreamRefusal::Settings(why) => (refusal.number(), why.number()),
+            _ => (refusal.number(), 0),
+        }),
+        None => Err(Fail::from("no refusal")),
+    }
+}
+
+// A program or a budget that is refused is told, where each read would fail: a bad token, a name in two uses, a form of input
+// that is left out, and budgets that are none.
 #[test]
 fn refuses_before_it_reads(rt: HostRuntime) -> Result<(), Fail> {
-    let program = StreamRefusal::Program(SyntaxRefusal::OutsideFirstPath);
-    let budget = StreamRefusal::Settings(SettingsRefusal::Budget);
-    let rows: [(&[u8], u64, StreamRefusal); 3] = [
-        (b"{ n += $1 } END { print m }", 1, program),
-        (SUM, 0, budget),
-        (SUM, 1_000_000_000_001, budget),
+    let limits = Limits { reads: 0, ..ENOUGH };
+    let rows: [(&[u8], u64, (u8, u8)); 5] = [
+        (b"{ @ }", 1, (4, 1)),
+        (b"{ n += $1; n[1] = 2 }", 1, (4, 5)),
+        (b"{ getline }", 1, (4, 3)),
+        (SUM, 0, (5, 4)),
+        (SUM, 1_000_000_000_001, (5, 4)),
     ];
-    for (text, steps, wanted) in rows {
-        let answer = run_lines(&rt, text, steps, 0, 100, true);
-        assert!(rt; refusal_in(&answer)? == Some(wanted));
+    for (text, budget, wanted) in rows {
+        let answer = run_lines(&rt, text, &[], budget, limits);
+        assert!(rt; numbers_in(&answer)? == wanted);
         assert!(rt; answer.taken.is_empty());
+    }
+    Ok(())
+}
+
+/// One assignment, where it is made.
+fn assignment(
+    alloc: Global,
+    name: &[u8],
+    value: &[u8],
+) -> Result<Vec<(Vec<u8>, Vec<u8>)>, AllocError> {
+    let mut assigns = Vec::new(alloc);
+    assigns.push((
+        Vec::from_slice(alloc, name)?,
+        Vec::from_slice(alloc, value)?,
+    ))?;
+    Ok(assigns)
+}
+
+// An assignment that is refused: no name, a variable that the run sets, an escape that is none.
+#[test]
+fn refuses_an_assignment(rt: HostRuntime) -> Result<(), Fail> {
+    let limits = Limits { reads: 0, ..ENOUGH };
+    let rows: [(&[u8], &[u8], SettingsRefusal); 3] = [
+        (b"1n", b"4", SettingsRefusal::Name),
+        (b"NR", b"4", SettingsRefusal::Target),
+        (b"n", b"\\q", SettingsRefusal::Escape),
+    ];
+    for (name, value, wanted) in rows {
+        let assigns = assignment(rt.alloc(), name, value)?;
+        let answer = run_lines(&rt, SUM, assigns.as_slice(), 1, limits);
+        assert!(rt; refusal_in(&answer)? == Some(StreamRefusal::Settings(wanted)));
+        assert!(rt; answer.taken.is_empty());
+    }
+    Ok(())
+}
+
+// An assignment is made before BEGIN.
+#[test]
+fn assigns_before_it_runs(rt: HostRuntime) -> Result<(), Fail> {
+    let assigns = assignment(rt.alloc(), b"n", b"4")?;
+    let text = b"BEGIN { print n } { n += $1 } END { print n }";
+    let answer = run_lines(&rt, text, assigns.as_slice(), 1, ENOUGH);
+    assert!(rt; refusal_in(&answer)? == None);
+    assert!(rt; answer.taken.as_slice() == b"4\n10\n".as_slice());
+    Ok(())
+}
+
+// Nothing is read for a program without a main rule and END, here where each read would fail.
+#[test]
+fn reads_nothing_without_records(rt: HostRuntime) -> Result<(), Fail> {
+    let limits = Limits { reads: 0, ..ENOUGH };
+    let answer = run_lines(&rt, b"BEGIN { print 6 }", &[], 1, limits);
+    assert!(rt; refusal_in(&answer)? == None);
+    assert!(rt; answer.taken.as_slice() == b"6\n".as_slice());
+    if let Ok((_, report)) = &answer.answer {
+        assert!(rt; report.route == Route::NoMain);
     }
     Ok(())
 }

@@ -1,12 +1,14 @@
 //! What several tests need.
 
-ghost use Rattle.std.specs.Prelude.{◌≡◌};
-ghost use Rattle.pawk_par.specs.Cutting.{IsSized};
-ghost use Rattle.pawk_par.specs.Task.{IsCrew};
+ghost use Rattle.pawk_crew.specs.Task.{IsCrew};
+ghost use Rattle.pawk_threads.specs.Cuttings.{IsSized};
 
-use pawk_par::{
-    Cutting, Ending, Gate, Input, Job, Outcome, Program, Refusal, Route, Settings, parse, run,
-};
+use pawk_code::program::Code;
+use pawk_input::Input;
+use pawk_par::{Cutting, Ending, Gate, Job, Outcome, Place, Refusal, Route, Way, run};
+use pawk_resolve_program::program::resolve;
+use pawk_syntax::parse;
+use pawk_value::Fault;
 use std::alloc::Global;
 use std::sync::Wait;
 use std::test::Fail;
@@ -15,20 +17,46 @@ use std::thread::Threads;
 /// The program that adds up the first field.
 pub(crate) const SUM: &[u8] = b"{ n += $1 } END { print n }";
 
-/// An input of one file.
+/// An input of one file without a name.
 pub(crate) fn one_file(alloc: Global, bytes: &[u8]) -> Result<Input, Fail> {
     let mut files = Vec::new(alloc);
     files.push((Vec::new(alloc), Vec::from_slice(alloc, bytes)?))?;
     Ok(Input::new(files).map_err(|_| "too large")?)
 }
 
-pub(crate) fn sum_program(alloc: Global) -> Result<Program, Fail> {
-    Ok(parse(alloc, SUM).map_err(|_| "refused")?)
+/// The code of a program's text.
+pub(crate) fn code_of(alloc: Global, text: &[u8]) -> Result<Code, Fail> {
+    let program = parse(alloc, text).map_err(|_| "refused")?;
+    Ok(resolve(alloc, &program)?)
 }
 
-/// Runs the sum over these bytes.
-pub(crate) fn run_sum<R, G>(
+/// Runs a code over these bytes, with 1,000 steps for each record.
+pub(crate) fn run_code<R, G>(
     rt: &R,
+    code: &Code,
+    bytes: &[u8],
+    way: Way<'_>,
+    gate: &G,
+) -> Result<Result<(Outcome, Route), Refusal>, Fail>
+where
+    R: AllocGlobal + Threads + Wait,
+    G: Gate + Sync,
+    requires sized { IsSized way.cutting.now }
+    requires workers { IsCrew way.workers }
+{
+    let alloc = rt.alloc();
+    let mut input = one_file(alloc, bytes)?;
+    let job = Job { code, budget: 1000 };
+    Ok(match run(rt, alloc, job, &[], &mut input, way, gate) {
+        Ok((outcome, report)) => Ok((outcome, report.route)),
+        Err(refusal) => Err(refusal),
+    })
+}
+
+/// Runs a program's text over these bytes.
+pub(crate) fn run_text<R, G>(
+    rt: &R,
+    text: &[u8],
     bytes: &[u8],
     cutting: &Cutting,
     workers: usize,
@@ -40,32 +68,43 @@ where
     requires sized { IsSized cutting.now }
     requires workers { IsCrew workers }
 {
-    let alloc = rt.alloc();
-    let program = sum_program(alloc)?;
-    let settings = Settings::new(alloc, &program, &[], 1).map_err(|_| "refused")?;
-    let mut input = one_file(alloc, bytes)?;
-    let job = Job {
-        program: &program,
-        settings: &settings,
-    };
-    Ok(
-        match run(rt, alloc, job, &mut input, cutting, workers, gate) {
-            Ok((outcome, report)) => Ok((outcome, report.route)),
-            Err(refusal) => Err(refusal),
-        },
-    )
+    let code = code_of(rt.alloc(), text)?;
+    run_code(rt, &code, bytes, Way { cutting, workers }, gate)
 }
 
-/// Whether the run gave this output, in this way.
+/// Whether these parts are a text.
+fn are_text(parts: &[Vec<u8>], text: &[u8]) -> bool {
+    let mut rest = text;
+    for part in parts {
+        match rest.strip_prefix(part.as_slice()) {
+            Some(more) => rest = more,
+            None => return false,
+        }
+    }
+    rest.is_empty()
+}
+
+/// Whether a run ended with status 0, or with this fault at the record of this number.
+fn is_ending(ending: Ending, fault: Option<(Fault, u64)>) -> bool {
+    match (ending, fault) {
+        (Ending::Status(status), None) => status == 0,
+        (Ending::Fault(fault, Place::Record(number)), Some(wanted)) => (fault, number) == wanted,
+        _ => false,
+    }
+}
+
+/// Whether the run gave this output and ended so, and went this way.
 pub(crate) fn is_outcome(
     answer: &Result<(Outcome, Route), Refusal>,
     output: &[u8],
-    ending: Ending,
+    fault: Option<(Fault, u64)>,
     route: Route,
 ) -> bool {
     match answer {
         Ok((outcome, way)) => {
-            outcome.output.as_slice() == output && outcome.ending == ending && *way == route
+            are_text(outcome.output.parts(), output)
+                && is_ending(outcome.ending, fault)
+                && *way == route
         }
         Err(_) => false,
     }

@@ -1,19 +1,18 @@
 //! Workers that a gate watches.
 
-ghost use Rattle.std.specs.Prelude.{◌≡◌, ◌≤◌, length, IfOk};
+ghost use Rattle.std.specs.Prelude.{◌≡◌, ◌≤◌, [], ◌∷◌, length, IfOk};
 ghost use Rattle.pawk_board.specs.Limits.{most_chunks};
 ghost use Rattle.pawk_board.specs.Views.{fresh};
 ghost use Rattle.pawk_input.specs.Input.{IsReady, files_of};
 ghost use Rattle.pawk_input.specs.Plan.{IsPlanOf};
-ghost use Rattle.pawk_par.specs.Outcome.{newline};
-ghost use Rattle.pawk_par.specs.Task.{IsTask};
+ghost use Rattle.pawk_crew.specs.Task.{IsChunked, IsTask};
 
-use crate::fixtures::{is_outcome, one_file, run_sum, sum_program};
+use crate::fixtures::{SUM, code_of, is_outcome, one_file, run_text};
+use pawk_admit::admit;
 use pawk_board::{Board, BoardSeat};
-use pawk_input::Plan;
-use pawk_par::{
-    ChunkResult, Cutting, Ending, Gate, Input, Left, Open, Place, Program, Route, Task, work,
-};
+use pawk_input::{Input, Plan};
+use pawk_par::{ChunkResult, Chunked, Cutting, Gate, Job, Left, Open, Opening, Route, Task, work};
+use pawk_store::{Globals, RecordState};
 use pawk_value::Fault;
 use std::alloc::{AllocError, Global};
 use std::sync::atomic::{AtomicU64, Ordering};
@@ -104,21 +103,21 @@ fn seen_by(gate: &Holding<'_>) -> (u64, u64, u64, u64) {
 fn two_workers_run_at_once(rt: HostRuntime) -> Result<(), Fail> {
     for (held, awaited) in [(0, 1), (1, 0)] {
         let gate = Holding::new(&rt, held, awaited, Until::Entered);
-        let answer = run_sum(&rt, b"1\n2\n", &Cutting::Size(1), 2, &gate)?;
+        let answer = run_text(&rt, SUM, b"1\n2\n", &Cutting::Size(1), 2, &gate)?;
         assert!(rt; seen_by(&gate) == (0, 2, 3, 3), "chunk {held} was held");
-        assert!(rt; is_outcome(&answer, b"3\n", Ending::Status(0), Route::Parallel));
+        assert!(rt; is_outcome(&answer, b"3\n", None, Route::Parallel));
     }
     Ok(())
 }
 
 /// The sum of these lines ends in a fault at the third.
-const FAULT_AT_THREE: Ending = Ending::Fault(Fault::Numeral, Place::Record(3));
+const FAULT_AT_THREE: Option<(Fault, u64)> = Some((Fault::Numeral, 3));
 
 // One worker: the chunk past the fault is skipped without the gate.
 #[test]
 fn skips_past_a_fault(rt: HostRuntime) -> Result<(), Fail> {
     let gate = Holding::new(&rt, 99, 99, Until::Left);
-    let answer = run_sum(&rt, b"1\n2\n12.5\n4\n", &Cutting::Size(1), 1, &gate)?;
+    let answer = run_text(&rt, SUM, b"1\n2\n12.5\n4\n", &Cutting::Size(1), 1, &gate)?;
     assert!(rt; seen_by(&gate) == (0, 3, 7, 7));
     assert!(rt; is_outcome(&answer, b"", FAULT_AT_THREE, Route::Redo));
     Ok(())
@@ -128,7 +127,7 @@ fn skips_past_a_fault(rt: HostRuntime) -> Result<(), Fail> {
 #[test]
 fn a_chunk_past_a_fault_is_dropped(rt: HostRuntime) -> Result<(), Fail> {
     let gate = Holding::new(&rt, 2, 3, Until::Left);
-    let answer = run_sum(&rt, b"1\n2\n12.5\n4\n", &Cutting::Size(1), 2, &gate)?;
+    let answer = run_text(&rt, SUM, b"1\n2\n12.5\n4\n", &Cutting::Size(1), 2, &gate)?;
     assert!(rt; seen_by(&gate) == (0, 4, 15, 15));
     assert!(rt; is_outcome(&answer, b"", FAULT_AT_THREE, Route::Redo));
     Ok(())
@@ -138,17 +137,17 @@ fn a_chunk_past_a_fault_is_dropped(rt: HostRuntime) -> Result<(), Fail> {
 #[test]
 fn no_more_workers_than_chunks(rt: HostRuntime) -> Result<(), Fail> {
     for bytes in [b"".as_slice(), b"1\n".as_slice()] {
-        let answer = run_sum(&rt, bytes, &Cutting::Size(1), 64, &Open)?;
+        let answer = run_text(&rt, SUM, bytes, &Cutting::Size(1), 64, &Open)?;
         let output: &[u8] = if bytes.is_empty() { b"\n" } else { b"1\n" };
-        assert!(rt; is_outcome(&answer, output, Ending::Status(0), Route::Parallel));
+        assert!(rt; is_outcome(&answer, output, None, Route::Parallel));
     }
     Ok(())
 }
 
 /// A plan with a chunk for each line.
 fn plan_of_lines(alloc: Global, input: &Input) -> Result<Plan, Fail>
-    requires { IsReady newline input.now }
-    ensures plan { IfOk result (λ p. IsPlanOf newline (files_of input.now) p) }
+    requires { IsReady (10 ∷ []) input.now }
+    ensures plan { IfOk result (λ p. IsPlanOf (10 ∷ []) (files_of input.now) p) }
     ensures few { IfOk result (λ p. length p ≤ most_chunks) }
 {
     match Plan::by_size(alloc, input, b"\n", 1) {
@@ -157,37 +156,50 @@ fn plan_of_lines(alloc: Global, input: &Input) -> Result<Plan, Fail>
     }
 }
 
-/// The chunks that one worker ran, with their results.
-type Results = Result<Vec<(u64, ChunkResult)>, AllocError>;
+/// The number of the one chunk that a worker ran, and whether it was left through with an output of this byte and a newline.
+fn only_line(results: &Result<Vec<(u64, ChunkResult<'_>)>, AllocError>) -> Option<(u64, u8)> {
+    match results {
+        Ok(results) => match results.as_slice() {
+            [(chunk, result)] => match (result.left, result.output.as_slice()) {
+                (Left::Through, [byte, b'\n']) => Some((*chunk, *byte)),
+                _ => None,
+            },
+            _ => None,
+        },
+        Err(_) => None,
+    }
+}
 
-/// The work of one thread.
-fn work_alone<G: Gate>(alloc: Global, task: Task<'_>, mut seat: BoardSeat, gate: &G) -> Results
+/// The work of one thread: the number and the line of the one chunk that it ran.
+fn work_alone<G: Gate>(
+    alloc: Global,
+    task: Task<'_, '_>,
+    mut seat: BoardSeat,
+    gate: &G,
+) -> Option<(u64, u8)>
     requires task { IsTask task }
     requires seat { seat ≡ fresh task.board.now.id }
 {
-    work(alloc, &task, &mut seat, gate)
+    only_line(&work(alloc, &task, &mut seat, gate))
 }
 
-/// A board of two seats, and a thread for each of them.
+/// A board of two seats, and a thread for each of them: what each worker ran.
 fn both_work<G: Gate + Sync, R: AllocGlobal + Threads>(
     rt: &R,
-    program: &Program,
-    input: &Input,
-    plan: &Plan,
+    opening: Opening<'_, '_>,
+    source: Chunked<'_, '_>,
     gate: &G,
-) -> Result<(Results, Results), Fail>
-    requires ready { IsReady newline input.now }
-    requires plan { IsPlanOf newline (files_of input.now) plan.now }
-    requires few { length plan.now ≤ most_chunks }
+) -> Result<(Option<(u64, u8)>, Option<(u64, u8)>), Fail>
+    requires source { IsChunked source }
+    requires few { length source.plan.now ≤ most_chunks }
 {
     let alloc = rt.alloc();
-    let (board, mut seats) = Board::new(alloc, plan.len() as u64, 2)?;
+    let (board, mut seats) = Board::new(alloc, source.plan.len() as u64, 2)?;
     let b = seats.pop().ok_or("no second seat")?;
     let a = seats.pop().ok_or("no first seat")?;
     let task = Task {
-        program,
-        input,
-        plan,
+        opening,
+        source,
         board: &board,
     };
     Ok(thread::join(
@@ -197,31 +209,48 @@ fn both_work<G: Gate + Sync, R: AllocGlobal + Threads>(
     ))
 }
 
-/// The number of the one chunk that a worker ran, and its total, where it ran through.
-fn only_total(results: &Results) -> Option<(u64, i128)> {
-    match results {
-        Ok(results) => match results.as_slice() {
-            [(chunk, result)] if result.ending == Left::Through => {
-                result.table.map(|sums| (*chunk, sums.total))
-            }
-            _ => None,
+/// Both threads run a program over an input with a chunk for each line.
+fn both_run<G: Gate + Sync, R: AllocGlobal + Threads>(
+    rt: &R,
+    text: &[u8],
+    input: &Input,
+    gate: &G,
+) -> Result<(Option<(u64, u8)>, Option<(u64, u8)>), Fail>
+    requires { IsReady (10 ∷ []) input.now }
+{
+    let alloc = rt.alloc();
+    let code = code_of(alloc, text)?;
+    let names = code.scalars.as_slice();
+    let globals = Globals::open(alloc, names, code.arrays.len(), &[])?;
+    let state = RecordState::new(alloc, code.rules.len())?;
+    let roles = admit(alloc, &code).map_err(|_| "not admitted")?;
+    let opening = Opening {
+        job: Job {
+            code: &code,
+            budget: 1000,
         },
-        Err(_) => None,
-    }
+        globals: &globals,
+        roles: &roles,
+        state: &state,
+    };
+    let plan = plan_of_lines(alloc, input)?;
+    let source = Chunked {
+        input,
+        plan: &plan,
+        rs: b"\n",
+    };
+    both_work(rt, opening, source, gate)
 }
 
 // Two threads of the test's own, each with a seat: each runs one chunk.
 #[test]
 fn two_threads_work(rt: HostRuntime) -> Result<(), Fail> {
-    let program = sum_program(rt.alloc())?;
     let mut input = one_file(rt.alloc(), b"5\n7\n")?;
     input.mend(b"\n")?;
-    let plan = plan_of_lines(rt.alloc(), &input)?;
     let gate = Holding::new(&rt, 0, 1, Until::Entered);
-    let (first, second) = both_work(&rt, &program, &input, &plan, &gate)?;
-    let totals = (only_total(&first), only_total(&second));
-    let (zero, one) = (Some((0, 5)), Some((1, 7)));
+    let lines = both_run(&rt, b"{ print $1 }", &input, &gate)?;
+    let (zero, one) = (Some((0, b'5')), Some((1, b'7')));
     assert!(rt; seen_by(&gate) == (0, 2, 3, 3));
-    assert!(rt; totals == (zero, one) || totals == (one, zero));
+    assert!(rt; lines == (zero, one) || lines == (one, zero));
     Ok(())
 }

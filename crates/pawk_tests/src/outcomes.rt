@@ -1,61 +1,83 @@
 //! Whole outcomes, and cuts by hand.
 
-use crate::fixtures::{is_outcome, run_sum};
-use pawk_par::{Cutting, Ending, Global, Open, Refusal, Route, parse};
-use pawk_value::Value;
-use std::alloc::Global as Heap;
+use crate::fixtures::{SUM, code_of, is_outcome, run_code, run_text};
+use pawk_admit::Reason;
+use pawk_par::{Cutting, Open, Outcome, Refusal, Route, Way};
+use pawk_value::ValueRef;
+use pawk_world::World;
+use std::alloc::{AllocError, Global};
 use std::sync::Wait;
 use std::test::Fail;
 use std::thread::Threads;
 
-/// A variable as it is wanted.
+/// A program whose END shows every variable of the language.
+const SHOWING: &[u8] = b"{ n += $1 } END { print n, NR, FNR, NF, RSTART, RLENGTH, CONVFMT, OFMT, \
+FILENAME \"|\" FS \"|\" OFS \"|\" ORS \"|\" RS \"|\" SUBSEP \"|\" }";
+
+/// What it shows after the sum of 1, 2 and 3 over a file without a name.
+const SHOWN: &[u8] = b"6 3 3 1 0 -1 %.6g %.6g | | |\n|\n|\x1c|\n";
+
+#[test]
+fn shows_every_variable(rt: HostRuntime) -> Result<(), Fail> {
+    let answer = run_text(&rt, SHOWING, b"1\n2\n3\n", &Cutting::Size(1), 2, &Open)?;
+    assert!(rt; is_outcome(&answer, SHOWN, None, Route::Parallel));
+    Ok(())
+}
+
+/// A global as it is wanted.
 #[derive(Clone, Copy)]
 enum Wanted {
+    Nothing,
     Number(i64),
     Text(&'static [u8]),
     Candidate(&'static [u8]),
 }
 
-/// Every variable after the sum of 1, 2 and 3 over a file without a name.
-const VARIABLES: [(&[u8], Wanted); 14] = [
-    (b"CONVFMT", Wanted::Text(b"%.6g")),
-    (b"FILENAME", Wanted::Candidate(b"")),
-    (b"FNR", Wanted::Number(3)),
-    (b"FS", Wanted::Text(b" ")),
-    (b"NF", Wanted::Number(1)),
-    (b"NR", Wanted::Number(3)),
-    (b"OFMT", Wanted::Text(b"%.6g")),
-    (b"OFS", Wanted::Text(b" ")),
-    (b"ORS", Wanted::Text(b"\n")),
-    (b"RLENGTH", Wanted::Number(-1)),
-    (b"RS", Wanted::Text(b"\n")),
-    (b"RSTART", Wanted::Number(0)),
-    (b"SUBSEP", Wanted::Text(b"\x1c")),
-    (b"n", Wanted::Number(6)),
-];
-
-fn is_wanted(value: &Value, wanted: Wanted) -> bool {
+fn is_wanted(value: ValueRef<'_>, wanted: Wanted) -> bool {
     match (value, wanted) {
-        (Value::Num(number), Wanted::Number(want)) => *number == want,
-        (Value::Text(text), Wanted::Text(want)) => text.as_slice() == want,
-        (Value::Maybe(text), Wanted::Candidate(want)) => text.as_slice() == want,
+        (ValueRef::Uninit, Wanted::Nothing) => true,
+        (ValueRef::Num(number), Wanted::Number(want)) => number == want,
+        (ValueRef::Text(text), Wanted::Text(want)) => text == want,
+        (ValueRef::Maybe(text), Wanted::Candidate(want)) => text == want,
         _ => false,
     }
 }
 
-fn are_wanted(globals: &[Global], wanted: &[(&[u8], Wanted)]) -> bool {
-    globals.len() == wanted.len()
-        && globals.iter().zip(wanted).all(|(global, want)| {
-            global.name.as_slice() == want.0 && is_wanted(&global.value, want.1)
-        })
+/// Whether the global of this name has what is wanted.
+fn has(outcome: &Outcome, names: &[Vec<u8>], name: &[u8], wanted: Wanted) -> bool {
+    for (slot, other) in names.iter().enumerate() {
+        if other.as_slice() == name {
+            return is_wanted(outcome.globals.scalar(slot), wanted);
+        }
+    }
+    false
 }
 
+/// A program that leaves each kind of value.
+const KINDS: &[u8] = b"BEGIN { t = \"7\" } { n += $1; last = $1 } END { m = never }";
+
 #[test]
-fn lists_every_variable(rt: HostRuntime) -> Result<(), Fail> {
-    let answer = run_sum(&rt, b"1\n2\n3\n", &Cutting::Size(1), 2, &Open)?;
-    assert!(rt; is_outcome(&answer, b"6\n", Ending::Status(0), Route::Parallel));
+fn leaves_every_global(rt: HostRuntime) -> Result<(), Fail> {
+    let rows: [(&[u8], Wanted); 6] = [
+        (b"n", Wanted::Number(6)),
+        (b"t", Wanted::Text(b"7")),
+        (b"last", Wanted::Candidate(b"3")),
+        (b"m", Wanted::Nothing),
+        (b"never", Wanted::Nothing),
+        (b"FS", Wanted::Text(b" ")),
+    ];
+    let code = code_of(rt.alloc(), KINDS)?;
+    let cutting = Cutting::Size(1);
+    let way = Way {
+        cutting: &cutting,
+        workers: 2,
+    };
+    let answer = run_code(&rt, &code, b"1\n2\n3\n", way, &Open)?;
+    assert!(rt; is_outcome(&answer, b"", None, Route::Parallel));
     if let Ok((outcome, _)) = &answer {
-        assert!(rt; are_wanted(&outcome.globals, &VARIABLES));
+        for (name, wanted) in rows {
+            assert!(rt; has(outcome, code.scalars.as_slice(), name, wanted));
+        }
     }
     Ok(())
 }
@@ -66,9 +88,9 @@ fn is_cut<R: AllocGlobal + Threads + Wait>(
     cuts: &[(usize, usize)],
 ) -> Result<Option<bool>, Fail> {
     let cutting = Cutting::At(Vec::from_slice(rt.alloc(), cuts)?);
-    let answer = run_sum(rt, b"1\n2\n3\n", &cutting, 2, &Open)?;
+    let answer = run_text(rt, SUM, b"1\n2\n3\n", &cutting, 2, &Open)?;
     Ok(match &answer {
-        Ok(_) => Some(is_outcome(&answer, b"6\n", Ending::Status(0), Route::Parallel)),
+        Ok(_) => Some(is_outcome(&answer, b"6\n", None, Route::Parallel)),
         Err(Refusal::Cutting) => Some(false),
         Err(_) => None,
     })
@@ -90,24 +112,39 @@ fn cuts_by_hand(rt: HostRuntime) -> Result<(), Fail> {
     Ok(())
 }
 
-/// The index that a text's program adds, where it is one.
-fn index_in(alloc: Heap, text: &str) -> Option<usize> {
-    match parse(alloc, text.as_bytes()) {
-        Ok(program) => Some(program.field()),
-        Err(_) => None,
+/// So many lines of a 1.
+fn ones(alloc: Global, count: u32) -> Result<Vec<u8>, AllocError> {
+    let mut bytes = Vec::new(alloc);
+    for _ in 0..count {
+        bytes.extend_from_slice(b"1\n")?;
     }
+    Ok(bytes)
 }
 
+// 65,538 bytes, by two workers.
 #[test]
-fn reads_the_index(rt: HostRuntime) -> Result<(), Fail> {
-    let rows = [
-        ("{ n += $1 } END { print n }", Some(1)),
-        ("{ _x9 += $0 } END { print _x9 }", Some(0)),
-        ("{ func += $32767 } END { print func }", Some(32767)),
-        ("{ n += $32768 } END { print n }", None),
-    ];
-    for (text, index) in rows {
-        assert!(rt; index_in(rt.alloc(), text) == index, "{text}");
-    }
+fn counts_many_lines(rt: HostRuntime) -> Result<(), Fail> {
+    let lines = ones(rt.alloc(), 32_769)?;
+    let text = b"{ n += $1 } END { print n, NR }";
+    let answer = run_text(&rt, text, lines.as_slice(), &Cutting::Size(4096), 2, &Open)?;
+    assert!(rt; is_outcome(&answer, b"32769 32769\n", None, Route::Parallel));
+    Ok(())
+}
+
+// The way of a program without records, and of one that may not run in chunks, since it has a range.
+#[test]
+fn other_ways(rt: HostRuntime) -> Result<(), Fail> {
+    let lines = b"1\n2\n";
+    let none = run_text(
+        &rt,
+        b"BEGIN { print 7 }",
+        lines,
+        &Cutting::Size(1),
+        2,
+        &Open,
+    )?;
+    assert!(rt; is_outcome(&none, b"7\n", None, Route::NoMain));
+    let range = run_text(&rt, b"/1/, /2/", lines, &Cutting::Size(1), 2, &Open)?;
+    assert!(rt; is_outcome(&range, b"1\n2\n", None, Route::NotAdmitted(Reason::Range)));
     Ok(())
 }

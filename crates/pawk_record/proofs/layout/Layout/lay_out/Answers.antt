@@ -1,4 +1,4 @@
-use Rattle.std.proofs.Common.{◌≡◌, ◌+◌, ◌<◌, arith, ap, length, subst, List, ℕ}
+use Rattle.std.proofs.Common.{◌≡◌, ◌∙◌, ◌+◌, ◌<◌, arith, ap, length, subst, List, ℕ}
 use Rattle.std.proofs.lemmas.Result.{err_from_is_err_and}
 use Rattle.pawk_scalar.specs.Conversion.{text_of}
 use Rattle.pawk_scalar.specs.Value.{lent_value}
@@ -41,4 +41,5 @@ returns-clause-line c =
     let found = values f.text.now f.ranges.now f.kinds.now in
     let long = length-with_value c.args.change.n (lent_value c.args.change.value) found in
     let many = length-values f.text.now f.ranges.now f.kinds.now in
-    laid_end _ _ c.loop-number.number c.loop-number.self (omega (arith, long, many)) c.loop-number.invariant.laid
+    let l = laid_end _ _ c.loop-number.number c.loop-number.self (omega (arith, long, many)) c.loop-number.invariant.laid in
+    record { text = c.set_joined.ensures.text ∙ l.text; ranges = c.set_joined.ensures.ranges ∙ l.ranges; kinds = c.set_joined.ensures.kinds ∙ l.kinds }

@@ -1,7 +1,12 @@
-use Rattle.std.proofs.Common.{ap, arith}
+use Rattle.std.proofs.Common.{◌≡◌, ◌≤◌, ◌∙◌, false, inr, rules, sym, true, length, subst, ap, arith}
+use Rattle.std.specs.Option.{ForSome}
+use Rattle.std.specs.Prelude.{is_none}
 use Rattle.std.proofs.lemmas.Result.{on_ok_weaker}
-use Rattle.pawk_record.specs.Records.{SplitRecord}
-use Rattle.pawk_record.proofs.ViewLemmas.{prepared_by}
+use Rattle.pawk_record.specs.Records.{IsPrepared, SplitRecord}
+use Rattle.pawk_record.specs.Lines.{line_of}
+use Rattle.pawk_record.specs.Splitting.{IsSplitter}
+use Rattle.pawk_record.specs.Views.{text_of}
+use Rattle.pawk_record.proofs.ViewLemmas.{is_left, some_left, prepared_by}
 use Rattle.pawk_record.proofs.record.Record.prepare.Goals as goal
 
 pub returns-clause-ready : goal.returns-clause-ready
@@ -9,3 +14,23 @@ returns-clause-ready c = on_ok_weaker c.find.result (prepared_by (record c.self.
 
 pub returns-clause-more : goal.returns-clause-more
 returns-clause-more c = let same = ap (λ (v : SplitRecord). v.found) c.self.view_is in omega (arith, same, c.find.ensures.more)
+
+pub invariant_of-self : goal.invariant_of-self
+invariant_of-self c =
+    let r = c.self.inside in
+    let text : c.line-text.result.now ≡ text_of r = c.line-text.ensures ∙ ap (λ t. line_of r.is_own t r.lent.now) c.as_slice.ensures.value in
+    let some : is_none r.next ≡ false = search rules in
+    let never : r.here.is_joined ≡ true → ⊥ = λ e. some_left r.next (c.self.invariant.done e) some in
+    record {
+      splitter = subst IsSplitter (sym c.find.ensures.splitter) c.self.invariant.splitter;
+      place = subst (λ t. ForSome c.find.new.next (λ p. p ≤ length t)) text c.find.ensures.within;
+      joined = λ e. absurd (never e);
+      own = c.self.invariant.own;
+      done = λ e. absurd (never e);
+    }
+
+pub returns-then-is_none-clause-ready : goal.returns-then-is_none-clause-ready
+returns-then-is_none-clause-ready c =
+    let r = c.self.inside in
+    let none : is_none r.next ≡ true = search rules in
+    subst (λ (v : SplitRecord). IsPrepared v c.args.n) c.self.view_is (prepared_by r c.args.n (inr (is_left r.next none)))

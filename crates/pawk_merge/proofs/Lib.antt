@@ -1,2 +1,0 @@
-pub mod SumsLemmas
-pub mod MergeLemmas

@@ -1,0 +1,57 @@
+//! What a run writes to a sink.
+
+ghost use Rattle.std.specs.Prelude.{◌≡◌, ◌<◌, ◌^◌, length, IfOk, IfErr, IfSome, OnOk};
+ghost use Rattle.std.specs.Io.KnownBytes.{Appends};
+ghost use Rattle.pawk_meaning.specs.Outputs.{in_a_row};
+ghost use Rattle.pawk_par.specs.Streams.{TookPart, WhyUnwritten};
+
+use crate::refusal::StreamRefusal;
+use pawk_device::{Sink, write_all};
+use pawk_one::Output;
+
+/// How many bytes these parts have together, where 64 bits tell it.
+fn size_of_all(parts: &[Vec<u8>]) -> Option<u64>
+    ensures { IfSome result (λ size. size ≡ length (in_a_row parts.now)) }
+{
+    let mut size = 0u64;
+    for part in parts {
+        size = size.checked_add(part.len() as u64)?;
+    }
+    Some(size)
+}
+
+/// Writes these parts, whose size 64 bits tell, one after the other, and gives the room of each back when it was written. The
+/// error is the count of bytes that went out before a write failed, or took nothing.
+fn write_parts<K: Sink>(sink: &mut K, parts: Vec<Vec<u8>>) -> Result<(), u64>
+    requires { length (in_a_row parts.items) < 2 ^ 64 }
+    ensures all { OnOk result
+        (Appends (K.taken sink.old) (K.taken sink.new) (in_a_row parts.items)) }
+    ensures failed { IfErr result (λ _. K.failures sink.old < K.failures sink.new) }
+    ensures part { IfErr result
+        (TookPart (in_a_row parts.items) (K.taken sink.old) (K.taken sink.new)) }
+{
+    let mut done = 0u64;
+    for part in parts {
+        match write_all(sink, &part) {
+            Ok(()) => done += part.len() as u64,
+            Err(count) => return Err(done + count),
+        }
+    }
+    Ok(())
+}
+
+/// Writes an output, part by part.
+pub(crate) fn write_output<K: Sink>(sink: &mut K, output: Output) -> Result<(), StreamRefusal>
+    ensures all { OnOk result (Appends (K.taken sink.old) (K.taken sink.new) output) }
+    ensures refused { IfErr result (WhyUnwritten output (K.taken sink.old) (K.taken sink.new)
+        (K.failures sink.old) (K.failures sink.new)) }
+{
+    let parts = output.into_parts();
+    if size_of_all(&parts).is_none() {
+        return Err(StreamRefusal::Memory);
+    }
+    match write_parts(sink, parts) {
+        Ok(()) => Ok(()),
+        Err(count) => Err(StreamRefusal::Write(count)),
+    }
+}

@@ -1,4 +1,0 @@
-pub mod ChunkLemmas
-pub mod NameLemmas
-pub mod OutcomeLemmas
-pub mod PhaseLemmas

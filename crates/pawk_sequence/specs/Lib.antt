@@ -1,4 +1,0 @@
-pub mod Meaning
-pub mod Outcome
-pub mod Chunks
-pub mod Sequence

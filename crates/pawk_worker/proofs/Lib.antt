@@ -1,2 +1,0 @@
-pub mod WorkerLemmas
-pub mod ShiftLemmas
