@@ -1,5 +1,5 @@
 -- What a call of a world answers.
-use Rattle.std.specs.Prelude.{◌≡◌, Option, Some, Result, Ok, Err}
+use Rattle.std.specs.Prelude.{◌≡◌, Some, Result, Ok, Err}
 use Rattle.pawk_world.specs.declared.halt.Halt.{Halt as Code}
 use Rattle.pawk_world.specs.Halts.{Halt, halt_of}
 use Rattle.pawk_world.specs.Worlds.{Answer, gives, halts}

@@ -2,3 +2,4 @@ pub mod Halts
 pub mod Sums
 pub mod Worlds
 pub mod Answers
+pub mod Writings

@@ -3,14 +3,17 @@
 ghost use Rattle.std.specs.Prelude.{◌≡◌, ◌++◌, OnOk};
 ghost use Rattle.pawk_value.specs.Value.{lent_value};
 ghost use Rattle.pawk_value.specs.Held.{added, held_value};
+ghost use Rattle.pawk_array.specs.Texts.{AreWithin, texts_in};
 ghost use Rattle.pawk_world.specs.Worlds.{Calls, read, old, write, add, test, remove, clear, keys};
 ghost use Rattle.pawk_world.specs.Worlds as cells;
 ghost use Rattle.pawk_world.specs.Answers.{Answers};
+ghost use Rattle.pawk_world.specs.Writings.{append_to, fill_behind};
 
 use crate::halt::Halt;
 use pawk_array::Texts;
 use pawk_code::word::Sign;
 use pawk_value::{Fault, Held, ValueRef};
+use std::ops::Range;
 
 /// The globals of a run: scalars by their slots, and arrays by theirs, both counted from 0.
 ///
@@ -46,6 +49,11 @@ pub trait World {
     ) -> Result<(), Halt>
         ensures { Answers (λ _. tt)
             (calls.ask (add sign (cells.scalar slot) amount) (state self.old))
+            result (state self.new) };
+
+    /// Puts a text behind the text of a scalar, which is a text then: one write.
+    fn append_scalar(&mut self, slot: usize, more: &[u8]) -> Result<(), Halt>
+        ensures { Answers (λ _. tt) (append_to calls slot more.now (state self.old))
             result (state self.new) };
 
     /// Lays down the value of an element, which creates it where it is missing: its bytes are
@@ -95,6 +103,16 @@ pub trait World {
     /// Empties an array.
     fn clear(&mut self, array: usize) -> Result<(), Halt>
         ensures { Answers (λ _. tt) (calls.ask (clear array) (state self.old))
+            result (state self.new) };
+
+    /// Gives the elements `1`, `2`, .. of an array the pieces of a text, as candidates: one write for
+    /// each, in their order. A piece is a range of bytes. The array is not emptied before.
+    ///
+    /// POSIX.1-2017, awk, "String Functions" (`split`).
+    fn fill(&mut self, array: usize, text: &[u8], pieces: Vec<Range<usize>>) -> Result<(), Halt>
+        requires { AreWithin text.now pieces.items }
+        ensures { Answers (λ _. tt)
+            (fill_behind calls array 0 (texts_in text.now pieces.items) (state self.old))
             result (state self.new) };
 
     /// All keys of an array, in the order of their bytes.
