@@ -1,3 +1,4 @@
 pub mod OpeningLemmas
 pub mod ListingLemmas
 pub mod ListingLawLemmas
+pub mod PiecesLemmas

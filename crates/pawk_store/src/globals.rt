@@ -6,6 +6,7 @@ ghost use Rattle.pawk_array.specs.Elements.{element_of};
 ghost use Rattle.pawk_store.specs.Globals.{array_at};
 ghost use Rattle.pawk_store.specs.Openings.{texts_of, pairs_of, opened};
 
+use crate::appending::append_in;
 use crate::copies::{copy_arrays, copy_scalars};
 use crate::openings::{empty_arrays, extra_names, push_opening_values};
 use pawk_array::{Array, Element, Texts};
@@ -15,6 +16,7 @@ use pawk_value::{Fault, Held, Value, ValueRef, assign, hold, lend, to_num, to_nu
 use pawk_world::{Halt, World, sum};
 use std::alloc::{AllocError, Global};
 use std::marker::Model;
+use std::ops::Range;
 
 /// The globals of a run, scalars and arrays by their slots. A slot past the last has no value, and what is
 /// written to it is lost.
@@ -136,6 +138,11 @@ impl World for Globals {
         self.set_scalar(slot, ValueRef::Num(number))
     }
 
+    fn append_scalar(&mut self, slot: usize, more: &[u8]) -> Result<(), Halt> {
+        append_in(self.alloc, &mut self.scalars, slot, more)?;
+        Ok(())
+    }
+
     fn element(&mut self, array: usize, key: &[u8], out: &mut Vec<u8>) -> Result<Held, Halt> {
         match self.arrays.get_mut(array) {
             Some(elements) => Ok(hold(elements.touch(key)?, out)?),
@@ -180,7 +187,7 @@ impl World for Globals {
 
     fn remove(&mut self, array: usize, key: &[u8]) -> Result<(), Halt> {
         if array < self.arrays.len() {
-            self.arrays[array].remove(key);
+            self.arrays[array].remove(key)?;
         }
         Ok(())
     }
@@ -188,6 +195,13 @@ impl World for Globals {
     fn clear(&mut self, array: usize) -> Result<(), Halt> {
         if array < self.arrays.len() {
             self.arrays[array].clear();
+        }
+        Ok(())
+    }
+
+    fn fill(&mut self, array: usize, text: &[u8], pieces: Vec<Range<usize>>) -> Result<(), Halt> {
+        if array < self.arrays.len() {
+            self.arrays[array].fill(text, pieces)?;
         }
         Ok(())
     }

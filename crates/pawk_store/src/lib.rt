@@ -1,6 +1,7 @@
 //! The globals of a run of one thread, and what it keeps beside them.
 #![tactic(auto)]
 
+mod appending;
 mod copies;
 mod globals;
 pub mod laws;
