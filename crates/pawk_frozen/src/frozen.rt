@@ -7,6 +7,7 @@ ghost use Rattle.pawk_admit.specs.Roles.{role_of_array, roles_view};
 ghost use Rattle.pawk_frozen.specs.Frozens as spec;
 
 use crate::table::Table;
+use itoa::Buffer;
 use pawk_admit::{Role, Roles};
 use pawk_array::Texts;
 use pawk_code::word::Sign;
@@ -15,6 +16,7 @@ use pawk_value::{Fault, Held, ValueRef, hold};
 use pawk_world::{Halt, World};
 use std::alloc::{AllocError, Global};
 use std::marker::Model;
+use std::ops::Range;
 
 /// The globals of a chunk: those that `BEGIN` left, which the chunk does not change, and what it
 /// notes in place of changing them.
@@ -112,6 +114,12 @@ impl<'a> World for Frozen<'a> {
         }
     }
 
+    fn append_scalar(&mut self, slot: usize, more: &[u8]) -> Result<(), Halt> {
+        let fixed = self.fixed;
+        self.table.append_scalar(slot, fixed.scalar(slot), more)?;
+        Ok(())
+    }
+
     fn element(&mut self, array: usize, key: &[u8], out: &mut Vec<u8>) -> Result<Held, Halt> {
         let fixed = self.fixed;
         match fixed.get(array, key) {
@@ -161,6 +169,16 @@ impl<'a> World for Frozen<'a> {
 
     fn clear(&mut self, _array: usize) -> Result<(), Halt> {
         Err(Halt::Clash)
+    }
+
+    fn fill(&mut self, array: usize, text: &[u8], pieces: Vec<Range<usize>>) -> Result<(), Halt> {
+        for (index, piece) in pieces.iter().enumerate() {
+            let mut number = Buffer::new();
+            let key = number.format(index + 1).as_bytes();
+            let value = ValueRef::Maybe(&text[piece.start..piece.end]);
+            self.set_element(array, key, value)?;
+        }
+        Ok(())
     }
 
     fn keys(&mut self, array: usize) -> Result<Texts, Halt> {

@@ -1,7 +1,8 @@
 //! The table of what a chunk notes.
 
-ghost use Rattle.std.specs.Prelude.{◌≡◌, map, replicate, [], IfOk, OnOk};
-ghost use Rattle.pawk_value.specs.Value.{lent_value};
+ghost use Rattle.std.specs.Prelude.{◌≡◌, ◌++◌, map, replicate, [], IfOk, OnOk};
+ghost use Rattle.pawk_value.specs.Conversion.{text_of};
+ghost use Rattle.pawk_value.specs.Value.{Text, lent_value};
 ghost use Rattle.pawk_world.specs.Answers.{Answers};
 ghost use Rattle.pawk_world.specs.Worlds.{element, scalar};
 ghost use Rattle.pawk_frozen.specs.Marks.{blank, blank_table, created, last_put, mark_at};
@@ -12,7 +13,7 @@ ghost use Rattle.pawk_frozen.specs.MarkViews.{kept, mark_view};
 use crate::mark::Mark;
 use crate::marks::Marks;
 use pawk_code::word::Sign;
-use pawk_value::ValueRef;
+use pawk_value::{ValueRef, push_text_lent};
 use pawk_world::Halt;
 use std::alloc::{AllocError, Global};
 use std::marker::Model;
@@ -139,6 +140,22 @@ impl Table {
             self.scalars[slot].put(self.alloc, value)?;
         }
         Ok(())
+    }
+
+    /// Notes that a scalar is set to the text of a value with more behind it.
+    pub(crate) fn append_scalar(
+        &mut self,
+        slot: usize,
+        before: ValueRef<'_>,
+        more: &[u8],
+    ) -> Result<(), AllocError>
+        ensures { OnOk result (self.new ≡ with_mark (scalar slot)
+            (last_put (Text (text_of (lent_value before.entry) ++ more.now))) self.old) }
+    {
+        let mut text = Vec::new(self.alloc);
+        push_text_lent(before, &mut text)?;
+        text.extend_from_slice(more)?;
+        self.put_scalar(slot, ValueRef::Text(text.as_slice()))
     }
 
     /// Notes that an element is set.
