@@ -1,6 +1,7 @@
 //! Calls of the globals of a run.
 
 use crate::listings::push_listing;
+use crate::pieces::pieces_between_bars;
 use crate::values::{push_value, value};
 use pawk_array::Texts;
 use pawk_code::word::Sign;
@@ -213,6 +214,19 @@ impl<'a> Calls<'a> {
         self.globals.remove(slot(rest), key.as_slice())
     }
 
+    /// Puts a text behind that of a scalar.
+    fn append(&mut self, alloc: Global, rest: &[u8]) -> Result<(), Halt> {
+        let more = decode(alloc, piece(rest, b'=', 1))?;
+        self.globals.append_scalar(slot(rest), more.as_slice())
+    }
+
+    /// Gives an array the pieces of a text.
+    fn fill(&mut self, alloc: Global, rest: &[u8]) -> Result<(), Halt> {
+        let text = decode(alloc, piece(rest, b'=', 1))?;
+        let pieces = pieces_between_bars(alloc, text.as_slice())?;
+        self.globals.fill(slot(rest), text.as_slice(), pieces)
+    }
+
     /// A call that may halt.
     fn ask(
         &mut self,
@@ -224,10 +238,12 @@ impl<'a> Calls<'a> {
         match word {
             b'l' => self.look(slot(rest)),
             b'w' | b'+' | b'-' | b's' | b'p' | b'm' => self.change(alloc, word, rest),
+            b'a' => self.append(alloc, rest),
             b'r' | b'o' => self.read(alloc, word, rest),
             b'i' => self.test(alloc, rest),
             b'd' => self.remove(alloc, rest),
             b'c' => self.globals.clear(slot(rest)),
+            b'u' => self.fill(alloc, rest),
             b'k' | b'e' => self.walk(word == b'k', slot(rest)),
             b'f' => {
                 let count = number(piece(rest, b'=', 1));

@@ -12,12 +12,14 @@
 //! | `l`slot | | the value of a scalar |
 //! | `w`slot`=`value | sets a scalar | |
 //! | `+`slot`=`value, `-`slot`=`value | adds to a scalar, or takes away | |
+//! | `a`slot`=`text | puts a text behind that of a scalar | |
 //! | `r`slot`=`key, `o`slot`=`key | reads an element, or an old one | the value |
 //! | `s`slot`=`key`=`value | sets an element | |
 //! | `p`slot`=`key`=`value, `m`slot`=`key`=`value | adds to an element, or takes away | |
 //! | `i`slot`=`key | | whether the element is there: 1 or 0 |
 //! | `d`slot`=`key | takes an element away | |
 //! | `c`slot | takes all away | |
+//! | `u`slot`=`text | gives the elements 1, 2, .. the pieces of a text between its bars, none of an empty one | |
 //! | `k`slot | | the keys in their order, parted by `|` |
 //! | `f`slot`=`count | sets the numbers from `count - 1` down to 0 | |
 //! | `e`slot | | how many keys there are, and whether they rise |
@@ -29,6 +31,7 @@
 mod calls;
 mod listings;
 mod openings;
+mod pieces;
 mod values;
 
 use calls::Calls;
