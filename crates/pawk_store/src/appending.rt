@@ -1,6 +1,7 @@
 //! Texts that are put behind those of values.
 
-ghost use Rattle.std.specs.Prelude.{◌≡◌, ◌++◌, OnOk, is_ok, if◌then◌else◌, map, slice_index_or, slice_set};
+ghost use Rattle.std.specs.Prelude.{◌≡◌, ◌++◌, OnOk, is_ok, if◌then◌else◌};
+ghost use Rattle.std.specs.Prelude.{map, slice_index_or, slice_set};
 ghost use Rattle.pawk_value.specs.Value.{shown, Text, Uninit};
 ghost use Rattle.pawk_value.specs.Conversion.{text_of};
 

@@ -105,8 +105,8 @@ pub trait World {
         ensures { Answers (λ _. tt) (calls.ask (clear array) (state self.old))
             result (state self.new) };
 
-    /// Gives the elements `1`, `2`, .. of an array the pieces of a text, as candidates: one write for
-    /// each, in their order. A piece is a range of bytes. The array is not emptied before.
+    /// Gives the elements `1`, `2`, .. of an array the pieces of a text, as candidates: one write
+    /// for each, in their order. A piece is a range of bytes. The array is not emptied before.
     ///
     /// POSIX.1-2017, awk, "String Functions" (`split`).
     fn fill(&mut self, array: usize, text: &[u8], pieces: Vec<Range<usize>>) -> Result<(), Halt>
