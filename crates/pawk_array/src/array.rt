@@ -1,11 +1,11 @@
 //! Arrays.
 
-ghost use Rattle.std.specs.Prelude.{◌≡◌, [], ◌↔◌, length, map, IsTrue, IfOk, OnOk, OnErr, is_some};
+ghost use Rattle.std.specs.Prelude.{◌≡◌, ◌≤◌, [], ◌↔◌, length, map, IsTrue, IfOk, OnOk, OnErr, is_some};
+ghost use Rattle.std.specs.List.{All};
 ghost use Rattle.std.specs.Option.{option_map};
 ghost use Rattle.std.specs.Borrow.{sem};
 ghost use Rattle.pawk_value.specs.Value.{lent_value, shown, Uninit};
-ghost use Rattle.pawk_array.specs.Entries.{found, put, without, value_of, touched, with_pieces, keys, Rise};
-ghost use Rattle.pawk_array.specs.Texts.{AreWithin};
+ghost use Rattle.pawk_array.specs.Entries.{found, put, without, value_of, touched, pieces_of, keys, Rise};
 ghost use Rattle.pawk_array.specs.ArrayViews.{entries_of, HasKeyAt};
 ghost use Rattle.pawk_array.specs.Elements.{element_of};
 ghost use Rattle.pawk_array.specs.Lending.{LendsElement, EndsTouched};
@@ -114,11 +114,10 @@ impl Array {
     }
 
     /// Takes an element away, if it is there.
-    pub fn remove(&mut self, key: &[u8]) -> Result<(), AllocError>
-        ensures { OnOk result (self.new ≡ without key.now self.old) }
+    pub fn remove(&mut self, key: &[u8])
+        ensures { self.new ≡ without key.now self.old }
     {
         let _ = self.map.swap_remove(Query(key));
-        Ok(())
     }
 
     /// Takes all elements away.
@@ -158,11 +157,12 @@ impl Array {
         assign(alloc, element, value)
     }
 
-    /// Gives the keys `1`, `2`, .. the pieces of a text, as candidates.
-    pub fn fill(&mut self, text: &[u8], ranges: Vec<Range<usize>>) -> Result<(), AllocError>
-        requires { AreWithin text.now ranges.items }
-        ensures { OnOk result (self.new ≡ with_pieces 0 text.now ranges.items self.old) }
+    /// Takes all elements away, and gives the keys `1`, `2`, .. the pieces of a text, as candidates.
+    pub fn fill(&mut self, text: &[u8], ranges: &[Range<usize>]) -> Result<(), AllocError>
+        requires { All (λ r. (r.start ≤ r.end) × (r.end ≤ length text.now)) ranges.now }
+        ensures { OnOk result (self.new ≡ pieces_of text.now ranges.now) }
     {
+        self.clear();
         for (index, range) in ranges.iter().enumerate() {
             let mut number = Buffer::new();
             let key = number.format(index + 1).as_bytes();
