@@ -1,11 +1,14 @@
 -- Pieces of a text at the keys of their numbers.
-use Rattle.std.proofs.Common.{◌≡◌, ◌≢◌, ℕ, zero, suc, drop, add-one, ◌+◌, ◌^◌, ◌<◌, Bool, true, false, List, [], ◌∷◌, length, get_or, Option, Some, None, inl, inr, refl, sym, ◌∙◌, ap, arith}
-use Rattle.std.specs.Prelude.{◌||◌, is_some, if◌then◌else◌, slice_range, slice_get}
+use Rattle.std.proofs.Common.{◌≡◌, ◌≢◌, ℕ, zero, suc, drop, add-one, ◌+◌, ◌^◌, ◌<◌, Bool, true, false, List, [], ◌∷◌, ◌++◌, length, get_or, ⊎_elim, Option, Some, None, inl, inr, refl, sym, ◌∙◌, ap, arith}
+use Rattle.std.specs.Prelude.{◌⊎◌, ◌||◌, is_some, if◌then◌else◌, slice_range, slice_get}
 use Rattle.std.specs.List.{AllByRecursion, IsDistinct, list_any}
 use Rattle.std.specs.Str.{bytes_eq}
 use Rattle.std.specs.Fmt.{decimal}
 use Rattle.std.specs.declared.ops.Range.{Range}
 use Rattle.std.proofs.lemmas.Fmt.{decimal_injective}
+use Rattle.std.proofs.lemmas.Bool.{cases_eq}
+use Rattle.std.proofs.lemmas.List.{get_or_append_left, length-append}
+use Rattle.std.proofs.Math.Seq.{get_or-append_seam}
 use Rattle.pawk_value.specs.Value.{Val, Maybe}
 use Rattle.pawk_array.specs.Entries.{Entries, Rise, found, put, with_pieces}
 use Rattle.pawk_array.specs.Pieces.{with_texts, AreNumbers, AreApart}
@@ -168,3 +171,11 @@ fill_empty text rs old new es none empty e =
     ap (λ ts. with_texts 0 ts (entries_of es)) e
     ∙ with_texts_in 0 text rs (entries_of es)
     ∙ ap (with_pieces 0 text rs) (sym (seen_pairs old (entries_of es) none))
+
+-- the next number behind the others
+pub one_number : (ns : List (List ℕ)) (k : List ℕ) → AreNumbers ns → k ≡ decimal (length ns + 1) → AreNumbers (ns ++ k ∷ [])
+one_number ns k h same = λ i d below.
+    let size = length-append ns (k ∷ []) in
+    ⊎_elim (λ last. rw last (get_or-append_seam ns k [] d ∙ same)) (λ before. get_or_append_left ns (k ∷ []) d i before ∙ h i d before) (last_or_before (length ns) i (omega (arith, below, size))) where
+      last_or_before : (n i : ℕ) → i < n + 1 → (i ≡ n) ⊎ (i < n)
+      last_or_before n i h = ⊎_elim (λ e. inl e) (λ e. inr (omega (arith, h, e))) (cases_eq i n)
