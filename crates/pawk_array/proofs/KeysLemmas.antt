@@ -17,14 +17,15 @@ use Rattle.std.proofs.Math.Seq.{drop-append_seam, take-length}
 use Rattle.std.proofs.lemmas.Map.Keys.{sorted_from_all_adjacent, apart_from_distinct, IsDistinct-IsPermutation}
 use Rattle.std.proofs.lemmas.Slice.Eq.{bytes_eq-Decides}
 use Rattle.pawk_scalar.specs.declared.values.Value.{Value}
-use Rattle.pawk_array.specs.Entries.{Entries, order, keys}
+use Rattle.pawk_array.specs.Entries.{Entries, Rise, order, keys}
 use Rattle.pawk_array.specs.declared.headed.Headed.{Headed}
 use Rattle.pawk_array.specs.declared.key.Key.{Key}
 use Rattle.pawk_array.specs.Keys.{text_of}
 use Rattle.pawk_array.specs.ArrayViews.{entries_of}
 use Rattle.pawk_array.specs.Texts.{texts_in, AreWithin}
+use Rattle.pawk_array.specs.Walks.{AreKeysOf}
 use Rattle.pawk_array.proofs.EntriesLemmas.{total, same_text, holds, flip}
-use Rattle.pawk_array.proofs.PairsLemmas.{Pairs, same_bytes, has_bytes, rise-entries_of, contains_by}
+use Rattle.pawk_array.proofs.PairsLemmas.{Pairs, same_bytes, has_bytes, contains_by}
 
 -- ---- one room
 
@@ -115,21 +116,23 @@ unit_same None (Some y) e = cc
 unit_same (Some x) None e = cc
 unit_same (Some x) (Some y) e = refl
 
--- the keys of distinct pairs, in order, are the keys of what the pairs hold
-pub keys_in_order : (es : Pairs) (ks : List (List ℕ)) → IsDistinct same_bytes (keys_of es) → IsPermutation (map (λ e. text_of e.0) es) ks → IsSorted order ks →
-    ks ≡ keys (entries_of es)
-keys_in_order es ks distinct moved sorted =
-    let texts : List (List ℕ) = map (λ e. text_of e.0) es in
-    let apart = IsDistinct-IsPermutation bytes_eq flip texts ks moved (distinct_texts es distinct) in
+-- the keys of elements, in order
+pub keys_in_order : (es : Entries) (texts ks : List (List ℕ)) → Rise es → AreKeysOf es texts → IsPermutation texts ks → IsSorted order ks → ks ≡ keys es
+keys_in_order es texts ks rises_up known moved sorted =
+    let apart = IsDistinct-IsPermutation bytes_eq flip texts ks moved known.distinct in
     let strict = sorted_from_all_adjacent total ks [] (λ k below. rises (get_or ks k []) (get_or ks (k + 1) []) (sorted k [] (omega arith) below) (apart_from_distinct bytes_eq ks k (k + 1) [] apart (omega arith) below)) in
-    let all = keys (entries_of es) in
+    let all = keys es in
     let finds : (q : List ℕ) → find order q (marks ks) ≡ find order q (marks all) = λ q.
     unit_same (find order q (marks ks)) (find order q (marks all))
     (is_some-find order q (marks ks) ∙ ap (list_any (eq_by_cmp order q)) (marked_keys ks) ∙ any_ties q ks
-    ∙ sym (list_any-IsPermutation (bytes_eq q) texts ks moved) ∙ any_lookup q es ∙ contains_by q es
-    ∙ is_some-find order q (entries_of es) ∙ ap (list_any (eq_by_cmp order q)) (sym (marked_keys all)) ∙ sym (is_some-find order q (marks all))) in
-    let equal = same_entries order total same_text (marks ks) (marks all) (holds _ (strictly ks strict)) (holds _ (sorted_marks (entries_of es) ∙ rise-entries_of es)) finds in
+    ∙ sym (list_any-IsPermutation (bytes_eq q) texts ks moved) ∙ known.all q
+    ∙ is_some-find order q es ∙ ap (list_any (eq_by_cmp order q)) (sym (marked_keys all)) ∙ sym (is_some-find order q (marks all))) in
+    let equal = same_entries order total same_text (marks ks) (marks all) (holds _ (strictly ks strict)) (holds _ (sorted_marks es ∙ rises_up)) finds in
     sym (marked_keys ks) ∙ ap (map (λ e. e.0)) equal ∙ marked_keys all
+
+-- the keys of distinct pairs are those of what the pairs hold
+pub pair_keys : (es : Pairs) → IsDistinct same_bytes (keys_of es) → AreKeysOf (entries_of es) (map (λ e. text_of e.0) es)
+pair_keys es distinct = record { distinct = distinct_texts es distinct; all = λ q. any_lookup q es ∙ contains_by q es }
 
 sorted_from : (first : Headed) (xs : List Headed) → IsSorted (λ x y. order x.text.now y.text.now) xs → IsSorted order (map (λ x. x.text.now) xs)
 sorted_from first xs h k d low below =

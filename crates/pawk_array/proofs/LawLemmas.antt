@@ -18,13 +18,13 @@ differs_by : (q k : List ℕ) (b : Bool) → bytes_eq q k ≡ b → q ≢ k → 
 differs_by q k false e h = e
 differs_by q k true e h = absurd (h ((bytes_eq-Decides q k).0 e))
 
-differs : (q k : List ℕ) → q ≢ k → bytes_eq q k ≡ false
+pub differs : (q k : List ℕ) → q ≢ k → bytes_eq q k ≡ false
 differs q k h = differs_by q k (bytes_eq q k) refl h
 
-put_here : (k : List ℕ) (v : Val) (es : Entries) → found k (put k v es) ≡ Some v
+pub put_here : (k : List ℕ) (v : Val) (es : Entries) → found k (put k v es) ≡ Some v
 put_here k v es = found-put k k v es ∙ ap (λ b. if b then Some v else found k es) (itself k)
 
-put_other : (q k : List ℕ) (v : Val) (es : Entries) → q ≢ k → found q (put k v es) ≡ found q es
+pub put_other : (q k : List ℕ) (v : Val) (es : Entries) → q ≢ k → found q (put k v es) ≡ found q es
 put_other q k v es h = found-put q k v es ∙ ap (λ b. if b then Some v else found q es) (differs q k h)
 
 pub same_holds : SameLaw

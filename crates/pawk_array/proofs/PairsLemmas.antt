@@ -158,17 +158,20 @@ none_is None e = refl
 none_is (Some v) e = cc
 
 -- an element that is there stays
-pub touched_there : (k : List ℕ) (es : Pairs) → is_some (lookup (has_bytes k) es) ≡ true → entries_of es ≡ touched k (entries_of es)
-touched_there k es e =
-    let there = some_is (found k (entries_of es)) (sym (contains_by k es) ∙ e) in
-    let v = value_of (found k (entries_of es)) in
-    same_found (entries_of es) (put k v (entries_of es)) (rise-entries_of es) (rise-put k v (entries_of es) (rise-entries_of es)) (λ q. sym (found-put q k v (entries_of es) ∙ stays q v there)) where
-      stays_by : (q : List ℕ) (v : Val) → found k (entries_of es) ≡ Some v → (b : Bool) → bytes_eq q k ≡ b → (if b then Some v else found q (entries_of es)) ≡ found q (entries_of es)
+pub touched_found : (k : List ℕ) (es : Entries) → Rise es → is_some (found k es) ≡ true → es ≡ touched k es
+touched_found k es rise e =
+    let there = some_is (found k es) e in
+    let v = value_of (found k es) in
+    same_found es (put k v es) rise (rise-put k v es rise) (λ q. sym (found-put q k v es ∙ stays q v there)) where
+      stays_by : (q : List ℕ) (v : Val) → found k es ≡ Some v → (b : Bool) → bytes_eq q k ≡ b → (if b then Some v else found q es) ≡ found q es
       stays_by q v there true p = let same = (bytes_eq-Decides q k).0 p in rw same (sym there)
       stays_by q v there false p = refl
 
-      stays : (q : List ℕ) (v : Val) → found k (entries_of es) ≡ Some v → (if bytes_eq q k then Some v else found q (entries_of es)) ≡ found q (entries_of es)
+      stays : (q : List ℕ) (v : Val) → found k es ≡ Some v → (if bytes_eq q k then Some v else found q es) ≡ found q es
       stays q v there = stays_by q v there (bytes_eq q k) refl
+
+pub touched_there : (k : List ℕ) (es : Pairs) → is_some (lookup (has_bytes k) es) ≡ true → entries_of es ≡ touched k (entries_of es)
+touched_there k es e = touched_found k (entries_of es) (rise-entries_of es) (sym (contains_by k es) ∙ e)
 
 -- an element that is missing is made, uninitialised
 pub touched_new : (k : Key) (old new : Pairs) → is_some (lookup (has_bytes (text_of k)) old) ≡ false → lookup (has_bytes (text_of k)) new ≡ Some value.Uninit →

@@ -5,4 +5,6 @@ pub mod ArrayViews
 pub mod Elements
 pub mod Lending
 pub mod Texts
+pub mod Pieces
+pub mod Walks
 pub mod Law

@@ -5,27 +5,34 @@ ghost use Rattle.std.specs.List.{All};
 ghost use Rattle.std.specs.Option.{option_map};
 ghost use Rattle.std.specs.Borrow.{sem};
 ghost use Rattle.pawk_value.specs.Value.{lent_value, shown, Uninit};
-ghost use Rattle.pawk_array.specs.Entries.{found, put, without, value_of, touched, pieces_of, keys, Rise};
+ghost use Rattle.pawk_array.specs.Entries.{found, put, without, value_of, touched, with_pieces, keys, Rise};
+ghost use Rattle.pawk_array.specs.Walks.{AreKeysOf};
+ghost use Rattle.pawk_array.specs.Pieces.{with_texts, AreApart};
 ghost use Rattle.pawk_array.specs.ArrayViews.{entries_of, HasKeyAt};
 ghost use Rattle.pawk_array.specs.Elements.{element_of};
 ghost use Rattle.pawk_array.specs.Lending.{LendsElement, EndsTouched};
 
 use crate::headed::Headed;
 use crate::key::{Key, Query};
+use crate::pieces::Pieces;
 use crate::texts::Texts;
 use indexmap::IndexMap;
 use itoa::Buffer;
-use pawk_value::{Value, ValueRef, assign, copy_value, lend};
+use pawk_value::{Value, ValueRef, assign, copy_lent, lend};
 use std::alloc::{AllocError, Global};
 use std::marker::Model;
 use std::ops::Range;
 
 /// The elements of an array by their keys (POSIX.1-2017, awk, "Variables and Special Variables").
 /// Contracts see the elements in the order of the bytes of their keys.
+///
+/// The pieces of a text stay ranges of it until an element is changed; then they become pairs of the
+/// map.
 #[derive(Drop)]
 pub struct Array {
     alloc: Global,
     map: IndexMap<Key, Value>,
+    pieces: Pieces,
 }
 
 impl Model for Array {
@@ -34,8 +41,11 @@ impl Model for Array {
     ghost Value = { Entries };
 
     ghost use Rattle.pawk_array.specs.ArrayViews.{entries_of};
+    ghost use Rattle.pawk_array.specs.Pieces.{with_texts, AreApart};
 
-    ghost view = { λ a. entries_of a.map.entries };
+    ghost view = { λ a. with_texts 0 a.pieces (entries_of a.map.entries) };
+
+    ghost invariant = { λ a. AreApart a.pieces a.map.entries };
 }
 
 /// An element of an array: its key and its value.
@@ -67,15 +77,90 @@ fn insert_copy(
     alloc: Global,
     map: &mut IndexMap<Key, Value>,
     key: &[u8],
-    value: &Value,
+    value: ValueRef<'_>,
 ) -> Result<(), AllocError>
     ensures { OnOk result (entries_of map.new.entries
-        ≡ put key.now (shown value.now) (entries_of map.old.entries)) }
+        ≡ put key.now (lent_value value.entry) (entries_of map.old.entries)) }
 {
     let key = Key::new(alloc, key)?;
-    let value = copy_value(alloc, value)?;
+    let value = copy_lent(alloc, value)?;
     map.insert(key, value)?;
     Ok(())
+}
+
+/// Puts copies of pieces among the pairs.
+fn insert_pieces(
+    alloc: Global,
+    map: &mut IndexMap<Key, Value>,
+    pieces: &Pieces,
+) -> Result<(), AllocError>
+    ensures { OnOk result (entries_of map.new.entries
+        ≡ with_texts 0 pieces.now (entries_of map.old.entries)) }
+{
+    for place in 0..pieces.len() {
+        let piece = ValueRef::Maybe(pieces.piece(place));
+        insert_copy(alloc, map, pieces.key(place), piece)?;
+    }
+    Ok(())
+}
+
+/// Makes pieces pairs of a map that has none. After a refusal of memory they are pieces as before.
+#[cold]
+#[inline(never)]
+fn unfold(
+    alloc: Global,
+    map: &mut IndexMap<Key, Value>,
+    pieces: &mut Pieces,
+) -> Result<(), AllocError>
+    requires { map.old.entries ≡ [] }
+    ensures gone { OnOk result (pieces.new ≡ []) }
+    ensures apart { AreApart pieces.new map.new.entries }
+    ensures same { with_texts 0 pieces.new (entries_of map.new.entries)
+        ≡ with_texts 0 pieces.old (entries_of map.old.entries) }
+{
+    match insert_pieces(alloc, map, pieces) {
+        Ok(()) => {
+            pieces.clear();
+            Ok(())
+        }
+        Err(error) => {
+            map.clear();
+            Err(error)
+        }
+    }
+}
+
+/// Makes pieces, if there are some, pairs of the map. After a refusal of memory they are pieces as
+/// before.
+#[inline]
+fn settle(
+    alloc: Global,
+    map: &mut IndexMap<Key, Value>,
+    pieces: &mut Pieces,
+) -> Result<(), AllocError>
+    requires { AreApart pieces.old map.old.entries }
+    ensures gone { OnOk result (pieces.new ≡ []) }
+    ensures apart { AreApart pieces.new map.new.entries }
+    ensures same { with_texts 0 pieces.new (entries_of map.new.entries)
+        ≡ with_texts 0 pieces.old (entries_of map.old.entries) }
+{
+    if pieces.is_empty() {
+        return Ok(());
+    }
+    unfold(alloc, map, pieces)
+}
+
+/// All keys of a map, lent, in the order of its pairs.
+fn map_keys(alloc: Global, pairs: &IndexMap<Key, Value>) -> Result<Vec<Headed<'_>>, AllocError>
+    ensures { IfOk result (λ all.
+        AreKeysOf (entries_of pairs.now.entries) (map (λ x. x.text.now) all.items)) }
+{
+    let mut all = Vec::with_capacity(alloc, pairs.len())?;
+    for place in 0..pairs.len() {
+        let (key, _) = pairs.get_index(place).unwrap();
+        all.push(Headed::new(key.text()))?;
+    }
+    Ok(all)
 }
 
 impl Array {
@@ -86,6 +171,7 @@ impl Array {
         Array {
             alloc,
             map: IndexMap::new(alloc),
+            pieces: Pieces::new(alloc),
         }
     }
 
@@ -93,13 +179,20 @@ impl Array {
     pub fn len(&self) -> usize
         ensures { result ≡ length self.now }
     {
-        self.map.len()
+        if self.pieces.is_empty() {
+            self.map.len()
+        } else {
+            self.pieces.len()
+        }
     }
 
     /// The value of an element, if it is there. None is made.
     pub fn get(&self, key: &[u8]) -> Option<ValueRef<'_>>
         ensures { option_map lent_value result ≡ found key.now self.now }
     {
+        if !self.pieces.is_empty() {
+            return self.pieces.get(key).map(ValueRef::Maybe);
+        }
         match self.map.get(Query(key)) {
             None => None,
             Some(value) => Some(lend(value)),
@@ -110,29 +203,37 @@ impl Array {
     pub fn contains(&self, key: &[u8]) -> bool
         ensures { result ≡ is_some (found key.now self.now) }
     {
+        if !self.pieces.is_empty() {
+            return self.pieces.get(key).is_some();
+        }
         self.map.contains_key(Query(key))
     }
 
-    /// Takes an element away, if it is there.
-    pub fn remove(&mut self, key: &[u8])
-        ensures { self.new ≡ without key.now self.old }
+    /// Takes an element away, if it is there. Memory is refused only where the elements are the pieces of
+    /// a text, which become pairs of the map first.
+    pub fn remove(&mut self, key: &[u8]) -> Result<(), AllocError>
+        ensures { OnOk result (self.new ≡ without key.now self.old) }
     {
+        settle(self.alloc, &mut self.map, &mut self.pieces)?;
         let _ = self.map.swap_remove(Query(key));
+        Ok(())
     }
 
-    /// Takes all elements away.
+    /// Takes all elements away, and keeps their rooms.
     pub fn clear(&mut self)
         ensures { self.new ≡ [] }
     {
         self.map.clear();
+        self.pieces.clear();
     }
 
     /// An element, lent for a change. One that is missing is made, uninitialised; memory is refused
-    /// only then, and the array is as before.
+    /// only then or where the elements are the pieces of a text, and the array is as before.
     pub fn entry(&mut self, key: &[u8]) -> Result<&mut Value, AllocError>
         ensures* writes_back { sem 𝓛 (LendsElement self.entry key.now result) }
         ensures value { IfOk result (λ v. shown v.now ≡ value_of (found key.now self.old)) }
     {
+        settle(self.alloc, &mut self.map, &mut self.pieces)?;
         let place = place_of(self.alloc, &mut self.map, key)?;
         Ok(self.map.get_index_mut(place).unwrap())
     }
@@ -143,6 +244,12 @@ impl Array {
         ensures* touched { sem 𝓛 (EndsTouched self.entry key.now result) }
         ensures value { IfOk result (λ v. lent_value v ≡ value_of (found key.now self.old)) }
     {
+        if !self.pieces.is_empty() {
+            if let Some(place) = self.pieces.place_of(key) {
+                return Ok(ValueRef::Maybe(self.pieces.piece(place)));
+            }
+            unfold(self.alloc, &mut self.map, &mut self.pieces)?;
+        }
         let element = place_of(self.alloc, &mut self.map, key)?;
         Ok(lend(self.map.get_index(element).unwrap().1))
     }
@@ -157,12 +264,26 @@ impl Array {
         assign(alloc, element, value)
     }
 
-    /// Takes all elements away, and gives the keys `1`, `2`, .. the pieces of a text, as candidates.
-    pub fn fill(&mut self, text: &[u8], ranges: &[Range<usize>]) -> Result<(), AllocError>
-        requires { All (λ r. (r.start ≤ r.end) × (r.end ≤ length text.now)) ranges.now }
-        ensures { OnOk result (self.new ≡ pieces_of text.now ranges.now) }
+    /// Gives the keys `1`, `2`, .. the pieces of a text, as candidates. An array without elements copies
+    /// the text as a whole and takes the ranges over; in another the elements are set one by one. After a
+    /// refusal of memory some of them may be set.
+    pub fn fill(&mut self, text: &[u8], ranges: Vec<Range<usize>>) -> Result<(), AllocError>
+        requires { All (λ r. (r.start ≤ r.end) × (r.end ≤ length text.now)) ranges.items }
+        ensures { OnOk result (self.new ≡ with_pieces 0 text.now ranges.items self.old) }
     {
-        self.clear();
+        if self.pieces.is_empty() && self.map.is_empty() {
+            return self.pieces.fill(self.alloc, text, ranges);
+        }
+        self.set_pieces(text, ranges.as_slice())
+    }
+
+    /// Sets the pieces of a text one by one.
+    #[cold]
+    #[inline(never)]
+    fn set_pieces(&mut self, text: &[u8], ranges: &[Range<usize>]) -> Result<(), AllocError>
+        requires { All (λ r. (r.start ≤ r.end) × (r.end ≤ length text.now)) ranges.now }
+        ensures { OnOk result (self.new ≡ with_pieces 0 text.now ranges.now self.old) }
+    {
         for (index, range) in ranges.iter().enumerate() {
             let mut number = Buffer::new();
             let key = number.format(index + 1).as_bytes();
@@ -175,14 +296,31 @@ impl Array {
     pub fn copy(&self, alloc: Global) -> Result<Array, AllocError>
         ensures { IfOk result (λ copy. copy ≡ self.now) }
     {
-        let mut map = IndexMap::with_capacity(alloc, self.map.len())?;
+        let mut map = IndexMap::with_capacity(alloc, self.len())?;
         let mut place = self.map.len();
         while place > 0 {
             place -= 1;
             let (key, value) = self.map.get_index(place).unwrap();
-            insert_copy(alloc, &mut map, key.text(), value)?;
+            insert_copy(alloc, &mut map, key.text(), lend(value))?;
         }
-        Ok(Array { alloc, map })
+        insert_pieces(alloc, &mut map, &self.pieces)?;
+        Ok(Array {
+            alloc,
+            map,
+            pieces: Pieces::new(alloc),
+        })
+    }
+
+    /// All keys, lent, in any order.
+    fn all_keys(&self, alloc: Global) -> Result<Vec<Headed<'_>>, AllocError>
+        ensures keys { IfOk result (λ all. AreKeysOf self.now (map (λ x. x.text.now) all.items)) }
+        ensures rises { Rise self.now }
+    {
+        if self.pieces.is_empty() {
+            map_keys(alloc, &self.map)
+        } else {
+            self.pieces.keys(alloc)
+        }
     }
 
     /// All keys, lent, in the order of their bytes.
@@ -190,11 +328,7 @@ impl Array {
         ensures keys { IfOk result (λ all. map (λ x. x.text.now) all.items ≡ keys self.now) }
         ensures rises { OnOk result (Rise self.now) }
     {
-        let mut sorted = Vec::with_capacity(alloc, self.map.len())?;
-        for place in 0..self.map.len() {
-            let (key, _) = self.map.get_index(place).unwrap();
-            sorted.push(Headed::new(key.text()))?;
-        }
+        let mut sorted = self.all_keys(alloc)?;
         sorted.sort_unstable();
         Ok(sorted)
     }

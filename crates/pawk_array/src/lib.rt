@@ -5,6 +5,7 @@ mod array;
 mod headed;
 mod key;
 pub mod laws;
+mod pieces;
 mod texts;
 
 pub use array::{Array, Element};

@@ -1,6 +1,13 @@
-use Rattle.std.proofs.Common.{◌∙◌}
+use Rattle.std.proofs.Common.{◌∙◌, ap, sym, is_some}
+use Rattle.pawk_array.specs.Entries.{found}
+use Rattle.pawk_array.specs.ArrayViews.{entries_of}
 use Rattle.pawk_array.proofs.PairsLemmas.{contains_by}
+use Rattle.pawk_array.proofs.PiecesLemmas.{seen_pairs}
 use Rattle.pawk_array.proofs.array.Array.contains.Goals as goal
 
 pub returns : goal.returns
-returns c = rw (← c.self.view_is) (c.contains_key.ensures ∙ contains_by c.args.key.now c.self.inside.map.entries)
+returns c =
+    let a = c.self.inside in
+    let es = a.map.entries in
+    c.contains_key.ensures ∙ contains_by c.args.key.now es
+    ∙ ap (λ fs. is_some (found c.args.key.now fs)) (sym (seen_pairs a.pieces (entries_of es) (c.is_empty.ensures.0 c.if-not-is_empty.false)) ∙ c.self.view_is)

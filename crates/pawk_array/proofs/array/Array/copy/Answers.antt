@@ -20,6 +20,7 @@ loop-place-preserved c =
       within = omega (arith, c.loop-place.invariant.within);
       so_far =
           c.in_ok-insert_copy.ensures
+          ∙ ap (λ v. put c.text.result.now v (entries_of c.loop-place.map.entries)) c.lend.ensures
           ∙ ap (λ k. put k (shown pair.1.now) (entries_of c.loop-place.map.entries)) c.text.ensures
           ∙ ap (put (text_of pair.0.now) (shown pair.1.now)) (c.loop-place.invariant.so_far ∙ ap (λ n. entries_of (drop n es)) (sym next))
           ∙ sym before;
