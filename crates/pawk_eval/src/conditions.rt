@@ -4,7 +4,8 @@
 
 ghost use Rattle.std.specs.Prelude.{◌≤◌};
 ghost use Rattle.pawk_code.specs.Expressions as codes;
-ghost use Rattle.pawk_code.specs.ExpressionViews.{pattern_view, test_view, view};
+ghost use Rattle.pawk_code.specs.Expressions.{exprs};
+ghost use Rattle.pawk_code.specs.ExpressionViews.{pattern_view, test_view, view, views};
 ghost use Rattle.pawk_meaning.specs.Meaning.{truth_of};
 ghost use Rattle.pawk_places.specs.Moments.{moment};
 ghost use Rattle.pawk_places.specs.Yields.{Yields};
@@ -19,9 +20,11 @@ use crate::places::key;
 use pawk_builtins::{Expression, related, same_truth};
 use pawk_code::expression::{Expr, Pattern, Test};
 use pawk_code::leaf::Leaf;
+use pawk_code::name::Array;
 use pawk_code::word::Relation;
 use pawk_places::{
-    Run, compare_leaves, compare_number, element_exists, give_back, table_of, take_buffer,
+    Run, compare_leaves, compare_number, element_exists, field_exists, give_back, number_exists,
+    plain_number, table_of, take_buffer,
 };
 use pawk_value::lend_held;
 use pawk_world::{Halt, World};
@@ -67,10 +70,7 @@ pub(crate) fn test<W: World>(
             Ok(!truth_a?)
         }
         Test::Match(wanted, a, pattern) => matches(context, depth, *wanted, a, pattern, world, run),
-        Test::In(array, keys) => {
-            let key = key(context, depth, keys, world, run)?;
-            element_exists(table_of(&run.frame, *array), &key, world, run)
-        }
+        Test::In(array, keys) => member(context, depth, *array, keys, world, run),
     }
 }
 
@@ -153,5 +153,40 @@ pub(crate) fn matches<W: World>(
         text: &ere,
     };
     let found = find_first(expression, &text, world, run)?;
+    give_back(&mut run.spare, text);
+    give_back(&mut run.spare, ere);
     Ok(same_truth(wanted, found.is_some()))
+}
+
+/// Whether an array has an element. A key that is a field or a number is not copied.
+///
+/// POSIX.1-2017, awk, "Expressions in awk" (`in`).
+#[cycle(evaluate)]
+#[inline(never)]
+pub(crate) fn member<W: World>(
+    context: Context<'_>,
+    depth: u64,
+    array: Array,
+    keys: &[Expr],
+    world: &mut W,
+    run: &mut Run<'_>,
+) -> Result<bool, Halt>
+    ensures left { run.new.left ≤ run.old.left }
+    ensures outcome { Yields (λ holds. holds)
+        (truth_of W.calls (eres_of context.entry) (enter_of W.calls context.entry depth)
+        (codes.member array (exprs (views keys.now)))
+        (moment (W.state world.old) run.old)) result (moment (W.state world.new) run.new) }
+{
+    if let [Expr::Leaf(leaf)] = keys {
+        if let Leaf::Field(n) = leaf {
+            return field_exists(table_of(&run.frame, array), *n, world, run);
+        }
+        if let Some(key) = plain_number(leaf, world, run) {
+            return number_exists(table_of(&run.frame, array), key, world, run);
+        }
+    }
+    let key = key(context, depth, keys, world, run)?;
+    let exists = element_exists(table_of(&run.frame, array), &key, world, run)?;
+    give_back(&mut run.spare, key);
+    Ok(exists)
 }

@@ -282,7 +282,10 @@ pub(crate) fn split<W: World>(
         by,
         text: &separator,
     };
-    split_into(table, by, &text, world, run)
+    let count = split_into(table, by, &text, world, run)?;
+    give_back(&mut run.spare, text);
+    give_back(&mut run.spare, separator);
+    Ok(count)
 }
 
 /// Replaces matches in the text of a place, and gives how many.
@@ -311,7 +314,11 @@ pub(crate) fn replace<W: World>(
         pattern: parts.pattern,
         text: &ere,
     };
-    substitute(parts.count, expression, &replacement, &target, world, run)
+    let count = substitute(parts.count, expression, &replacement, &target, world, run)?;
+    give_back(&mut run.spare, ere);
+    give_back(&mut run.spare, replacement);
+    give_back_target(&mut run.spare, target);
+    Ok(count)
 }
 
 /// Finds the first match in a text, sets RSTART and RLENGTH, and gives RSTART.
@@ -353,5 +360,6 @@ pub(crate) fn find<W: World>(
     };
     let found = find_first(expression, &text, world, run)?;
     give_back(&mut run.spare, text);
+    give_back(&mut run.spare, ere);
     set_match_place(found, world, run)
 }

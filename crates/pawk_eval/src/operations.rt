@@ -22,7 +22,8 @@ use pawk_code::expression::{Expr, Format, Pattern, Place};
 use pawk_code::name::Variable;
 use pawk_code::word::{Count, Sign};
 use pawk_places::{
-    Parameter, Run, Table, Target, put_text, read_place, variable_target, write_place,
+    Parameter, Run, Table, Target, give_back, put_text, read_place, take_buffer, variable_target,
+    write_place,
 };
 use pawk_value::{Fault, Held, Op, Value, ValueRef, arith, lend_held, text_in};
 use pawk_world::{Halt, World};
@@ -182,13 +183,16 @@ pub fn substitute<W: World>(
         (put_replaced W.calls (aim_view target.now)))
         (moment (W.state world.old) run.old)) result (moment (W.state world.new) run.new) }
 {
-    let mut bytes = Vec::new(run.alloc);
+    let mut bytes = take_buffer(run.alloc, &mut run.spare);
     let held = read_place(target, &mut bytes, world, run)?;
     let mut buffer = Buffer::new();
     let text = text_in(lend_held(held, &bytes), &mut buffer);
-    let mut out = Vec::new(run.alloc);
+    let mut out = take_buffer(run.alloc, &mut run.spare);
     let number = run
         .matchers
         .replace(count, expression, replacement, text, &mut out)?;
-    put_text(target, number, &out, world, run)
+    let count = put_text(target, number, &out, world, run)?;
+    give_back(&mut run.spare, bytes);
+    give_back(&mut run.spare, out);
+    Ok(count)
 }

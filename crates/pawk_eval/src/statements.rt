@@ -21,7 +21,7 @@ ghost use Rattle.pawk_meaning.specs.Meaning.{
   texts_of,
 };
 ghost use Rattle.pawk_meaning.specs.Meaning as spec;
-ghost use Rattle.pawk_meaning.specs.Places.{add_at, array_at, element_of};
+ghost use Rattle.pawk_meaning.specs.Places.{add_at, array_at, element_of, write_at};
 ghost use Rattle.pawk_places.specs.Moments.{moment};
 ghost use Rattle.pawk_places.specs.Yields.{Yields};
 ghost use Rattle.pawk_eval.specs.Contexts.{enter_of, eres_of};
@@ -43,9 +43,10 @@ use pawk_code::name::Array;
 use pawk_code::statement::{Leave, Simple, Statement};
 use pawk_code::word::Sign;
 use pawk_places::{
-    Run, add_to_field_key, add_to_number, add_to_place, are_plain, clear_array, element_target,
-    give_back, give_back_target, leaf_number, print_alone, print_bytes, print_line, print_plain,
-    remove_element, table_of, take_buffer, tick, write_place,
+    Run, Table, add_to_field_key, add_to_key, add_to_number, add_to_place, are_plain,
+    assign_in_place, clear_array, element_target,
+    give_back, give_back_target, leaf_number, plain_number, print_alone, print_bytes, print_line,
+    print_plain, remove_element, set_at_number, table_of, take_buffer, tick, write_place,
 };
 use pawk_value::{Value, lend_held};
 use pawk_world::{Halt, World};
@@ -216,10 +217,10 @@ pub(crate) fn add_element<W: World>(
         }
     }
     let key = key(context, depth, keys, world, run)?;
-    let target = element_target(table_of(&run.frame, array), key);
+    let table = table_of(&run.frame, array);
     let amount = number(context, depth, e, world, run)?;
-    add_to_place(sign, &target, amount, world, run)?;
-    give_back_target(&mut run.spare, target);
+    add_to_key(sign, table, &key, amount, world, run)?;
+    give_back(&mut run.spare, key);
     Ok(())
 }
 
@@ -277,9 +278,8 @@ pub(crate) fn tally_element<W: World>(
         return add_to_number(sign, table_of(&run.frame, array), key, Ok(1), world, run);
     }
     let key = key(context, depth, keys, world, run)?;
-    let target = element_target(table_of(&run.frame, array), key);
-    add_to_place(sign, &target, Ok(1), world, run)?;
-    give_back_target(&mut run.spare, target);
+    add_to_key(sign, table_of(&run.frame, array), &key, Ok(1), world, run)?;
+    give_back(&mut run.spare, key);
     Ok(())
 }
 
@@ -300,7 +300,56 @@ pub(crate) fn set<W: World>(
         (actions.set (place_view to.now) (view e.now))
         (moment (W.state world.old) run.old)) result (moment (W.state world.new) run.new) }
 {
+    if assign_in_place(to, e, world, run)? {
+        return Ok(());
+    }
+    if let Place::Element(array, keys) = to {
+        return set_element(context, depth, *array, keys, e, world, run);
+    }
     let target = place(context, depth, to, world, run)?;
+    let mut bytes = take_buffer(run.alloc, &mut run.spare);
+    let held = eval(context, depth, e, &mut bytes, world, run)?;
+    write_place(&target, lend_held(held, &bytes), world, run)?;
+    give_back(&mut run.spare, bytes);
+    give_back_target(&mut run.spare, target);
+    Ok(())
+}
+
+/// Assigns the value of an expression to an element of an array. A key that is a number is not copied where
+/// the value is one too.
+#[cycle(evaluate)]
+#[inline(never)]
+pub(crate) fn set_element<W: World>(
+    context: Context<'_>,
+    depth: u64,
+    array: Array,
+    keys: &[Expr],
+    e: &Expr,
+    world: &mut W,
+    run: &mut Run<'_>,
+) -> Result<(), Halt>
+    ensures left { run.new.left ≤ run.old.left }
+    ensures outcome { Yields (λ _. tt)
+        (bind (subscripts W.calls (eres_of context.entry) (enter_of W.calls context.entry depth)
+        (exprs (views keys.now)))
+        (λ key m. bind (spec.eval W.calls (eres_of context.entry)
+        (enter_of W.calls context.entry depth) (view e.now))
+        (write_at W.calls (element_of (array_at m.frame array) key)) m)
+        (moment (W.state world.old) run.old)) result (moment (W.state world.new) run.new) }
+{
+    if let [Expr::Leaf(key)] = keys {
+        if let Expr::Leaf(value) = e {
+            if let Table::Global(slot) = table_of(&run.frame, array) {
+                if let Some(key) = plain_number(key, world, run) {
+                    if let Some(value) = plain_number(value, world, run) {
+                        return set_at_number(slot, key, value, world, run);
+                    }
+                }
+            }
+        }
+    }
+    let key = key(context, depth, keys, world, run)?;
+    let target = element_target(table_of(&run.frame, array), key);
     let mut bytes = take_buffer(run.alloc, &mut run.spare);
     let held = eval(context, depth, e, &mut bytes, world, run)?;
     write_place(&target, lend_held(held, &bytes), world, run)?;

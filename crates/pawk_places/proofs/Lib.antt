@@ -1,3 +1,4 @@
 pub mod Joining
 pub mod Putting
 pub mod Pushing
+pub mod Appending

@@ -3,3 +3,4 @@ pub mod Moments
 pub mod Ready
 pub mod Joined
 pub mod Plain
+pub mod Appending

@@ -1,6 +1,7 @@
 //! Where the places of a running program are, and how they are read and changed.
 #![tactic(auto)]
 
+mod append;
 mod arrays;
 mod leaves;
 mod locals;
@@ -13,6 +14,7 @@ mod scalars;
 mod target;
 mod writing;
 
+pub use append::assign_in_place;
 pub use arrays::{
     Separator, array_keys, clear_array, element_exists, field_exists, number_exists,
     remove_element, split_into,

@@ -113,7 +113,7 @@ fn push_numeric<W: World>(
 /// Appends the text of an expression, where it is a leaf or a number that is found without an effect.
 /// Says whether it is.
 #[inline(always)]
-fn push_plain<W: World>(
+pub(crate) fn push_plain<W: World>(
     e: &Expr,
     out: &mut Vec<u8>,
     world: &W,

@@ -57,7 +57,7 @@ pub fn take_buffer(alloc: Global, spare: &mut Vec<Vec<u8>>) -> Vec<u8>
 /// Gives a buffer back.
 #[inline(always)]
 pub fn give_back(spare: &mut Vec<Vec<u8>>, buffer: Vec<u8>) {
-    if spare.len() < 64 {
+    if spare.len() < 64 && buffer.capacity() > 0 {
         let _ = spare.push(buffer);
     }
 }

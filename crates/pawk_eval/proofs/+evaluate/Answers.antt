@@ -79,21 +79,27 @@ statements::tally-returns-in-Element-clause-outcome g t c =
     let is = element_shape c.args.to.now c.in-Element.array c.in-Element.keys c.deref.result.now c.in-Element.is c.deref.ensures.value in
     rw is (grind (arith, common_steps))
 
-pub conditions::test-key-requires : goal.conditions::test-key-requires
-conditions::test-key-requires g t c =
-    let is = member_shape c.args.t.now c.in-In.array c.in-In.keys c.deref-in-In.result.now c.in-In.is c.deref-in-In.ensures.value in
-    let falls : row_weight (exprs (views c.deref-in-In.result.now)) + 1 < test_weight (test_view c.args.t.now) = rw is (omega arith) in
+pub statements::set-set_element-requires : goal.statements::set-set_element-requires
+statements::set-set_element-requires g t c =
+    let is = element_shape c.args.to.now c.in-Element.array c.in-Element.keys c.deref.result.now c.in-Element.is c.deref.ensures.value in
+    let falls : row_weight (exprs (views c.deref.result.now)) + weight (view c.args.e.now) + 2 < place_weight (place_view c.args.to.now) + weight (view c.args.e.now) + 1 = rw is (omega arith) in
     search rules
 
-pub conditions::test-returns-in_err-key-in-In-clause-outcome : goal.conditions::test-returns-in_err-key-in-In-clause-outcome
-conditions::test-returns-in_err-key-in-In-clause-outcome g t c =
-    let is = member_shape c.args.t.now c.in-In.array c.in-In.keys c.deref-in-In.result.now c.in-In.is c.deref-in-In.ensures.value in
+pub statements::set-returns-in-Element-clause-outcome : goal.statements::set-returns-in-Element-clause-outcome
+statements::set-returns-in-Element-clause-outcome g t c =
+    let is = element_shape c.args.to.now c.in-Element.array c.in-Element.keys c.deref.result.now c.in-Element.is c.deref.ensures.value in
     rw is (grind (arith, common_steps))
 
-pub conditions::test-returns-in_ok-key-in-In-clause-outcome : goal.conditions::test-returns-in_ok-key-in-In-clause-outcome
-conditions::test-returns-in_ok-key-in-In-clause-outcome g t c =
-    let is = member_shape c.args.t.now c.in-In.array c.in-In.keys c.deref-in-In.result.now c.in-In.is c.deref-in-In.ensures.value in
-    rw (is, c.in_ok-key-in-In.ensures.outcome) (grind (arith, common_steps))
+pub conditions::test-member-requires : goal.conditions::test-member-requires
+conditions::test-member-requires g t c =
+    let is = member_shape c.args.t.now c.in-In.array c.in-In.keys c.deref.result.now c.in-In.is c.deref.ensures.value in
+    let falls : row_weight (exprs (views c.deref.result.now)) + 2 < test_weight (test_view c.args.t.now) = rw is (omega arith) in
+    search rules
+
+pub conditions::test-returns-in-In-clause-outcome : goal.conditions::test-returns-in-In-clause-outcome
+conditions::test-returns-in-In-clause-outcome g t c =
+    let is = member_shape c.args.t.now c.in-In.array c.in-In.keys c.deref.result.now c.in-In.is c.deref.ensures.value in
+    rw is (grind (arith, common_steps))
 
 pub strings::textual-join-requires : goal.strings::textual-join-requires
 strings::textual-join-requires g t c =

@@ -52,6 +52,9 @@ decreases-numbers::place_of g l = rank (functions_of l.context) l.depth (weight 
 abbrev pub decreases-conditions::test : goal.decreases-conditions::test
 decreases-conditions::test g l = rank (functions_of l.context) l.depth (test_weight (test_view l.t.now))
 
+abbrev pub decreases-conditions::member : goal.decreases-conditions::member
+decreases-conditions::member g l = rank (functions_of l.context) l.depth (row_weight (exprs (views l.keys.now)) + 2)
+
 abbrev pub decreases-conditions::compare : goal.decreases-conditions::compare
 decreases-conditions::compare g l = rank (functions_of l.context) l.depth (weight (view l.a.now) + weight (view l.b.now) + 1)
 
@@ -126,6 +129,9 @@ decreases-statements::tally g l = rank (functions_of l.context) l.depth (place_w
 
 abbrev pub decreases-statements::tally_element : goal.decreases-statements::tally_element
 decreases-statements::tally_element g l = rank (functions_of l.context) l.depth (row_weight (exprs (views l.keys.now)) + 2)
+
+abbrev pub decreases-statements::set_element : goal.decreases-statements::set_element
+decreases-statements::set_element g l = rank (functions_of l.context) l.depth (row_weight (exprs (views l.keys.now)) + weight (view l.e.now) + 2)
 
 abbrev pub decreases-statements::set : goal.decreases-statements::set
 decreases-statements::set g l = rank (functions_of l.context) l.depth (place_weight (place_view l.to.now) + weight (view l.e.now) + 1)
