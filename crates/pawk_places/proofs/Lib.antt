@@ -2,3 +2,4 @@ pub mod Joining
 pub mod Putting
 pub mod Pushing
 pub mod Appending
+pub mod Filling

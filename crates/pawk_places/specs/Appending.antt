@@ -8,11 +8,6 @@ use Rattle.pawk_code.specs.Expressions.{Expr, Place}
 use Rattle.pawk_code.specs.Statements.{set}
 use Rattle.pawk_meaning.specs.Parts.{Hold, Moment, Part, gives, halts}
 use Rattle.pawk_meaning.specs.Meaning.{act}
-use Rattle.std.specs.Prelude.{◌++◌}
-use Rattle.pawk_value.specs.Value.{Text}
-use Rattle.pawk_value.specs.Conversion.{text_of}
-use Rattle.pawk_world.specs.Worlds.{Answer, write}
-use Rattle.pawk_world.specs.Worlds as world
 
 -- whatever the expressions between slashes and the functions are: where the answer is that it was assigned, the moment is
 -- the one after the assignment, else no moment changed; a halt is that of the assignment, and where memory was refused
@@ -24,7 +19,3 @@ IsAssigned {S} calls to e old (Ok false) new = new ≡ old
 IsAssigned {S} calls to e old (Err halt) new =
     (h : Halt) → halt_of halt ≡ Some h →
     (eres : List (List ℕ)) (enter : ℕ → List Hold → Part S Val) → act calls eres enter (set to e) old ≡ halts h new.world new.state new.output
-
--- stand-in
-abbrev pub append_to : {S : Type 0} → Calls S → ℕ → List ℕ → S → Answer S (Unit {0})
-append_to calls slot more s = calls.ask (write (world.scalar slot) (Text (text_of (calls.look slot s) ++ more))) s

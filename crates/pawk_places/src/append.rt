@@ -11,16 +11,14 @@ ghost use Rattle.pawk_code.specs.ExpressionViews.{place_view, textual_view, view
 ghost use Rattle.pawk_meaning.specs.Meaning.{suffixed};
 ghost use Rattle.pawk_meaning.specs.Parts.{Hold, Part, gives};
 ghost use Rattle.pawk_places.specs.Moments.{moment};
-ghost use Rattle.pawk_world.specs.Answers.{Answers};
-ghost use Rattle.pawk_places.specs.Appending.{IsAssigned, append_to};
+ghost use Rattle.pawk_places.specs.Appending.{IsAssigned};
 
 use crate::plain::push_plain;
 use crate::run::{Run, give_back, take_buffer};
 use itoa::Buffer;
 use pawk_code::expression::{Expr, Place, Textual};
 use pawk_code::leaf::Leaf;
-use pawk_value::{LENGTH_LIMIT, ValueRef, push_text_lent, text_in};
-use std::alloc::Global;
+use pawk_value::{LENGTH_LIMIT, text_in};
 use pawk_world::{Halt, World};
 
 /// The operands of a concatenation, if it is one.
@@ -90,22 +88,6 @@ fn push_behind<W: World>(
     Ok(true)
 }
 
-/// Stand-in.
-fn append_scalar<W: World>(
-    alloc: Global,
-    slot: usize,
-    more: &[u8],
-    world: &mut W,
-) -> Result<(), Halt>
-    ensures { Answers (λ _. tt) (append_to W.calls slot more.now (W.state world.old)) result
-        (W.state world.new) }
-{
-    let mut text = Vec::new(alloc);
-    push_text_lent(world.scalar(slot), &mut text)?;
-    text.extend_from_slice(more)?;
-    world.set_scalar(slot, ValueRef::Text(&text))
-}
-
 /// Assigns to a global the concatenation of its own text and others, which are put behind it.
 #[inline(never)]
 fn append<W: World>(
@@ -124,7 +106,7 @@ fn append<W: World>(
     let mut more = take_buffer(run.alloc, &mut run.spare);
     let all = push_behind(front, rest, &mut more, world, run)?;
     if all {
-        append_scalar(run.alloc, slot, &more, world)?;
+        world.append_scalar(slot, &more)?;
     }
     give_back(&mut run.spare, more);
     Ok(all)

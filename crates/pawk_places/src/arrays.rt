@@ -2,7 +2,7 @@
 
 ghost use Rattle.std.specs.Prelude.{◌≡◌, ◌≤◌, [], IfOk};
 ghost use Rattle.pawk_value.specs.Conversion.{text_of};
-ghost use Rattle.pawk_value.specs.Value.{Num, lent_value};
+ghost use Rattle.pawk_value.specs.Value.{Num};
 ghost use Rattle.pawk_array.specs.Texts.{AreWithin};
 ghost use Rattle.pawk_code.specs.Expressions.{field};
 ghost use Rattle.pawk_code.specs.ExpressionViews.{fields_view};
@@ -10,8 +10,7 @@ ghost use Rattle.pawk_builtins.specs.ExpressionViews.{texts_of};
 ghost use Rattle.pawk_builtins.specs.Pieces.{pieces_in};
 ghost use Rattle.pawk_meaning.specs.Parts.{as_text, bind, settle};
 ghost use Rattle.pawk_meaning.specs.Meaning.{fill_from, pieces_of, split_into, value_of_leaf};
-ghost use Rattle.pawk_meaning.specs.Places.{clear_of, element_of, holds_in, keys_of};
-ghost use Rattle.pawk_meaning.specs.Places.{remove_in, write_at};
+ghost use Rattle.pawk_meaning.specs.Places.{clear_of, holds_in, keys_of, remove_in};
 ghost use Rattle.pawk_places.specs.Moments.{moment, table_view};
 ghost use Rattle.pawk_places.specs.Yields.{Yields};
 
@@ -22,7 +21,7 @@ use crate::target::Table;
 use itoa::Buffer;
 use pawk_array::Texts;
 use pawk_code::expression::FieldsBy;
-use pawk_value::{ValueRef, text_in};
+use pawk_value::text_in;
 use pawk_world::{Halt, World};
 use std::ops::Range;
 
@@ -120,10 +119,7 @@ pub fn remove_element<W: World>(
     match table {
         Table::None => Ok(()),
         Table::Global(slot) => world.remove(slot, key),
-        Table::Local(number) => {
-            locals::remove_element(&mut run.arrays, number, key);
-            Ok(())
-        }
+        Table::Local(number) => Ok(locals::remove_element(&mut run.arrays, number, key)?),
     }
 }
 
@@ -158,26 +154,6 @@ pub fn array_keys<W: World>(table: Table, world: &mut W, run: &mut Run<'_>) -> R
     }
 }
 
-/// Gives an element of an array a value.
-fn set_element<W: World>(
-    table: Table,
-    key: &[u8],
-    value: ValueRef<'_>,
-    world: &mut W,
-    run: &mut Run<'_>,
-) -> Result<(), Halt>
-    ensures left { run.new.left ≤ run.old.left }
-    ensures outcome { Yields (λ _. tt)
-        (write_at W.calls (element_of (table_view table) key.now) (lent_value value.entry)
-        (moment (W.state world.old) run.old)) result (moment (W.state world.new) run.new) }
-{
-    match table {
-        Table::None => Ok(()),
-        Table::Global(slot) => world.set_element(slot, key, value),
-        Table::Local(number) => { Ok(locals::set_element(&mut run.arrays, number, key, value)?) }
-    }
-}
-
 /// Where the pieces of a text lie, by FS as it is now where that separates.
 fn find_pieces<W: World>(
     separator: Separator<'_>,
@@ -209,23 +185,21 @@ fn find_pieces<W: World>(
 fn fill_array<W: World>(
     table: Table,
     text: &[u8],
-    pieces: &[Range<usize>],
+    pieces: Vec<Range<usize>>,
     world: &mut W,
     run: &mut Run<'_>,
 ) -> Result<(), Halt>
-    requires { AreWithin text.now pieces.now }
+    requires { AreWithin text.now pieces.items }
     ensures left { run.new.left ≤ run.old.left }
     ensures outcome { Yields (λ _. tt)
-        (fill_from W.calls (table_view table) 1 (pieces_in text.now pieces.now)
+        (fill_from W.calls (table_view table) 1 (pieces_in text.now pieces.items)
         (moment (W.state world.old) run.old)) result (moment (W.state world.new) run.new) }
 {
-    for (index, piece) in pieces.iter().enumerate() {
-        let mut number = Buffer::new();
-        let key = number.format(index + 1).as_bytes();
-        let value = ValueRef::Maybe(&text[piece.start..piece.end]);
-        set_element(table, key, value, world, run)?;
+    match table {
+        Table::None => Ok(()),
+        Table::Global(slot) => world.fill(slot, text, pieces),
+        Table::Local(number) => { Ok(locals::fill_array(&mut run.arrays, number, text, pieces)?) }
     }
-    Ok(())
 }
 
 /// Empties an array, splits a text, and puts the pieces at the keys 1, 2 and so on. Gives how many
@@ -251,6 +225,7 @@ pub fn split_into<W: World>(
 {
     clear_array(table, world, run)?;
     let pieces = find_pieces(separator, text, world, run)?;
-    fill_array(table, text, pieces.as_slice(), world, run)?;
-    Ok(pieces.len() as i64)
+    let count = pieces.len() as i64;
+    fill_array(table, text, pieces, world, run)?;
+    Ok(count)
 }

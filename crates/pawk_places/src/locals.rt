@@ -4,12 +4,14 @@ ghost use Rattle.std.specs.Prelude.{◌≡◌, ◌++◌, [], IfOk, OnOk, is_some
 ghost use Rattle.pawk_value.specs.Conversion.{num_of};
 ghost use Rattle.pawk_value.specs.Held.{added, held_value};
 ghost use Rattle.pawk_value.specs.Value.{lent_value};
-ghost use Rattle.pawk_array.specs.Entries.{found, keys, put, touched, value_of, without};
+ghost use Rattle.pawk_array.specs.Entries.{found, keys, put, touched, value_of, with_pieces, without};
+ghost use Rattle.pawk_array.specs.Texts.{AreWithin};
 ghost use Rattle.pawk_meaning.specs.Places.{table_at};
 
 use pawk_array::{Array, Texts};
 use pawk_value::{Fault, Held, ValueRef, hold, to_num_lent};
 use std::alloc::{AllocError, Global};
+use std::ops::Range;
 
 /// Lays down the value of an element, which creates it: its bytes are appended to `out`.
 pub(crate) fn read_element(
@@ -75,13 +77,35 @@ pub(crate) fn element_exists(arrays: &[Array], number: usize, key: &[u8]) -> boo
 }
 
 /// Takes an element away, if it is there.
-pub(crate) fn remove_element(arrays: &mut Vec<Array>, number: usize, key: &[u8])
-    ensures { arrays.new.items
-        ≡ slice_set arrays.old.items number (without key.now (table_at arrays.old.items number)) }
+pub(crate) fn remove_element(
+    arrays: &mut Vec<Array>,
+    number: usize,
+    key: &[u8],
+) -> Result<(), AllocError>
+    ensures { OnOk result (arrays.new.items ≡ slice_set arrays.old.items number
+        (without key.now (table_at arrays.old.items number))) }
 {
     if number < arrays.len() {
-        arrays[number].remove(key);
+        arrays[number].remove(key)?;
     }
+    Ok(())
+}
+
+/// Gives the elements 1, 2 and so on the pieces of a text, as candidates.
+pub(crate) fn fill_array(
+    arrays: &mut Vec<Array>,
+    number: usize,
+    text: &[u8],
+    pieces: Vec<Range<usize>>,
+) -> Result<(), AllocError>
+    requires { AreWithin text.now pieces.items }
+    ensures { OnOk result (arrays.new.items ≡ slice_set arrays.old.items number
+        (with_pieces 0 text.now pieces.items (table_at arrays.old.items number))) }
+{
+    if number < arrays.len() {
+        arrays[number].fill(text, pieces)?;
+    }
+    Ok(())
 }
 
 /// Takes all elements away.
