@@ -62,9 +62,7 @@ pub(crate) fn parameter<W: World>(
         (moment (W.state world.old) run.old)) result (moment (W.state world.new) run.new) }
 {
     match argument {
-        Argument::Value(Expr::Leaf(leaf)) => {
-            Ok(Parameter::Value(leaf_copy(leaf, world, run)?))
-        }
+        Argument::Value(Expr::Leaf(leaf)) => { Ok(Parameter::Value(leaf_copy(leaf, world, run)?)) }
         Argument::Value(e) => Ok(Parameter::Value(value(context, depth, e, world, run)?)),
         Argument::Array(array) => Ok(array_parameter(table_of(&run.frame, *array))),
     }

@@ -44,9 +44,9 @@ use pawk_code::statement::{Leave, Simple, Statement};
 use pawk_code::word::Sign;
 use pawk_places::{
     Run, Table, add_to_field_key, add_to_key, add_to_number, add_to_place, are_plain,
-    assign_in_place, clear_array, element_target,
-    give_back, give_back_target, leaf_number, plain_number, print_alone, print_bytes, print_line,
-    print_plain, remove_element, set_at_number, table_of, take_buffer, tick, write_place,
+    assign_in_place, clear_array, element_target, give_back, give_back_target, leaf_number,
+    plain_number, print_alone, print_bytes, print_line, print_plain, remove_element, set_at_number,
+    table_of, take_buffer, tick, write_place,
 };
 use pawk_value::{Value, lend_held};
 use pawk_world::{Halt, World};
