@@ -191,8 +191,8 @@ pub fn substitute<W: World>(
     let number = run
         .matchers
         .replace(count, expression, replacement, text, &mut out)?;
-    let count = put_text(target, number, &out, world, run)?;
+    let outcome = put_text(target, number, &out, world, run);
     give_back(&mut run.spare, bytes);
     give_back(&mut run.spare, out);
-    Ok(count)
+    outcome
 }

@@ -1,5 +1,5 @@
 -- Arrays that get the pieces of a text.
-use Rattle.std.proofs.Common.{◌≡◌, ℕ, zero, suc, ◌+◌, List, [], ◌∷◌, ap, sym, refl, ◌∙◌, add-one}
+use Rattle.std.proofs.Common.{◌≡◌, ℕ, zero, suc, ◌+◌, List, [], ◌∷◌, Result, Ok, Err, ap, sym, refl, ◌∙◌, add-one, subst}
 use Rattle.std.specs.Prelude.{slice_set}
 use Rattle.std.specs.Fmt.{decimal}
 use Rattle.std.specs.declared.ops.Range.{Range}
@@ -8,12 +8,15 @@ use Rattle.pawk_array.specs.Entries.{Entries, put, with_pieces}
 use Rattle.pawk_array.specs.Pieces.{with_texts}
 use Rattle.pawk_array.specs.Texts.{texts_in}
 use Rattle.pawk_array.proofs.PiecesLemmas.{with_texts_in}
+use Rattle.pawk_world.specs.declared.halt.Halt.{Halt as Code}
+use Rattle.pawk_world.specs.Answers.{Answers}
 use Rattle.pawk_world.specs.Worlds.{Answer, Calls, write, element}
 use Rattle.pawk_world.specs.Worlds as world
 use Rattle.pawk_world.specs.Writings.{after, fill_behind}
 use Rattle.pawk_meaning.specs.Parts.{value, global_array, local_array, Moment, Part, gives, then_do, ask}
 use Rattle.pawk_meaning.specs.Places.{table_at}
 use Rattle.pawk_meaning.specs.Meaning.{fill_from}
+use Rattle.pawk_places.specs.Yields.{Yields}
 
 -- what is asked does not look at the world that the moment had
 ask_anew : {S X : Type 0} (a : Answer S X) (s : S) (m : Moment S) → ask a (record m { world = s }) ≡ ask a m
@@ -23,6 +26,11 @@ ask_anew (world.halts h t) s m = refl
 ask_after : {S X : Type 0} (a : Answer S (Unit {0})) (next : S → Answer S X) (go : Part S X) (m : Moment S) → ((s : S) → go (record m { world = s }) ≡ ask (next s) (record m { world = s })) → then_do (ask a m) (λ _. go) ≡ ask (after a (λ _. next)) m
 ask_after (world.gives x s) next go m is = is s ∙ ask_anew (next s) s m
 ask_after (world.halts h s) next go m is = refl
+
+-- what a world answers is what the part yields that asks for it
+answers_yield : {S : Type 0} (a : Answer S (Unit {0})) (r : Result (Unit {0}) Code) (s : S) (m : Moment S) → Answers (λ _. tt) a r s → Yields (λ _. tt) (ask a m) r (record m { world = s })
+answers_yield a (Ok t) s m is = ap (λ b. ask b m) is
+answers_yield a (Err e) s m is = λ h there. ap (λ b. ask b m) (is h there)
 
 set_same : (xs : List Entries) (i : ℕ) → slice_set xs i (table_at xs i) ≡ xs
 set_same [] i = refl
@@ -40,12 +48,16 @@ module _ {S : Type 0} (calls : Calls S) where
   fill_nothing v n [] m = refl
   fill_nothing v n (p ∷ ps) m = fill_nothing v (suc n) ps m
 
-  pub fill_global : (slot n : ℕ) (ps : List (List ℕ)) (m : Moment S) → fill_from calls (global_array slot) (suc n) ps m ≡ ask (fill_behind calls slot n ps m.world) m
+  fill_global : (slot n : ℕ) (ps : List (List ℕ)) (m : Moment S) → fill_from calls (global_array slot) (suc n) ps m ≡ ask (fill_behind calls slot n ps m.world) m
   fill_global slot n [] m = refl
   fill_global slot n (p ∷ ps) m =
       rw add-one
       (ask_after (calls.ask (write (element slot (decimal (suc n))) (Maybe p)) m.world) (fill_behind calls slot (suc n) ps) (fill_from calls (global_array slot) (suc (suc n)) ps) m
       (λ s. fill_global slot (suc n) ps (record m { world = s })))
+
+  pub fill_yields : (slot : ℕ) (ps : List (List ℕ)) (r : Result (Unit {0}) Code) (s : S) (m : Moment S) → Answers (λ _. tt) (fill_behind calls slot 0 ps m.world) r s → Yields (λ _. tt) (fill_from calls (global_array slot) 1 ps m) r (record m { world = s })
+  fill_yields slot ps r s m is =
+      subst (λ o. Yields (λ _. tt) o r (record m { world = s })) (sym (fill_global slot 0 ps m)) (answers_yield (fill_behind calls slot 0 ps m.world) r s m is)
 
   fill_texts : (i n : ℕ) (ps : List (List ℕ)) (m : Moment S) → fill_from calls (local_array i) (suc n) ps m ≡ gives tt (record m { arrays = slice_set m.arrays i (with_texts n ps (table_at m.arrays i)) })
   fill_texts i n [] m = ap (λ xs. gives tt (record m { arrays = xs })) (sym (set_same m.arrays i))

@@ -90,15 +90,20 @@ statements::set-returns-in-Element-clause-outcome g t c =
     let is = element_shape c.args.to.now c.in-Element.array c.in-Element.keys c.deref.result.now c.in-Element.is c.deref.ensures.value in
     rw is (grind (arith, common_steps))
 
+pub statements::set-returns-in_err-assign_in_place-clause-outcome : goal.statements::set-returns-in_err-assign_in_place-clause-outcome
+statements::set-returns-in_err-assign_in_place-clause-outcome g t c =
+    let stops = λ (h : Halt) (is : halt_of c.in_err-assign_in_place.field-0.0 ≡ Some h). c.in_err-assign_in_place.ensures.outcome h is (eres_of c.args.context) (enter_of g.W.World.calls c.args.context c.args.depth) in
+    search rules
+
 pub conditions::test-member-requires : goal.conditions::test-member-requires
 conditions::test-member-requires g t c =
-    let is = member_shape c.args.t.now c.in-In.array c.in-In.keys c.deref.result.now c.in-In.is c.deref.ensures.value in
-    let falls : row_weight (exprs (views c.deref.result.now)) + 2 < test_weight (test_view c.args.t.now) = rw is (omega arith) in
+    let is = member_shape c.args.t.now c.in-In.array c.in-In.keys c.deref-in-In.result.now c.in-In.is c.deref-in-In.ensures.value in
+    let falls : row_weight (exprs (views c.deref-in-In.result.now)) + 2 < test_weight (test_view c.args.t.now) = rw is (omega arith) in
     search rules
 
 pub conditions::test-returns-in-In-clause-outcome : goal.conditions::test-returns-in-In-clause-outcome
 conditions::test-returns-in-In-clause-outcome g t c =
-    let is = member_shape c.args.t.now c.in-In.array c.in-In.keys c.deref.result.now c.in-In.is c.deref.ensures.value in
+    let is = member_shape c.args.t.now c.in-In.array c.in-In.keys c.deref-in-In.result.now c.in-In.is c.deref-in-In.ensures.value in
     rw is (grind (arith, common_steps))
 
 pub strings::textual-join-requires : goal.strings::textual-join-requires
