@@ -107,11 +107,11 @@ impl Calls {
         push_value(value, &mut self.answers)
     }
 
-    /// Fills the array.
+    /// Gives the array the pieces of a text.
     fn fill(&mut self, alloc: Global, text: &[u8]) -> Result<(), AllocError> {
         let ranges = pieces(alloc, text)?;
         if are_within(text, ranges.as_slice()) {
-            self.array.fill(text, ranges.as_slice())?;
+            self.array.fill(text, ranges)?;
         }
         Ok(())
     }
@@ -160,10 +160,7 @@ impl Calls {
                 let is_there = self.array.contains(key.as_slice());
                 self.count(u64::from(is_there))
             }
-            b'r' => {
-                self.array.remove(key.as_slice());
-                Ok(())
-            }
+            b'r' => self.array.remove(key.as_slice()),
             b'c' => {
                 self.array.clear();
                 Ok(())

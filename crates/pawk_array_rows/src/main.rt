@@ -13,7 +13,7 @@
 //! | `i`key | | whether it is there: 1 or 0 |
 //! | `r`key | removes an element | |
 //! | `c` | removes all | |
-//! | `f`text | fills the array with the pieces between commas | |
+//! | `f`text | gives the keys `1`, `2`, .. the pieces between commas | |
 //! | `y` | goes on with a copy | |
 //! | `n` | | how many elements there are |
 //! | `w` | | the keys in their order, parted by `|` |
