@@ -46,7 +46,7 @@ abbrev mutual
   test_weight (either a b) = weight a + weight b + 2
   test_weight (negation a) = weight a + 2
   test_weight (matches holds e p) = weight e + pattern_weight p + 4
-  test_weight (member a ks) = row_weight ks + 2
+  test_weight (member a ks) = row_weight ks + 3
 
   pub textual_weight : Textual → ℕ
   textual_weight (join es) = row_weight es + 1

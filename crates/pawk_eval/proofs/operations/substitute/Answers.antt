@@ -22,6 +22,6 @@ returns-clause-outcome g c =
     let meant = replaced_by c.args.count (expression_of c.args.expression) c.args.replacement.now in
     let put = put_replaced g.W.World.calls (aim_view c.args.target.now) in
     let left : Left c.deref-2.result.now c.in_ok-number.number (meant c.text_in-text.result.now) = rw c.deref-2.ensures.value c.in_ok-number.ensures.text in
-    let done = put_for (meant c.text_in-text.result.now) c.deref-2.result.now c.in_ok-number.number put (moment (g.W.World.state c.read_place.new.world) c.read_place.new.run) (moment (g.W.World.state c.put_text.new.world) c.put_text.new.run) c.put_text.result left c.put_text.ensures.outcome in
+    let done = put_for (meant c.text_in-text.result.now) c.deref-2.result.now c.in_ok-number.number put (moment (g.W.World.state c.read_place.new.world) c.read_place.new.run) (moment (g.W.World.state c.put_text-outcome.new.world) c.put_text-outcome.new.run) c.put_text-outcome.result left c.put_text-outcome.ensures.outcome in
     let same : text_of (held_value c.in_ok-held.held (added c.take_buffer-bytes.result.items c.read_place.new.out.items)) ≡ c.text_in-text.result.now = rw (c.text_in-text.ensures, c.lend_held.ensures, c.deref.ensures.value, c.take_buffer-bytes.ensures) refl in
     rw (c.in_ok-held.ensures.outcome, same) done
