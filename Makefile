@@ -4,7 +4,7 @@
 #   make demo       build it and run it on three lines: the last line is 6
 #   make test       the whole gate, and then what stands beside it (tests/run)
 #   make bench      compare its user time with that of mawk and gawk, its elapsed time by workers, the times of
-#                   expressions and of fields, and 24 programs beside mawk, gawk and original-awk
+#                   expressions, of fields and of keys, and 24 programs beside mawk, gawk and original-awk
 #   make install    put it at $(PREFIX)/bin/pawk (PREFIX is /usr/local)
 #   make clean      remove what was built, and what the proofs keep
 
@@ -49,6 +49,9 @@ bench: build
 	@test -e $(BENCH_DATA)/paragraphs.txt || bench/words $(BENCH_DATA)
 	cd crates/pawk_split_bench && rt run </dev/null
 	bench/fields $(BENCH_DATA)
+	cd crates/pawk_record_bench && rt run </dev/null
+	cd crates/pawk_array_bench && rt run </dev/null
+	bench/keys $(BENCH_DATA)
 	bench/suite $(BENCH_DATA)/suite
 
 install: build
