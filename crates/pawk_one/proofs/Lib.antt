@@ -1,2 +1,3 @@
+pub mod FinishLemmas
 pub mod LeftLemmas
 pub mod RunLemmas

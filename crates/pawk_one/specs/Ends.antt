@@ -1,6 +1,9 @@
 -- What a part of a run leaves, as the code has it.
-use Rattle.std.specs.Prelude.{◌≡◌, ℕ, Bool, true, false, Option, Some, None, Result, Ok, Err, Vec}
-use Rattle.std.specs.declared.alloc.Global.{Global}
+use Rattle.std.specs.Prelude.{◌≡◌, ℕ, Bool, true, false, Option, Some, None, Result, Ok, Err}
+use Rattle.pawk_code.specs.declared.leaf.Special.{Special}
+use Rattle.pawk_store.specs.declared.specials.Specials.{Specials}
+use Rattle.pawk_store.specs.ListingViews.{special_of}
+use Rattle.pawk_store.specs.RecordStates.{RecordState, special_value}
 use Rattle.pawk_store.specs.StateViews.{state_of}
 use Rattle.pawk_places.specs.declared.run.Run.{Run}
 use Rattle.pawk_world.specs.declared.halt.Halt.{Halt as Code}
@@ -12,6 +15,7 @@ use Rattle.pawk_one.specs.declared.ending.Place.{Place as CodePlace}
 use Rattle.pawk_one.specs.declared.ending.Place.TheVariants as place
 use Rattle.pawk_one.specs.declared.ending.Ending.{Ending as CodeEnding}
 use Rattle.pawk_one.specs.declared.ending.Ending.TheVariants as ending
+use Rattle.pawk_one.specs.declared.finish.Finish.{Finish as CodeFinish}
 use Rattle.pawk_one.specs.declared.outcome.Outcome.{Outcome as CodeOutcome}
 use Rattle.pawk_store.specs.Globals.{Globals}
 use Rattle.pawk_one.specs.declared.left.Left.{Left}
@@ -77,13 +81,20 @@ file_left (exit n) file = None
 file_left (fault f) file = None
 file_left clash file = None
 
--- the world, the output and the ending are those with which a run finished
-abbrev pub Finishes : {S : Type 0} → Finish S → S → Vec ℕ Global × CodeEnding → Type 0
-Finishes meant world shown =
-    (meant.world ≡ world) × (meant.output ≡ shown.0.items) × (meant.ending ≡ ending_view shown.1)
+-- the variables that a run sets have these values in a record state
+abbrev pub AreSpecials : Specials → RecordState → Type 0
+AreSpecials specials state = (v : Special) → special_of specials v ≡ special_value v state
 
--- the output, the globals and the ending are those with which a run finished
+-- the world, the output, the variables that the run sets and the ending are those with which a run finished
+pub record Finishes {S : Type 0} (meant : Finish S) (now : S) (shown : CodeFinish) : Type 0 where
+  pub world : meant.world ≡ now
+  pub output : meant.output ≡ shown.output.items
+  pub specials : AreSpecials shown.specials meant.state
+  pub ending : meant.ending ≡ ending_view shown.ending
+
+-- the output, the globals, the variables that the run sets and the ending are those with which a run finished
 pub record Answers (meant : Finish Globals) (outcome : CodeOutcome) : Type 0 where
   pub output : meant.output ≡ outcome.output
   pub globals : meant.world ≡ outcome.globals
+  pub specials : AreSpecials outcome.specials meant.state
   pub ending : meant.ending ≡ ending_view outcome.ending

@@ -2,6 +2,7 @@
 #![tactic(auto)]
 
 mod ending;
+mod finish;
 mod left;
 mod limits;
 mod outcome;
@@ -11,6 +12,7 @@ mod rules;
 mod whole;
 
 pub use ending::{Ending, Place};
+pub use finish::Finish;
 pub use left::Left;
 pub use outcome::{Outcome, opening_run, run_one};
 pub use output::Output;

@@ -11,20 +11,24 @@ ghost use Rattle.pawk_meaning.specs.Runs as spec;
 ghost use Rattle.pawk_one.specs.Ends.{Answers};
 
 use crate::ending::Ending;
+use crate::finish::Finish;
 use crate::output::Output;
 use crate::whole::{Job, run_program};
 use pawk_builtins::Matchers;
 use pawk_input::Input;
 use pawk_places::Run;
 use pawk_settings::Assignment;
-use pawk_store::{Globals, RecordState};
+use pawk_store::{Globals, RecordState, Specials};
 use std::alloc::{AllocError, Global};
 
 /// What a run leaves.
 #[derive(Drop)]
 pub struct Outcome {
     pub output: Output,
+    /// The globals but for the variables that the run sets.
     pub globals: Globals,
+    /// What the variables that the run sets had at its end.
+    pub specials: Specials,
     pub ending: Ending,
 }
 
@@ -68,10 +72,15 @@ pub fn run_one(
     let arrays = job.code.arrays.len();
     let mut globals = Globals::open(alloc, names, arrays, assignments)?;
     let run = opening_run(alloc, job)?;
-    let (output, ending) = run_program(job, input, &mut globals, run)?;
+    let Finish {
+        output,
+        specials,
+        ending,
+    } = run_program(job, input, &mut globals, run)?;
     Ok(Outcome {
         output: Output::whole(alloc, output)?,
         globals,
+        specials,
         ending,
     })
 }

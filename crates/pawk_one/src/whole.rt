@@ -18,6 +18,7 @@ ghost use Rattle.pawk_one.specs.Ends.{Finishes, end_view, finish_view, left_view
 ghost use Rattle.pawk_one.specs.Ends as ends;
 
 use crate::ending::{Ending, Place};
+use crate::finish::Finish;
 use crate::left::Left;
 use crate::part::{actions, record};
 use itoa::Buffer;
@@ -188,13 +189,13 @@ pub fn take_separator<W: World>(world: &W, run: &mut Run<'_>) -> Result<Vec<u8>,
     Ok(rs)
 }
 
-/// Reads and runs all records, by RS as it is now, and then END; the output and how the run ends.
+/// Reads and runs all records, by RS as it is now, and then END.
 fn run_input<W: World>(
     job: Job<'_>,
     input: &mut Input,
     world: &mut W,
     run: Run<'_>,
-) -> Result<(Vec<u8>, Ending), AllocError>
+) -> Result<Finish, AllocError>
     ensures ends { IfOk result (Finishes (records_by_rs W.calls
         (code_view job.entry.code.now).expressions
         (code_view job.entry.code.now) job.entry.budget
@@ -205,12 +206,12 @@ fn run_input<W: World>(
     let mut run = run;
     let rs = take_separator(world, &mut run)?;
     if rs.len() > 1 {
-        return Ok((run.output, Ending::Fault(Fault::Rs, Place::Record(1))));
+        return Finish::of(&mut run, Ending::Fault(Fault::Rs, Place::Record(1)));
     }
     input.mend(rs.as_slice())?;
     let left = run_records(job, input.records(rs.as_slice()), world, &mut run)?;
     let ending = run_behind_records(job, left, world, &mut run)?;
-    Ok((run.output, ending))
+    Finish::of(&mut run, ending)
 }
 
 /// Runs the actions of BEGIN. The output goes behind what is there.
@@ -231,24 +232,20 @@ pub fn run_begin<W: World>(
     actions(job.context(), bodies, job.budget, world, run)
 }
 
-/// Runs the actions of END, the last of a run; its output and how it ends.
-fn close<W: World>(
-    job: Job<'_>,
-    world: &mut W,
-    run: Run<'_>,
-) -> Result<(Vec<u8>, Ending), AllocError>
+/// Runs the actions of END, the last of a run.
+fn close<W: World>(job: Job<'_>, world: &mut W, run: Run<'_>) -> Result<Finish, AllocError>
     ensures { IfOk result (Finishes (ends_from W.calls (code_view job.entry.code.now).expressions
         (code_view job.entry.code.now) job.entry.budget
         (end_view (W.state world.old) run.entry Through)) (W.state world.new)) }
 {
     let mut run = run;
     let ending = run_end(job, world, &mut run)?;
-    Ok((run.output, ending))
+    Finish::of(&mut run, ending)
 }
 
 /// Goes on behind BEGIN that was left so: with each record of the input and then END, or with END where
-/// BEGIN was left by `exit` or no record is read. Gives the output, behind what is there, and how the
-/// run ends. The input's names and bytes stay as they are.
+/// BEGIN was left by `exit` or no record is read. The output goes behind what is there. The input's names
+/// and bytes stay as they are.
 ///
 /// POSIX.1-2017, awk, "Overall Program Structure" and "Actions" (exit).
 pub fn run_behind_begin<W: World>(
@@ -257,13 +254,14 @@ pub fn run_behind_begin<W: World>(
     input: &mut Input,
     world: &mut W,
     run: Run<'_>,
-) -> Result<(Vec<u8>, Ending), AllocError>
+) -> Result<Finish, AllocError>
     ensures ends { IfOk result (Finishes (behind_begin W.calls
         (code_view job.entry.code.now).expressions
         (code_view job.entry.code.now) job.entry.budget (files_of input.old) (left_view left)
         (end_view (W.state world.old) run.entry left)) (W.state world.new)) }
     ensures same { files_of input.new ≡ files_of input.old }
 {
+    let mut run = run;
     match left {
         Left::Through => {
             if job.reads_records() {
@@ -274,13 +272,13 @@ pub fn run_behind_begin<W: World>(
         }
         Left::NextFile => close(job, world, run),
         Left::Exit(_) => close(job, world, run),
-        Left::Fault(fault) => Ok((run.output, Ending::Fault(fault, Place::Begin))),
-        Left::Clash => Ok((run.output, Ending::Disallowed)),
+        Left::Fault(fault) => Finish::of(&mut run, Ending::Fault(fault, Place::Begin)),
+        Left::Clash => Finish::of(&mut run, Ending::Disallowed),
     }
 }
 
 /// Runs a program: BEGIN, then each record of the input, then END, over a world and from a run whose
-/// output is empty. Gives the output and how the run ends. The input's names and bytes stay as they are.
+/// output is empty. The input's names and bytes stay as they are.
 ///
 /// POSIX.1-2017, awk, "Overall Program Structure".
 pub fn run_program<W: World>(
@@ -288,7 +286,7 @@ pub fn run_program<W: World>(
     input: &mut Input,
     world: &mut W,
     run: Run<'_>,
-) -> Result<(Vec<u8>, Ending), AllocError>
+) -> Result<Finish, AllocError>
     requires { run.output.items ≡ [] }
     ensures ends { IfOk result (Finishes (spec.run W.calls
         (code_view job.entry.code.now).expressions

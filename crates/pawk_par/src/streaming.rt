@@ -69,6 +69,7 @@ pub fn run_streams<S: Source, K: Sink, G: Gate + Sync, R: Threads + Wait>(
     let Outcome {
         output,
         globals: _,
+        specials: _,
         ending,
     } = outcome;
     write_output(sink, output)?;

@@ -3,6 +3,7 @@
 use crate::fixtures::{SUM, code_of, is_outcome, run_code, run_text};
 use pawk_admit::Reason;
 use pawk_par::{Cutting, Open, Outcome, Refusal, Route, Way};
+use pawk_store::{Content, Named, Names};
 use pawk_value::ValueRef;
 use pawk_world::World;
 use std::alloc::{AllocError, Global};
@@ -77,6 +78,65 @@ fn leaves_every_global(rt: HostRuntime) -> Result<(), Fail> {
     if let Ok((outcome, _)) = &answer {
         for (name, wanted) in rows {
             assert!(rt; has(outcome, code.scalars.as_slice(), name, wanted));
+        }
+    }
+    Ok(())
+}
+
+/// Whether a global has what is wanted.
+fn is_content(content: &Content<'_>, wanted: Wanted) -> bool {
+    match content {
+        Content::Value(value) => is_wanted(*value, wanted),
+        Content::Elements(_) => false,
+    }
+}
+
+/// Whether a listing has a global of this name at this place, with what is wanted.
+fn lists(listing: &[Named<'_>], place: usize, name: &[u8], wanted: Wanted) -> bool {
+    match listing.get(place) {
+        Some(named) => named.name.as_slice() == name && is_content(&named.content, wanted),
+        None => false,
+    }
+}
+
+/// What the sum of 1, 2 and 3 over a file without a name leaves, by the names in the order of their bytes.
+const LISTING: [(&[u8], Wanted); 14] = [
+    (b"CONVFMT", Wanted::Text(b"%.6g")),
+    (b"FILENAME", Wanted::Candidate(b"")),
+    (b"FNR", Wanted::Number(3)),
+    (b"FS", Wanted::Text(b" ")),
+    (b"NF", Wanted::Number(1)),
+    (b"NR", Wanted::Number(3)),
+    (b"OFMT", Wanted::Text(b"%.6g")),
+    (b"OFS", Wanted::Text(b" ")),
+    (b"ORS", Wanted::Text(b"\n")),
+    (b"RLENGTH", Wanted::Number(-1)),
+    (b"RS", Wanted::Text(b"\n")),
+    (b"RSTART", Wanted::Number(0)),
+    (b"SUBSEP", Wanted::Text(b"\x1c")),
+    (b"n", Wanted::Number(6)),
+];
+
+#[test]
+fn lists_every_global(rt: HostRuntime) -> Result<(), Fail> {
+    let code = code_of(rt.alloc(), SUM)?;
+    let cutting = Cutting::Size(1);
+    let way = Way {
+        cutting: &cutting,
+        workers: 2,
+    };
+    let answer = run_code(&rt, &code, b"1\n2\n3\n", way, &Open)?;
+    assert!(rt; is_outcome(&answer, b"6\n", None, Route::Parallel));
+    if let Ok((outcome, _)) = &answer {
+        let names = Names {
+            scalars: code.scalars.as_slice(),
+            arrays: code.arrays.as_slice(),
+            assignments: &[],
+        };
+        let listing = outcome.globals.list(rt.alloc(), names, &outcome.specials)?;
+        assert!(rt; listing.len() == LISTING.len());
+        for (place, (name, wanted)) in LISTING.iter().enumerate() {
+            assert!(rt; lists(listing.as_slice(), place, name, *wanted));
         }
     }
     Ok(())

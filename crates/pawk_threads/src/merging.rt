@@ -82,11 +82,13 @@ pub(crate) fn go_on_merged<'a>(
     let _before = mem::replace(&mut run.state, merged.state);
     let left = left_of(merged.leaving);
     let ending = run_behind_records(job, left, &mut globals, &mut run)?;
+    let specials = run.state.specials(alloc)?;
     let behind = mem::replace(&mut run.output, Vec::new(alloc));
     let output = output_of(alloc, before, merged.outputs, behind)?;
     Ok(Outcome {
         output,
         globals,
+        specials,
         ending,
     })
 }

@@ -11,7 +11,7 @@ ghost use Rattle.pawk_threads.specs.Prologue.{end_of};
 ghost use Rattle.pawk_threads.specs.Routes.{HasRecords, begin_end};
 
 use pawk_input::Input;
-use pawk_one::{Job, Left, Outcome, Output, opening_run, run_begin, run_behind_begin};
+use pawk_one::{Finish, Job, Left, Outcome, Output, opening_run, run_begin, run_behind_begin};
 use pawk_places::Run;
 use pawk_settings::Assignment;
 use pawk_store::Globals;
@@ -71,10 +71,15 @@ pub(crate) fn go_on(
     let Prologue { globals, run, left } = prologue;
     let mut globals = globals;
     let alloc = run.alloc;
-    let (output, ending) = run_behind_begin(job, left, input, &mut globals, run)?;
+    let Finish {
+        output,
+        specials,
+        ending,
+    } = run_behind_begin(job, left, input, &mut globals, run)?;
     Ok(Outcome {
         output: Output::whole(alloc, output)?,
         globals,
+        specials,
         ending,
     })
 }

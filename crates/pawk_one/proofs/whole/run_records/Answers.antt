@@ -1,11 +1,8 @@
-use Rattle.std.proofs.Common.{◌≡◌, ◌∙◌, ap, sym, rules, ◌∷◌, None}
+use Rattle.std.proofs.Common.{◌≡◌, ◌∙◌, ap, sym, rules}
 use Rattle.pawk_code.specs.ProgramViews.{code_view}
 use Rattle.pawk_input.specs.Input.{item_of}
-use Rattle.pawk_input.specs.Walk.{items_left}
-use Rattle.pawk_store.specs.StateViews.{state_of}
 use Rattle.pawk_meaning.specs.Records.{one_record, run_part}
 use Rattle.pawk_meaning.specs.Runs.{records_from}
-use Rattle.pawk_one.specs.declared.left.Left.TheVariants.{Through}
 use Rattle.pawk_one.specs.Ends.{end_view}
 use Rattle.pawk_one.proofs.RunLemmas.{last_record, next_record}
 use Rattle.pawk_one.proofs.whole.run_records.Goals as goal

@@ -1,6 +1,7 @@
 use Rattle.std.proofs.Common.{◌≡◌, ◌∙◌, ◌++◌, sym, ap}
 use Rattle.pawk_code.specs.ProgramViews.{code_view}
 use Rattle.pawk_store.specs.Globals.{Globals}
+use Rattle.pawk_store.specs.RecordStates.{special_value}
 use Rattle.pawk_store.specs.StateViews.{state_of}
 use Rattle.pawk_meaning.specs.Outputs.{in_a_row}
 use Rattle.pawk_meaning.specs.Records.{End}
@@ -39,5 +40,6 @@ returns c =
     record {
       output = ap (λ (y : Finish Globals). y.output) told ∙ sym parts;
       globals = ap (λ (y : Finish Globals). y.world) told;
+      specials = λ v. c.in_ok-specials.ensures.values v ∙ sym (ap (λ (y : Finish Globals). special_value v y.state) told);
       ending = ap (λ (y : Finish Globals). y.ending) told;
     }
