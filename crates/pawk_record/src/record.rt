@@ -113,6 +113,9 @@ impl<'a> Record<'a> {
         if self.next.is_none() {
             return Ok(());
         }
+        if n <= self.here.ranges.len() {
+            return Ok(());
+        }
         let text = line(self.is_own, self.here.text.as_slice(), self.lent);
         self.splitter
             .find(text, &mut self.here.ranges, &mut self.next, n)
