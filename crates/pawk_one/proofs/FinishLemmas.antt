@@ -1,5 +1,5 @@
 -- What a run leaves that finished.
-use Rattle.std.proofs.Common.{◌≡◌, ◌∙◌, ◌<◌, ◌≤◌, ℕ, true, false, nat_le, List, length, None, Result, Ok, Err, IfOk, sym, ap, arith, if◌then◌else◌}
+use Rattle.std.proofs.Common.{◌≡◌, ◌∙◌, ◌<◌, ◌≤◌, ℕ, Bool, true, false, nat_le, List, length, None, Result, Ok, Err, IfOk, sym, ap, arith, if◌then◌else◌}
 use Rattle.std.proofs.lemmas.Bool.Decides.{nat_tests}
 use Rattle.std.specs.declared.alloc.AllocError.{AllocError}
 use Rattle.pawk_store.specs.RecordStates.{special_value}
@@ -26,12 +26,19 @@ finishes meant now run e (Ok f) told output ending specials = record {
 finishes meant now run e (Err x) told output ending specials = tt
 
 module _ {S : Type 0} (calls : Calls S) (eres : List (List ℕ)) (code : Code) (budget : ℕ) where
+  -- how a run goes on where an RS has at most one byte, or more
+  abbrev by_size : List ℕ → List File → End S → Bool → Finish S
+  by_size rs files e is_short =
+      if is_short
+      then (let r = records_from calls eres code budget None (take_separator rs e) (items rs files) in behind_records calls eres code budget r.left r)
+      else finish_of (fault_at faults.Rs (at_record 1)) (take_separator rs e)
+
   -- an RS of more than one byte is a fault at record 1
   pub rs_faults : (text rs : List ℕ) (files : List File) (e taken : End S) → rs ≡ text → 1 < length rs → take_separator rs e ≡ taken → records_by_rs calls eres code budget text files e ≡ finish_of (fault_at faults.Rs (at_record 1)) taken
   rs_faults text rs files e taken same long took =
       let many : nat_le (length rs) 1 ≡ false = grind (arith, nat_tests) in
       ap (λ t. records_by_rs calls eres code budget t files e) (sym same)
-      ∙ ap (λ b. if b then (let r = records_from calls eres code budget None (take_separator rs e) (items rs files) in behind_records calls eres code budget r.left r) else finish_of (fault_at faults.Rs (at_record 1)) (take_separator rs e)) many
+      ∙ ap (by_size rs files e) many
       ∙ ap (finish_of (fault_at faults.Rs (at_record 1))) took
 
   -- by a shorter one the records are read, and what follows them
@@ -39,7 +46,7 @@ module _ {S : Type 0} (calls : Calls S) (eres : List (List ℕ)) (code : Code) (
   rs_goes text rs files e taken r f same short took ran ends =
       let few : nat_le (length rs) 1 ≡ true = grind (arith, nat_tests) in
       ap (λ t. records_by_rs calls eres code budget t files e) (sym same)
-      ∙ ap (λ b. if b then (let r = records_from calls eres code budget None (take_separator rs e) (items rs files) in behind_records calls eres code budget r.left r) else finish_of (fault_at faults.Rs (at_record 1)) (take_separator rs e)) few
+      ∙ ap (by_size rs files e) few
       ∙ ap (λ (x : End S). let r = records_from calls eres code budget None x (items rs files) in behind_records calls eres code budget r.left r) took
       ∙ ap (λ (r : End S). behind_records calls eres code budget r.left r) ran
       ∙ ends
