@@ -1,19 +1,33 @@
 -- What the matchers of a run keep, and what one of them answers.
-use Rattle.std.specs.Prelude.{◌≡◌, ℕ, List, Option, Ok, IfSome, length, ◌≤◌}
+use Rattle.std.specs.Prelude.{◌≡◌, ◌↔◌, ℕ, Bool, List, Option, Result, Ok, Err, IfSome, IsTrue, is_some, length, ◌≤◌}
 use Rattle.std.specs.List.{All}
 use Rattle.std.specs.declared.ops.Range.{Range}
 use Rattle.pawk_ere.specs.Kept.{IsOfItsText}
 use Rattle.pawk_ere.specs.declared.loan.Loan.{Loan}
-use Rattle.pawk_pattern.specs.Pattern.{Pattern}
+use Rattle.pawk_pattern.specs.Pattern.{Pattern, Matches, HasMatch}
 use Rattle.pawk_pattern.specs.Tokens.{SpellsEre}
 use Rattle.pawk_code.specs.declared.word.Count.{Count}
 use Rattle.pawk_meaning.specs.Builtins.{replaced, pieces_between}
+use Rattle.pawk_search.specs.Search.{find}
+use Rattle.pawk_value.specs.Fault.{Fault}
 use Rattle.pawk_builtins.specs.Pieces.{pieces_in}
 use Rattle.pawk_builtins.specs.Replaces.{Left}
 
 -- each matcher that is there is one of its text
 abbrev pub AreOfTheirTexts : List (Option Loan) → Type 0
 AreOfTheirTexts slots = All (λ slot. IfSome slot IsOfItsText) slots
+
+-- Whether the expression matches anywhere in a text, or its fault. POSIX.1-2017, awk, "Regular Expressions": a text
+-- matches where an expression matches any part of it.
+abbrev pub matched_by : Result Pattern Fault → List ℕ → Result Bool Fault
+matched_by (Err f) s = Err f
+matched_by (Ok e) s = Ok (is_some (find e s 0))
+
+-- it was told whether the expression that the bytes spell matches in the text
+pub record IsToldOfText (bytes text : List ℕ) (told : Bool) : Type 0 where
+  pub pattern : Pattern
+  pub spelled : SpellsEre bytes pattern
+  pub answer : IsTrue told ↔ HasMatch (Matches pattern text) 0
 
 -- so many matches of the expression that the bytes spell were replaced, and where there is one, the text is this
 pub record IsReplaced (bytes : List ℕ) (count : Count) (r s out : List ℕ) (n : ℕ) : Type 0 where

@@ -6,7 +6,7 @@ ghost use Rattle.pawk_ere.specs.Kept.{IsAnswerOfText};
 ghost use Rattle.pawk_split.specs.FieldsOf.{TellsNone};
 ghost use Rattle.pawk_meaning.specs.Builtins.{found_by, replaced_by, pieces_by, pieces_between, fixed_at};
 ghost use Rattle.pawk_builtins.specs.ExpressionViews.{expression_of, texts_of};
-ghost use Rattle.pawk_builtins.specs.MatcherViews.{AreOfTheirTexts, IsReplaced};
+ghost use Rattle.pawk_builtins.specs.MatcherViews.{AreOfTheirTexts, IsReplaced, IsToldOfText, matched_by};
 ghost use Rattle.pawk_builtins.specs.Pieces.{pieces_in};
 ghost use Rattle.pawk_builtins.specs.Replaces.{Replaces};
 ghost use Rattle.pawk_builtins.specs.Settles.{Settles};
@@ -14,7 +14,7 @@ ghost use Rattle.pawk_builtins.specs.Settles.{Settles};
 use crate::between::split_fixed;
 use crate::expression::{Expression, fixed_text, spelled_text};
 use crate::replace::{Change, replace_fixed, replace_lent};
-use crate::slot::find_in;
+use crate::slot::{find_in, matches_in};
 use pawk_code::expression::Pattern;
 use pawk_code::word::Count;
 use pawk_ere::{Cache, Loan};
@@ -81,6 +81,25 @@ fn find_fixed(
     }
 }
 
+/// Whether anything is found in a text by the matcher of this number.
+fn matches_fixed(
+    fixed: &mut Vec<Option<Loan>>,
+    number: usize,
+    alloc: Global,
+    ere: &[u8],
+    text: &[u8],
+) -> Result<bool, Stop>
+    requires { AreOfTheirTexts fixed.old.items }
+    ensures fixed { AreOfTheirTexts fixed.new.items }
+    ensures answer { IfOk result (IsToldOfText ere.now text.now) }
+    ensures fault { IfErr result (TellsNone ere.now) }
+{
+    match fixed.get_mut(number) {
+        Some(slot) => matches_in(slot, alloc, ere, text),
+        None => matches_in(&mut None, alloc, ere, text),
+    }
+}
+
 impl Matchers {
     /// The matchers of a run of a program with so many expressions between slashes.
     pub fn new(alloc: Global, expressions: usize) -> Result<Matchers, AllocError> {
@@ -133,6 +152,24 @@ impl Matchers {
         match spelled_text(expression) {
             Some(ere) => self.find_spelled(expression.pattern, ere, text),
             None => Err(Stop::Fault(Fault::Ere)),
+        }
+    }
+
+    /// Whether the expression matches anywhere in a text. For one between slashes this is one walk
+    /// over the text, where [`Matchers::find`] looks for the begin and the end of the match.
+    ///
+    /// Fault `ere` as [`Matchers::find`] has it.
+    ///
+    /// POSIX.1-2017, awk, "Regular Expressions".
+    pub fn is_match(&mut self, expression: Expression<'_>, text: &[u8]) -> Result<bool, Stop>
+        ensures { Settles (λ holds. holds)
+            (matched_by (expression_of expression.entry) text.now) result }
+    {
+        match (expression.pattern, spelled_text(expression)) {
+            (Pattern::Fixed(number), Some(ere)) => {
+                matches_fixed(&mut self.fixed, *number, self.alloc, ere, text)
+            }
+            _ => Ok(self.find(expression, text)?.is_some()),
         }
     }
 

@@ -5,6 +5,7 @@ ghost use Rattle.pawk_ere.specs.Kept.{IsAnswerOfText, IsOfItsText, IsOfText};
 ghost use Rattle.pawk_pattern.specs.Refusals.{Tells};
 ghost use Rattle.pawk_pattern.specs.Tokens.{SpellsNone};
 ghost use Rattle.pawk_split.specs.FieldsOf.{TellsNone};
+ghost use Rattle.pawk_builtins.specs.MatcherViews.{IsToldOfText};
 
 use pawk_ere::{Cache, EreRefusal, Loan};
 use pawk_split::expression_matcher;
@@ -65,6 +66,25 @@ pub(crate) fn find_in(
     fill_slot(slot, alloc, ere)?;
     match slot {
         Some(loan) => Ok(loan.matcher.find(text, 0)?),
+        None => unreachable!(),
+    }
+}
+
+/// Whether anything is found in a text by the matcher in a place, which is read if it is not there.
+pub(crate) fn matches_in(
+    slot: &mut Option<Loan>,
+    alloc: Global,
+    ere: &[u8],
+    text: &[u8],
+) -> Result<bool, Stop>
+    requires { IfSome slot.old IsOfItsText }
+    ensures slot { IfSome slot.new IsOfItsText }
+    ensures answer { IfOk result (IsToldOfText ere.now text.now) }
+    ensures fault { IfErr result (TellsNone ere.now) }
+{
+    fill_slot(slot, alloc, ere)?;
+    match slot {
+        Some(loan) => Ok(loan.matcher.is_match(text, 0)?),
         None => unreachable!(),
     }
 }
