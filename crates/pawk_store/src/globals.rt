@@ -1,7 +1,7 @@
 //! The globals of a run.
 
 ghost use Rattle.std.specs.Prelude.{◌≡◌, IfOk, OnOk, map, slice_set};
-ghost use Rattle.pawk_value.specs.Value.{lent_value, shown};
+ghost use Rattle.pawk_value.specs.Value.{Num, lent_value, shown};
 ghost use Rattle.pawk_array.specs.Elements.{element_of};
 ghost use Rattle.pawk_store.specs.Globals.{array_at};
 ghost use Rattle.pawk_store.specs.Openings.{texts_of, pairs_of, opened};
@@ -54,6 +54,17 @@ fn put(
         assign(alloc, &mut values[slot], value)?;
     }
     Ok(())
+}
+
+/// Puts a number in its slot; past the last slot it is lost.
+#[inline]
+fn put_number(values: &mut Vec<Value>, slot: usize, number: i64)
+    ensures { map shown values.new.items
+        ≡ slice_set (map shown values.old.items) slot (Num number) }
+{
+    if slot < values.len() {
+        values[slot] = Value::Num(number);
+    }
 }
 
 impl Globals {
@@ -134,6 +145,11 @@ impl World for Globals {
         sign: Sign,
         amount: Result<i64, Fault>,
     ) -> Result<(), Halt> {
+        if let ValueRef::Num(old) = self.scalar(slot) {
+            let number = sum(sign, Ok(old), amount)?;
+            put_number(&mut self.scalars, slot, number);
+            return Ok(());
+        }
         let number = sum(sign, to_num_lent(self.scalar(slot)), amount)?;
         self.set_scalar(slot, ValueRef::Num(number))
     }
