@@ -2,5 +2,6 @@ pub mod Weights
 pub mod Rows
 pub mod Shapes
 pub mod Behind
+pub mod Bodies
 pub mod Turns
 pub mod Calls

@@ -15,7 +15,7 @@ use Rattle.pawk_meaning.specs.Meaning.{eval, texts_of, values_of, argument_of, a
 use Rattle.pawk_eval.proofs.Behind.{text_halts}
 use Rattle.pawk_eval.proofs.Weights.{weight, row_weight, argument_weight, arguments_weight, statement_weight, body_weight}
 
-pub expr_in_row : (es : List Expr) (i : ℕ) (e : Expr) → i < length es → weight (view (get_or es i e)) + 2 < row_weight (exprs (views es))
+pub expr_in_row : (es : List Expr) (i : ℕ) (e : Expr) → i < length es → weight (view (get_or es i e)) + 3 < row_weight (exprs (views es))
 expr_in_row [] i e h = omega arith
 expr_in_row (x ∷ es) zero e h = omega arith
 expr_in_row (x ∷ es) (suc i) e h = let r = expr_in_row es i e (omega arith) in omega arith

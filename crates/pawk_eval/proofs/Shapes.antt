@@ -11,13 +11,14 @@ use Rattle.pawk_code.specs.declared.expression.Textual as code_textual
 use Rattle.pawk_code.specs.declared.expression.Expr.{Expr}
 use Rattle.pawk_code.specs.declared.expression.Expr as code
 use Rattle.pawk_code.specs.declared.expression.Argument.{Argument}
+use Rattle.pawk_code.specs.declared.statement.Simple.{Simple}
 use Rattle.pawk_code.specs.declared.statement.Statement.{Statement}
 use Rattle.pawk_code.specs.declared.statement.Statement.TheVariants as statement
-use Rattle.pawk_code.specs.declared.statement.Statement.TheVariants.{rolls-If, rolls-Choose, rolls-Do}
+use Rattle.pawk_code.specs.declared.statement.Statement.TheVariants.{rolls-Simple, rolls-If, rolls-Choose, rolls-Do}
 use Rattle.pawk_code.specs.declared.statement.Statement.TheOpen.{Statement-F}
 use Rattle.pawk_code.specs.declared.statement.Statement.TheFolds.{fold-roll-Statement}
-use Rattle.pawk_code.specs.Statements.{Stmt, when, choose, do_while}
-use Rattle.pawk_code.specs.StatementViews.{seen, stmt_step, stmt_view}
+use Rattle.pawk_code.specs.Statements.{Stmt, simple, when, choose, do_while}
+use Rattle.pawk_code.specs.StatementViews.{seen, simple_view, stmt_step, stmt_view}
 use Rattle.pawk_code.specs.Expressions.{call, to_element, member, join, formatted, exprs, arguments}
 use Rattle.pawk_code.specs.ExpressionViews.{view, views, place_view, test_view, textual_view, format_view, argument_views}
 use Rattle.pawk_code.proofs.Rows.{view-Call, view-Element, view-In, view-Join, view-Format}
@@ -38,6 +39,9 @@ pub format_shape : (t : Textual) (f g : Format) (v : Vec Expr Global) (es : List
 format_shape t f g v es is alike same = ap textual_view is ∙ view-Format f v ∙ ap (λ h. formatted (format_view h) (exprs (views v.items))) (sym alike) ∙ ap (λ xs. formatted (format_view g) (exprs (views xs))) (sym same)
 
 -- ---- statements
+
+pub simple_shape : (s : Statement) (x : Simple) → s ≡ statement.Simple x → stmt_view s ≡ simple (simple_view x)
+simple_shape s x is = ap stmt_view (is ∙ sym (rolls-Simple x)) ∙ fold-roll-Statement Stmt stmt_step (Statement-F.Simple x)
 
 pub if_shape : (s : Statement) (e : Expr) (v : Vec Statement Global) (body : List Statement) → s ≡ statement.If e v → body ≡ v.items → stmt_view s ≡ when (view e) (seen body)
 if_shape s e v body is same =

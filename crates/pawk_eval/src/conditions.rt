@@ -15,7 +15,7 @@ use crate::context::Context;
 use crate::expressions::{eval, text, truth};
 use crate::numbers::numeric;
 use crate::operands::operand;
-use crate::operations::{find_first, find_in_field};
+use crate::operations::{find_first, matches_field};
 use crate::places::key;
 use pawk_builtins::{Expression, related, same_truth};
 use pawk_code::expression::{Expr, Pattern, Test};
@@ -24,7 +24,7 @@ use pawk_code::name::Array;
 use pawk_code::word::Relation;
 use pawk_places::{
     Run, compare_leaves, compare_number, element_exists, field_exists, give_back, number_exists,
-    plain_number, table_of, take_buffer,
+    plain_number, related_numbers, table_of, take_buffer,
 };
 use pawk_value::lend_held;
 use pawk_world::{Halt, World};
@@ -74,7 +74,26 @@ pub(crate) fn test<W: World>(
     }
 }
 
-/// How two expressions compare. Nothing of two leaves is copied.
+/// Whether a test holds, in a frame of its own.
+#[cycle(evaluate)]
+#[inline(never)]
+pub(crate) fn test_apart<W: World>(
+    context: Context<'_>,
+    depth: u64,
+    t: &Test,
+    world: &mut W,
+    run: &mut Run<'_>,
+) -> Result<bool, Halt>
+    ensures left { run.new.left ≤ run.old.left }
+    ensures outcome { Yields (λ holds. holds)
+        (truth_of W.calls (eres_of context.entry) (enter_of W.calls context.entry depth)
+        (test_view t.now)
+        (moment (W.state world.old) run.old)) result (moment (W.state world.new) run.new) }
+{
+    test(context, depth, t, world, run)
+}
+
+/// How two expressions compare. Nothing of leaves and numbers is copied.
 #[cycle(evaluate)]
 #[inline(never)]
 pub(crate) fn compare<W: World>(
@@ -103,6 +122,35 @@ pub(crate) fn compare<W: World>(
             return compare_number(relation, x, y, world, run);
         }
     }
+    if let Expr::Leaf(leaf) = a {
+        if let Expr::Numeric(n) = b {
+            if let Some(x) = plain_number(leaf, world, run) {
+                let y = numeric(context, depth, n, world, run)?;
+                return Ok(related_numbers(relation, x, y));
+            }
+        }
+    }
+    compare_values(context, depth, relation, a, b, world, run)
+}
+
+/// How two expressions compare, whose values are laid down.
+#[cycle(evaluate)]
+#[inline(never)]
+pub(crate) fn compare_values<W: World>(
+    context: Context<'_>,
+    depth: u64,
+    relation: Relation,
+    a: &Expr,
+    b: &Expr,
+    world: &mut W,
+    run: &mut Run<'_>,
+) -> Result<bool, Halt>
+    ensures left { run.new.left ≤ run.old.left }
+    ensures outcome { Yields (λ holds. holds)
+        (truth_of W.calls (eres_of context.entry) (enter_of W.calls context.entry depth)
+        (codes.compare relation (view a.now) (view b.now))
+        (moment (W.state world.old) run.old)) result (moment (W.state world.new) run.new) }
+{
     let mut left = take_buffer(run.alloc, &mut run.spare);
     let x = eval(context, depth, a, &mut left, world, run)?;
     let mut right = take_buffer(run.alloc, &mut run.spare);
@@ -141,8 +189,7 @@ pub(crate) fn matches<W: World>(
                 pattern,
                 text: &[],
             };
-            let found = find_in_field(expression, *n, world, run)?;
-            return Ok(same_truth(wanted, found.is_some()));
+            return matches_field(expression, wanted, *n, world, run);
         }
     }
     let text = text(context, depth, e, world, run)?;

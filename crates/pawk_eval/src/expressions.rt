@@ -6,26 +6,28 @@ ghost use Rattle.std.specs.Prelude.{◌≡◌, ◌≤◌, ◌++◌, [], OnOk};
 ghost use Rattle.pawk_value.specs.Value.{shown};
 ghost use Rattle.pawk_value.specs.Held.{added, held_value};
 ghost use Rattle.pawk_code.specs.Expressions as codes;
-ghost use Rattle.pawk_code.specs.ExpressionViews.{place_view, view};
+ghost use Rattle.pawk_code.specs.ExpressionViews.{argument_views, place_view, view};
 ghost use Rattle.pawk_meaning.specs.Parts.{as_number, as_text, as_truth};
 ghost use Rattle.pawk_meaning.specs.Meaning.{eval};
 ghost use Rattle.pawk_places.specs.Moments.{moment};
 ghost use Rattle.pawk_places.specs.Yields.{Yields};
 ghost use Rattle.pawk_eval.specs.Contexts.{enter_of, eres_of};
 
-use crate::conditions::test;
+use crate::conditions::{test, test_apart};
 use crate::context::Context;
 use crate::functions::{call, pass};
-use crate::numbers::numeric;
+use crate::numbers::{numeric, numeric_apart};
 use crate::operations::value_with;
 use crate::places::place;
 use crate::strings::textual;
-use pawk_code::expression::{Expr, Place};
+use pawk_code::expression::{Argument, Expr, Place};
 use pawk_places::{
-    Run, give_back, give_back_target, leaf_number, leaf_text, leaf_truth, leaf_value, read_place,
-    take_buffer, write_place,
+    Run, give_back, give_back_target, leaf_copy, leaf_number, leaf_text, leaf_truth, leaf_value,
+    push_place_text, read_number, read_place, take_buffer, write_place,
 };
-use pawk_value::{Fault, Held, Value, lend_held, push_text_lent, to_num_lent, truth_lent};
+use pawk_value::{
+    Fault, Held, Value, ValueRef, lend_held, push_text_lent, to_num_lent, truth_lent,
+};
 use pawk_world::{Halt, World};
 
 /// Lays down the value of an expression: its bytes are appended to `out`.
@@ -47,8 +49,8 @@ pub(crate) fn eval<W: World>(
 {
     match e {
         Expr::Leaf(leaf) => leaf_value(leaf, out, world, run),
-        Expr::Numeric(n) => Ok(Held::Num(numeric(context, depth, n, world, run)?)),
-        Expr::Test(t) => Ok(Held::Num(if test(context, depth, t, world, run)? {
+        Expr::Numeric(n) => Ok(Held::Num(numeric_apart(context, depth, n, world, run)?)),
+        Expr::Test(t) => Ok(Held::Num(if test_apart(context, depth, t, world, run)? {
             1
         } else {
             0
@@ -57,12 +59,7 @@ pub(crate) fn eval<W: World>(
             textual(context, depth, t, out, world, run)?;
             Ok(Held::Text)
         }
-        Expr::Read(from) => {
-            let target = place(context, depth, from, world, run)?;
-            let held = read_place(&target, out, world, run)?;
-            give_back_target(&mut run.spare, target);
-            Ok(held)
-        }
+        Expr::Read(from) => read(context, depth, from, out, world, run),
         Expr::Choice(c, a, b) => {
             let truth = truth(context, depth, c, world, run)?;
             let holds = truth?;
@@ -73,11 +70,59 @@ pub(crate) fn eval<W: World>(
             }
         }
         Expr::Assign(to, a) => assign(context, depth, to, a, out, world, run),
-        Expr::Call(f, arguments) => {
-            let values = pass(context, depth, arguments, world, run)?;
-            call(context, depth, *f, values, out, world, run)
-        }
+        Expr::Call(f, arguments) => invoke(context, depth, *f, arguments, out, world, run),
     }
+}
+
+/// Lays down the value of a place.
+#[cycle(evaluate)]
+#[inline(never)]
+pub(crate) fn read<W: World>(
+    context: Context<'_>,
+    depth: u64,
+    from: &Place,
+    out: &mut Vec<u8>,
+    world: &mut W,
+    run: &mut Run<'_>,
+) -> Result<Held, Halt>
+    ensures left { run.new.left ≤ run.old.left }
+    ensures appended { OnOk result
+        (out.new.items ≡ out.old.items ++ added out.old.items out.new.items) }
+    ensures outcome { Yields (λ h. held_value h (added out.old.items out.new.items))
+        (eval W.calls (eres_of context.entry) (enter_of W.calls context.entry depth)
+        (codes.read (place_view from.now))
+        (moment (W.state world.old) run.old)) result (moment (W.state world.new) run.new) }
+{
+    let target = place(context, depth, from, world, run)?;
+    let held = read_place(&target, out, world, run)?;
+    give_back_target(&mut run.spare, target);
+    Ok(held)
+}
+
+/// Calls a function with arguments, and lays its value down.
+///
+/// POSIX.1-2017, awk, "User-Defined Functions".
+#[cycle(evaluate)]
+#[inline(never)]
+pub(crate) fn invoke<W: World>(
+    context: Context<'_>,
+    depth: u64,
+    f: usize,
+    arguments: &[Argument],
+    out: &mut Vec<u8>,
+    world: &mut W,
+    run: &mut Run<'_>,
+) -> Result<Held, Halt>
+    ensures left { run.new.left ≤ run.old.left }
+    ensures appended { OnOk result
+        (out.new.items ≡ out.old.items ++ added out.old.items out.new.items) }
+    ensures outcome { Yields (λ h. held_value h (added out.old.items out.new.items))
+        (eval W.calls (eres_of context.entry) (enter_of W.calls context.entry depth)
+        (codes.call f (codes.arguments (argument_views arguments.now)))
+        (moment (W.state world.old) run.old)) result (moment (W.state world.new) run.new) }
+{
+    let values = pass(context, depth, arguments, world, run)?;
+    call(context, depth, f, values, out, world, run)
 }
 
 /// Assigns the value of an expression to a place, and lays it down.
@@ -126,14 +171,54 @@ pub(crate) fn number<W: World>(
     match e {
         Expr::Leaf(leaf) => leaf_number(leaf, world, run),
         Expr::Numeric(n) => Ok(Ok(numeric(context, depth, n, world, run)?)),
-        e => {
-            let mut bytes = take_buffer(run.alloc, &mut run.spare);
-            let held = eval(context, depth, e, &mut bytes, world, run)?;
-            let number = to_num_lent(lend_held(held, &bytes));
-            give_back(&mut run.spare, bytes);
-            Ok(number)
-        }
+        Expr::Read(from) => number_at(context, depth, from, world, run),
+        e => number_of_value(context, depth, e, world, run),
     }
+}
+
+/// The number of the value of an expression, which is laid down, or the fault of its conversion.
+#[cycle(evaluate)]
+#[inline(never)]
+pub(crate) fn number_of_value<W: World>(
+    context: Context<'_>,
+    depth: u64,
+    e: &Expr,
+    world: &mut W,
+    run: &mut Run<'_>,
+) -> Result<Result<i64, Fault>, Halt>
+    ensures left { run.new.left ≤ run.old.left }
+    ensures outcome { Yields (λ number. number)
+        (as_number (eval W.calls (eres_of context.entry) (enter_of W.calls context.entry depth)
+        (view e.now))
+        (moment (W.state world.old) run.old)) result (moment (W.state world.new) run.new) }
+{
+    let mut bytes = take_buffer(run.alloc, &mut run.spare);
+    let held = eval(context, depth, e, &mut bytes, world, run)?;
+    let number = to_num_lent(lend_held(held, &bytes));
+    give_back(&mut run.spare, bytes);
+    Ok(number)
+}
+
+/// The number of the value of a place, or the fault of its conversion.
+#[cycle(evaluate)]
+#[inline(never)]
+pub(crate) fn number_at<W: World>(
+    context: Context<'_>,
+    depth: u64,
+    from: &Place,
+    world: &mut W,
+    run: &mut Run<'_>,
+) -> Result<Result<i64, Fault>, Halt>
+    ensures left { run.new.left ≤ run.old.left }
+    ensures outcome { Yields (λ number. number)
+        (as_number (eval W.calls (eres_of context.entry) (enter_of W.calls context.entry depth)
+        (codes.read (place_view from.now)))
+        (moment (W.state world.old) run.old)) result (moment (W.state world.new) run.new) }
+{
+    let target = place(context, depth, from, world, run)?;
+    let number = read_number(&target, world, run)?;
+    give_back_target(&mut run.spare, target);
+    Ok(number)
 }
 
 /// The truth of an expression, or the fault of its conversion, where `depth` calls may be nested.
@@ -158,14 +243,35 @@ pub fn truth<W: World>(
     match e {
         Expr::Leaf(leaf) => leaf_truth(leaf, world, run),
         Expr::Test(t) => Ok(Ok(test(context, depth, t, world, run)?)),
-        e => {
-            let mut bytes = take_buffer(run.alloc, &mut run.spare);
-            let held = eval(context, depth, e, &mut bytes, world, run)?;
-            let truth = truth_lent(lend_held(held, &bytes));
-            give_back(&mut run.spare, bytes);
-            Ok(truth)
+        Expr::Numeric(n) => {
+            let number = numeric(context, depth, n, world, run)?;
+            Ok(truth_lent(ValueRef::Num(number)))
         }
+        e => truth_of_value(context, depth, e, world, run),
     }
+}
+
+/// The truth of the value of an expression, which is laid down, or the fault of its conversion.
+#[cycle(evaluate)]
+#[inline(never)]
+pub(crate) fn truth_of_value<W: World>(
+    context: Context<'_>,
+    depth: u64,
+    e: &Expr,
+    world: &mut W,
+    run: &mut Run<'_>,
+) -> Result<Result<bool, Fault>, Halt>
+    ensures left { run.new.left ≤ run.old.left }
+    ensures outcome { Yields (λ truth. truth)
+        (as_truth (eval W.calls (eres_of context.entry) (enter_of W.calls context.entry depth)
+        (view e.now))
+        (moment (W.state world.old) run.old)) result (moment (W.state world.new) run.new) }
+{
+    let mut bytes = take_buffer(run.alloc, &mut run.spare);
+    let held = eval(context, depth, e, &mut bytes, world, run)?;
+    let truth = truth_lent(lend_held(held, &bytes));
+    give_back(&mut run.spare, bytes);
+    Ok(truth)
 }
 
 /// Appends the text of an expression.
@@ -188,14 +294,58 @@ pub(crate) fn text_into<W: World>(
     match e {
         Expr::Leaf(leaf) => leaf_text(leaf, out, world, run),
         Expr::Textual(t) => textual(context, depth, t, out, world, run),
-        e => {
-            let mut bytes = take_buffer(run.alloc, &mut run.spare);
-            let held = eval(context, depth, e, &mut bytes, world, run)?;
-            push_text_lent(lend_held(held, &bytes), out)?;
-            give_back(&mut run.spare, bytes);
-            Ok(())
-        }
+        Expr::Read(from) => text_at(context, depth, from, out, world, run),
+        e => text_of_value(context, depth, e, out, world, run),
     }
+}
+
+/// Appends the text of the value of an expression, which is laid down first.
+#[cycle(evaluate)]
+#[inline(never)]
+pub(crate) fn text_of_value<W: World>(
+    context: Context<'_>,
+    depth: u64,
+    e: &Expr,
+    out: &mut Vec<u8>,
+    world: &mut W,
+    run: &mut Run<'_>,
+) -> Result<(), Halt>
+    ensures left { run.new.left ≤ run.old.left }
+    ensures outcome { Yields (λ _. out.new.items)
+        (as_text out.old.items
+        (eval W.calls (eres_of context.entry) (enter_of W.calls context.entry depth)
+        (view e.now))
+        (moment (W.state world.old) run.old)) result (moment (W.state world.new) run.new) }
+{
+    let mut bytes = take_buffer(run.alloc, &mut run.spare);
+    let held = eval(context, depth, e, &mut bytes, world, run)?;
+    push_text_lent(lend_held(held, &bytes), out)?;
+    give_back(&mut run.spare, bytes);
+    Ok(())
+}
+
+/// Appends the text of the value of a place.
+#[cycle(evaluate)]
+#[inline(never)]
+pub(crate) fn text_at<W: World>(
+    context: Context<'_>,
+    depth: u64,
+    from: &Place,
+    out: &mut Vec<u8>,
+    world: &mut W,
+    run: &mut Run<'_>,
+) -> Result<(), Halt>
+    ensures left { run.new.left ≤ run.old.left }
+    ensures outcome { Yields (λ _. out.new.items)
+        (as_text out.old.items
+        (eval W.calls (eres_of context.entry) (enter_of W.calls context.entry depth)
+        (codes.read (place_view from.now)))
+        (moment (W.state world.old) run.old)) result (moment (W.state world.new) run.new) }
+{
+    let target = place(context, depth, from, world, run)?;
+    push_place_text(&target, out, world, run)?;
+    give_back_target(&mut run.spare, target);
+    Ok(())
 }
 
 /// The text of an expression.
@@ -223,6 +373,37 @@ pub(crate) fn text<W: World>(
 #[cycle(evaluate)]
 #[inline(never)]
 pub(crate) fn value<W: World>(
+    context: Context<'_>,
+    depth: u64,
+    e: &Expr,
+    world: &mut W,
+    run: &mut Run<'_>,
+) -> Result<Value, Halt>
+    ensures left { run.new.left ≤ run.old.left }
+    ensures outcome { Yields shown
+        (eval W.calls (eres_of context.entry) (enter_of W.calls context.entry depth) (view e.now)
+        (moment (W.state world.old) run.old)) result (moment (W.state world.new) run.new) }
+{
+    match e {
+        Expr::Leaf(leaf) => leaf_copy(leaf, world, run),
+        Expr::Numeric(n) => Ok(Value::Num(numeric(context, depth, n, world, run)?)),
+        Expr::Choice(c, a, b) => {
+            let truth = truth(context, depth, c, world, run)?;
+            let holds = truth?;
+            if holds {
+                value(context, depth, a, world, run)
+            } else {
+                value(context, depth, b, world, run)
+            }
+        }
+        e => value_apart(context, depth, e, world, run),
+    }
+}
+
+/// The value of an expression, which is laid down first.
+#[cycle(evaluate)]
+#[inline(never)]
+pub(crate) fn value_apart<W: World>(
     context: Context<'_>,
     depth: u64,
     e: &Expr,

@@ -15,8 +15,8 @@ use crate::context::Context;
 use crate::expressions::value;
 use crate::operations::array_parameter;
 use crate::statements::execute;
-use pawk_code::expression::{Argument, Expr};
-use pawk_places::{Parameter, Run, leaf_copy, parameters, table_of, tick};
+use pawk_code::expression::Argument;
+use pawk_places::{Parameter, Run, parameters, table_of, tick};
 use pawk_value::{Fault, Held, hold, lend};
 use pawk_world::{Halt, World};
 use std::mem;
@@ -62,7 +62,6 @@ pub(crate) fn parameter<W: World>(
         (moment (W.state world.old) run.old)) result (moment (W.state world.new) run.new) }
 {
     match argument {
-        Argument::Value(Expr::Leaf(leaf)) => { Ok(Parameter::Value(leaf_copy(leaf, world, run)?)) }
         Argument::Value(e) => Ok(Parameter::Value(value(context, depth, e, world, run)?)),
         Argument::Array(array) => Ok(array_parameter(table_of(&run.frame, *array))),
     }

@@ -31,10 +31,13 @@ use pawk_code::name::Array;
 use pawk_code::word::Step;
 use pawk_places::{
     Run, Separator, arithmetic_behind, change_place, give_back, give_back_target, leaf_length,
-    place_in, place_in_leaf, set_match_place, split_into, table_of,
+    place_in, place_in_leaf, quick_number, set_match_place, split_into, table_of,
 };
 use pawk_value::{Op, arith};
 use pawk_world::{Halt, World, sum};
+
+/// So many levels of operations in an operand are tried at once before they are evaluated one by one.
+const LEVELS: u32 = 2;
 
 /// What gives a number.
 #[cycle(evaluate)]
@@ -75,6 +78,25 @@ pub(crate) fn numeric<W: World>(
     }
 }
 
+/// What gives a number, in a frame of its own.
+#[cycle(evaluate)]
+#[inline(never)]
+pub(crate) fn numeric_apart<W: World>(
+    context: Context<'_>,
+    depth: u64,
+    n: &Numeric,
+    world: &mut W,
+    run: &mut Run<'_>,
+) -> Result<i64, Halt>
+    ensures left { run.new.left ≤ run.old.left }
+    ensures outcome { Yields (λ number. number)
+        (number_of W.calls (eres_of context.entry) (enter_of W.calls context.entry depth)
+        (numeric_view n.now)
+        (moment (W.state world.old) run.old)) result (moment (W.state world.new) run.new) }
+{
+    numeric(context, depth, n, world, run)
+}
+
 /// The result of an operation. The number of a leaf is not laid down.
 #[cycle(evaluate)]
 #[inline(never)]
@@ -93,6 +115,12 @@ pub(crate) fn arithmetic<W: World>(
         (codes.arithmetic op (view a.now) (view b.now))
         (moment (W.state world.old) run.old)) result (moment (W.state world.new) run.new) }
 {
+    if let Some(x) = quick_number(a, LEVELS, world, run) {
+        if let Some(y) = quick_number(b, LEVELS, world, run) {
+            return Ok(arith(op, x, y)?);
+        }
+        return arithmetic_with(context, depth, op, x, b, world, run);
+    }
     if let Expr::Numeric(n) = a {
         let x = numeric(context, depth, n, world, run)?;
         return arithmetic_with(context, depth, op, x, b, world, run);

@@ -1,6 +1,6 @@
 //! What a part of a run does once its operands are evaluated.
 
-ghost use Rattle.std.specs.Prelude.{◌≡◌, ◌≤◌, ◌<◌, ◌^◌, [], pos, IfOk, IfSome};
+ghost use Rattle.std.specs.Prelude.{◌≡◌, ◌≤◌, ◌<◌, ◌^◌, [], pos, is_some, IfOk, IfSome};
 ghost use Rattle.pawk_value.specs.Value.{Text, shown};
 ghost use Rattle.pawk_value.specs.Held.{held_value};
 ghost use Rattle.pawk_world.specs.Sums.{arith_by};
@@ -9,15 +9,15 @@ ghost use Rattle.pawk_code.specs.Expressions.{field};
 ghost use Rattle.pawk_code.specs.ExpressionViews.{format_view};
 ghost use Rattle.pawk_builtins.specs.ExpressionViews.{expression_of};
 ghost use Rattle.pawk_builtins.specs.FormatViews.{format_text};
-ghost use Rattle.pawk_meaning.specs.Parts.{as_text, bind, settle};
-ghost use Rattle.pawk_meaning.specs.Builtins.{formatted_text, found_by, replaced_by};
+ghost use Rattle.pawk_meaning.specs.Parts.{as_text, bind, give, settle};
+ghost use Rattle.pawk_meaning.specs.Builtins.{formatted_text, found_by, replaced_by, same_truth};
 ghost use Rattle.pawk_meaning.specs.Meaning.{put_replaced, value_of_leaf};
 ghost use Rattle.pawk_meaning.specs.Places.{read_at, variable_aim, write_at};
 ghost use Rattle.pawk_places.specs.Moments.{aim_view, hold_of, moment, table_view};
 ghost use Rattle.pawk_places.specs.Yields.{Yields};
 
 use itoa::Buffer;
-use pawk_builtins::{Expression, Values, format_values};
+use pawk_builtins::{Expression, Values, format_values, same_truth};
 use pawk_code::expression::{Expr, Format, Pattern, Place};
 use pawk_code::name::Variable;
 use pawk_code::word::{Count, Sign};
@@ -143,6 +143,34 @@ pub fn find_in_field<W: World>(
     let mut buffer = Buffer::new();
     let text = text_in(run.state.line.field(n), &mut buffer);
     Ok(run.matchers.find(expression, text)?)
+}
+
+/// Whether an expression matches in the text of a field, or, where no match is wanted, does not
+/// match. The text is not copied, and where in it the match lies is not looked for.
+///
+/// Fault `ere` where it is a text that is no expression.
+///
+/// POSIX.1-2017, awk, "Regular Expressions".
+#[inline(never)]
+pub fn matches_field<W: World>(
+    expression: Expression<'_>,
+    wanted: bool,
+    n: usize,
+    world: &W,
+    run: &mut Run<'_>,
+) -> Result<bool, Halt>
+    ensures left { run.new.left ≤ run.old.left }
+    ensures outcome { Yields (λ holds. holds)
+        (bind (as_text [] (value_of_leaf W.calls (field n))) (λ s.
+        bind (settle (found_by (expression_of expression.entry) s)) (λ found.
+        give (same_truth wanted (is_some found))))
+        (moment (W.state world.now) run.old)) result (moment (W.state world.now) run.new) }
+{
+    run.state.line.prepare(n)?;
+    let mut buffer = Buffer::new();
+    let text = text_in(run.state.line.field(n), &mut buffer);
+    let holds = run.matchers.is_match(expression, text)?;
+    Ok(same_truth(wanted, holds))
 }
 
 /// The text that a format makes of values, where the format that is a value has the text `text`.

@@ -48,7 +48,7 @@ use pawk_places::{
     plain_number, print_alone, print_bytes, print_line, print_plain, remove_element, set_at_number,
     table_of, take_buffer, tick, write_place,
 };
-use pawk_value::{Value, lend_held};
+use pawk_value::{Value, ValueRef, lend_held};
 use pawk_world::{Halt, World};
 
 /// Runs statements in turn, a step of the budget at the begin of each, where `depth` calls may be
@@ -74,6 +74,10 @@ pub fn execute<W: World>(
 {
     for s in body {
         tick(world, run)?;
+        if let Statement::Simple(simple) = s {
+            perform(context, depth, simple, world, run)?;
+            continue;
+        }
         match statement(context, depth, s, world, run)? {
             Flow::On => {}
             flow => return Ok(flow),
@@ -132,12 +136,7 @@ pub(crate) fn perform<W: World>(
         (moment (W.state world.old) run.old)) result (moment (W.state world.new) run.new) }
 {
     match s {
-        Simple::Drop(e) => {
-            let mut bytes = take_buffer(run.alloc, &mut run.spare);
-            let _ = eval(context, depth, e, &mut bytes, world, run)?;
-            give_back(&mut run.spare, bytes);
-            Ok(())
-        }
+        Simple::Drop(e) => drop_value(context, depth, e, world, run),
         Simple::Set(to, e) => set(context, depth, to, e, world, run),
         Simple::Add(sign, to, e) => add(context, depth, *sign, to, e, world, run),
         Simple::Count(step, to) => tally(context, depth, step_sign(*step), to, world, run),
@@ -145,14 +144,56 @@ pub(crate) fn perform<W: World>(
         Simple::Printf(format, operands) => {
             printf(context, depth, format, &operands.values, world, run)
         }
-        Simple::Delete(array, keys) => {
-            let key = key(context, depth, keys, world, run)?;
-            remove_element(table_of(&run.frame, *array), &key, world, run)?;
-            give_back(&mut run.spare, key);
-            Ok(())
-        }
+        Simple::Delete(array, keys) => delete(context, depth, *array, keys, world, run),
         Simple::Clear(array) => clear_array(table_of(&run.frame, *array), world, run),
     }
+}
+
+/// Evaluates an expression whose value is not wanted.
+#[cycle(evaluate)]
+#[inline(never)]
+pub(crate) fn drop_value<W: World>(
+    context: Context<'_>,
+    depth: u64,
+    e: &Expr,
+    world: &mut W,
+    run: &mut Run<'_>,
+) -> Result<(), Halt>
+    ensures left { run.new.left ≤ run.old.left }
+    ensures outcome { Yields (λ _. tt)
+        (act W.calls (eres_of context.entry) (enter_of W.calls context.entry depth)
+        (actions.drop (view e.now))
+        (moment (W.state world.old) run.old)) result (moment (W.state world.new) run.new) }
+{
+    let mut bytes = take_buffer(run.alloc, &mut run.spare);
+    let _ = eval(context, depth, e, &mut bytes, world, run)?;
+    give_back(&mut run.spare, bytes);
+    Ok(())
+}
+
+/// Takes an element away from an array.
+///
+/// POSIX.1-2017, awk, "Actions" (`delete`).
+#[cycle(evaluate)]
+#[inline(never)]
+pub(crate) fn delete<W: World>(
+    context: Context<'_>,
+    depth: u64,
+    array: Array,
+    keys: &[Expr],
+    world: &mut W,
+    run: &mut Run<'_>,
+) -> Result<(), Halt>
+    ensures left { run.new.left ≤ run.old.left }
+    ensures outcome { Yields (λ _. tt)
+        (act W.calls (eres_of context.entry) (enter_of W.calls context.entry depth)
+        (actions.delete array (exprs (views keys.now)))
+        (moment (W.state world.old) run.old)) result (moment (W.state world.new) run.new) }
+{
+    let key = key(context, depth, keys, world, run)?;
+    remove_element(table_of(&run.frame, array), &key, world, run)?;
+    give_back(&mut run.spare, key);
+    Ok(())
 }
 
 /// Adds the number of an expression to a place, or takes it away.
@@ -241,6 +282,9 @@ pub(crate) fn tally<W: World>(
         (place_view to.now)) (λ aim. add_at W.calls sign aim (Ok (pos 1)))
         (moment (W.state world.old) run.old)) result (moment (W.state world.new) run.new) }
 {
+    if let Place::Global(slot) = to {
+        return world.add_scalar(*slot, sign, Ok(1));
+    }
     if let Place::Element(array, keys) = to {
         return tally_element(context, depth, sign, *array, keys, world, run);
     }
@@ -300,6 +344,12 @@ pub(crate) fn set<W: World>(
         (actions.set (place_view to.now) (view e.now))
         (moment (W.state world.old) run.old)) result (moment (W.state world.new) run.new) }
 {
+    if let Place::Global(slot) = to {
+        if let Expr::Numeric(n) = e {
+            let number = numeric(context, depth, n, world, run)?;
+            return world.set_scalar(*slot, ValueRef::Num(number));
+        }
+    }
     if assign_in_place(to, e, world, run)? {
         return Ok(());
     }

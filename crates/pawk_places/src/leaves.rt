@@ -272,6 +272,15 @@ fn compare_lent_leaves<W: World>(
     Ok(holds_for(relation, order))
 }
 
+/// How two numbers compare.
+///
+/// POSIX.1-2017, awk, "Expressions in awk".
+pub fn related_numbers(relation: Relation, x: i64, y: i64) -> bool
+    ensures { related relation (Num x) (Num y) ≡ Ok result }
+{
+    holds_for(relation, x.cmp(&y))
+}
+
 /// How a number and a leaf compare. Nothing is copied.
 ///
 /// POSIX.1-2017, awk, "Expressions in awk".
@@ -289,7 +298,7 @@ pub fn compare_number<W: World>(
         (moment (W.state world.now) run.old)) result (moment (W.state world.now) run.new) }
 {
     if let Some(y) = plain_number(right, world, run) {
-        return Ok(holds_for(relation, x.cmp(&y)));
+        return Ok(related_numbers(relation, x, y));
     }
     compare_lent_behind(relation, x, right, world, run)
 }
@@ -311,7 +320,7 @@ fn compare_lent_behind<W: World>(
     prepare_leaf(right, &mut run.state)?;
     let value = lend_leaf(right, world, run);
     if let ValueRef::Num(y) = value {
-        return Ok(holds_for(relation, x.cmp(&y)));
+        return Ok(related_numbers(relation, x, y));
     }
     let order = compare_lent(ValueRef::Num(x), value)?;
     Ok(holds_for(relation, order))

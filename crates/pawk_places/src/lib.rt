@@ -21,12 +21,12 @@ pub use arrays::{
 };
 pub use leaves::{
     arithmetic_behind, compare_leaves, compare_number, leaf_copy, leaf_length, leaf_number,
-    leaf_text, leaf_truth, leaf_value, place_in, place_in_leaf, plain_number,
+    leaf_text, leaf_truth, leaf_value, place_in, place_in_leaf, plain_number, related_numbers,
 };
 pub use outputs::{key_of_texts, print_alone, print_bytes, print_line, tick};
 pub use plain::{are_plain, print_plain};
 pub use quick::{quick_number, quick_numeric};
-pub use reading::read_place;
+pub use reading::{push_place_text, read_number, read_place};
 pub use run::{Parameter, Run, give_back, parameters, take_buffer};
 pub use target::{Table, Target, element_target, give_back_target, table_of, variable_target};
 pub use writing::{

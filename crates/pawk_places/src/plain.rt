@@ -40,6 +40,9 @@ use pawk_code::leaf::Leaf;
 use pawk_world::{Halt, World};
 use std::alloc::AllocError;
 
+/// So many levels of operations are evaluated before the text of a number is laid down as others are.
+const LEVELS: u32 = 16;
+
 /// Whether an expression is a leaf or gives a number.
 fn is_plain(e: &Expr) -> bool
     ensures { result ≡ spec.is_plain (view e.now) }
@@ -103,7 +106,7 @@ fn push_numeric<W: World>(
         (codes.numeric (numeric_view n.now))
         (moment (W.state world.now) run.old) out.old.items out.new.items) }
 {
-    let Some(number) = quick_numeric(n, world, run) else {
+    let Some(number) = quick_numeric(n, LEVELS, world, run) else {
         return Ok(false);
     };
     push_number(number, out)?;

@@ -35,12 +35,13 @@ fn quick_leaf<W: World>(leaf: &Leaf, world: &W, run: &mut Run<'_>) -> Option<i64
     }
 }
 
-/// The number of an expression, where it is a leaf or made of leaves by operations and `length`, and there
-/// is no fault; then no moment changes.
+/// The number of an expression, where it is a leaf or made of leaves by `length` and at most so many levels
+/// of operations, and there is no fault; then no moment changes.
 ///
-/// Where there is none nothing is said of the expression: it may have a number too.
+/// Where there is none nothing is said of the expression: it may have a number too. The levels bound what
+/// is evaluated in vain.
 #[cycle(quick)]
-pub fn quick_number<W: World>(e: &Expr, world: &W, run: &mut Run<'_>) -> Option<i64>
+pub fn quick_number<W: World>(e: &Expr, levels: u32, world: &W, run: &mut Run<'_>) -> Option<i64>
     ensures same { moment (W.state world.now) run.new ≡ moment (W.state world.now) run.old }
     ensures left { run.new.left ≤ run.old.left }
     ensures number { IfSome result (λ number. (eres : List (List ℕ))
@@ -50,14 +51,19 @@ pub fn quick_number<W: World>(e: &Expr, world: &W, run: &mut Run<'_>) -> Option<
 {
     match e {
         Expr::Leaf(leaf) => quick_leaf(leaf, world, run),
-        Expr::Numeric(n) => quick_numeric(n, world, run),
+        Expr::Numeric(n) => quick_numeric(n, levels, world, run),
         _ => None,
     }
 }
 
 /// The same of what gives a number.
 #[cycle(quick)]
-pub fn quick_numeric<W: World>(n: &Numeric, world: &W, run: &mut Run<'_>) -> Option<i64>
+pub fn quick_numeric<W: World>(
+    n: &Numeric,
+    levels: u32,
+    world: &W,
+    run: &mut Run<'_>,
+) -> Option<i64>
     ensures same { moment (W.state world.now) run.new ≡ moment (W.state world.now) run.old }
     ensures left { run.new.left ≤ run.old.left }
     ensures number { IfSome result (λ number. (eres : List (List ℕ))
@@ -67,8 +73,9 @@ pub fn quick_numeric<W: World>(n: &Numeric, world: &W, run: &mut Run<'_>) -> Opt
 {
     match n {
         Numeric::Arithmetic(op, a, b) => {
-            let x = quick_number(a, world, run)?;
-            let y = quick_number(b, world, run)?;
+            let below = levels.checked_sub(1)?;
+            let x = quick_number(a, below, world, run)?;
+            let y = quick_number(b, below, world, run)?;
             arith(*op, x, y).ok()
         }
         Numeric::Function(NumericFunction::Length(e)) => quick_length(e, world, run),

@@ -2,7 +2,7 @@
 
 ghost use Rattle.std.specs.Prelude.{◌≡◌, ◌≤◌, ◌++◌, OnOk};
 ghost use Rattle.pawk_value.specs.Held.{added, held_value};
-ghost use Rattle.pawk_meaning.specs.Parts.{as_number};
+ghost use Rattle.pawk_meaning.specs.Parts.{as_number, as_text};
 ghost use Rattle.pawk_meaning.specs.Places.{cell, old_at, read_at};
 ghost use Rattle.pawk_world.specs.Worlds.{element};
 ghost use Rattle.pawk_places.specs.Moments.{aim_view, moment};
@@ -12,7 +12,7 @@ use crate::leaves::lend_parameter;
 use crate::locals;
 use crate::run::{Run, give_back, take_buffer};
 use crate::target::Target;
-use pawk_value::{Fault, Held, hold, lend_held, to_num_lent};
+use pawk_value::{Fault, Held, hold, lend_held, push_text_lent, to_num_lent};
 use pawk_world::{Halt, World};
 
 /// Lays down the value of a place, which creates an element: its bytes are appended to `out`.
@@ -49,6 +49,88 @@ pub fn read_place<W: World>(
         }
         Target::Nowhere => Ok(Held::Uninit),
     }
+}
+
+/// The number of the value of a place, which is laid down.
+#[inline(never)]
+fn laid_number<W: World>(
+    target: &Target,
+    world: &mut W,
+    run: &mut Run<'_>,
+) -> Result<Result<i64, Fault>, Halt>
+    ensures left { run.new.left ≤ run.old.left }
+    ensures outcome { Yields (λ number. number)
+        (as_number (read_at W.calls (aim_view target.now))
+        (moment (W.state world.old) run.old)) result (moment (W.state world.new) run.new) }
+{
+    let mut bytes = take_buffer(run.alloc, &mut run.spare);
+    let held = read_place(target, &mut bytes, world, run)?;
+    let number = to_num_lent(lend_held(held, bytes.as_slice()));
+    give_back(&mut run.spare, bytes);
+    Ok(number)
+}
+
+/// The number of the value of a place, or the fault of its conversion; the value of a field is not copied.
+/// An element is created.
+///
+/// POSIX.1-2017, awk, "Expressions in awk".
+pub fn read_number<W: World>(
+    target: &Target,
+    world: &mut W,
+    run: &mut Run<'_>,
+) -> Result<Result<i64, Fault>, Halt>
+    ensures left { run.new.left ≤ run.old.left }
+    ensures outcome { Yields (λ number. number)
+        (as_number (read_at W.calls (aim_view target.now))
+        (moment (W.state world.old) run.old)) result (moment (W.state world.new) run.new) }
+{
+    if let Target::Field(n) = target {
+        run.state.line.prepare(*n)?;
+        return Ok(to_num_lent(run.state.line.field(*n)));
+    }
+    laid_number(target, world, run)
+}
+
+/// Appends the text of the value of a place, which is laid down.
+#[inline(never)]
+fn push_laid_text<W: World>(
+    target: &Target,
+    out: &mut Vec<u8>,
+    world: &mut W,
+    run: &mut Run<'_>,
+) -> Result<(), Halt>
+    ensures left { run.new.left ≤ run.old.left }
+    ensures outcome { Yields (λ _. out.new.items)
+        (as_text out.old.items (read_at W.calls (aim_view target.now))
+        (moment (W.state world.old) run.old)) result (moment (W.state world.new) run.new) }
+{
+    let mut bytes = take_buffer(run.alloc, &mut run.spare);
+    let held = read_place(target, &mut bytes, world, run)?;
+    push_text_lent(lend_held(held, bytes.as_slice()), out)?;
+    give_back(&mut run.spare, bytes);
+    Ok(())
+}
+
+/// Appends the text of the value of a place; that of a field is copied once. An element is created.
+///
+/// POSIX.1-2017, awk, "Expressions in awk".
+pub fn push_place_text<W: World>(
+    target: &Target,
+    out: &mut Vec<u8>,
+    world: &mut W,
+    run: &mut Run<'_>,
+) -> Result<(), Halt>
+    ensures left { run.new.left ≤ run.old.left }
+    ensures outcome { Yields (λ _. out.new.items)
+        (as_text out.old.items (read_at W.calls (aim_view target.now))
+        (moment (W.state world.old) run.old)) result (moment (W.state world.new) run.new) }
+{
+    if let Target::Field(n) = target {
+        run.state.line.prepare(*n)?;
+        push_text_lent(run.state.line.field(*n), out)?;
+        return Ok(());
+    }
+    push_laid_text(target, out, world, run)
 }
 
 /// The number of the old value of an element that is assigned, which is created.

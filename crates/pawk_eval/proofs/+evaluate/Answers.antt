@@ -5,7 +5,7 @@ use Rattle.pawk_world.specs.Halts.{Halt, halt_of, fault}
 use Rattle.pawk_store.specs.StateViews.{state_of}
 use Rattle.pawk_code.specs.Expressions.{exprs, arguments}
 use Rattle.pawk_code.specs.ExpressionViews.{view, views, argument_view, argument_views, format_view, place_view, test_view, textual_view}
-use Rattle.pawk_code.specs.StatementViews.{seen, stmt_view}
+use Rattle.pawk_code.specs.StatementViews.{seen, simple_view, stmt_view}
 use Rattle.pawk_code.specs.ProgramViews.{function_view}
 use Rattle.pawk_meaning.specs.Builtins.{within_limit}
 use Rattle.pawk_meaning.specs.Parts.{halts, then_do, Entry, entry_of, settle}
@@ -16,30 +16,26 @@ use Rattle.pawk_places.specs.Moments.{holds_of, moment}
 use Rattle.pawk_eval.specs.Contexts.{functions_of, eres_of, enter_of, last_view}
 use Rattle.pawk_eval.specs.Contexts as contexts
 use Rattle.pawk_eval.proofs.Behind.{operand_next, operand_halts, text_behind}
+use Rattle.pawk_eval.proofs.Bodies.{simple_next}
 use Rattle.pawk_eval.proofs.Calls.{call_no_step, call_too_deep, call_nothing, call_runs}
 use Rattle.pawk_eval.proofs.Rows.{expr_in_row, argument_in_row, statement_in_body, keys_left, text_in_row_halts, value_in_row_halts, argument_in_row_halts}
-use Rattle.pawk_eval.proofs.Shapes.{call_shape, element_shape, member_shape, join_shape, format_shape, if_shape, choose_shape, do_shape}
+use Rattle.pawk_eval.proofs.Shapes.{call_shape, element_shape, member_shape, join_shape, format_shape, simple_shape, if_shape, choose_shape, do_shape}
 use Rattle.pawk_eval.proofs.Turns.{turn_is, turn_no_step}
-use Rattle.pawk_eval.proofs.Weights.{rank, rank_falls, weight, row_weight, place_weight, test_weight, textual_weight, format_weight, argument_weight, arguments_weight, statement_weight, body_weight, body_in_list}
+use Rattle.pawk_eval.proofs.Weights.{rank, rank_falls, weight, row_weight, place_weight, test_weight, textual_weight, format_weight, argument_weight, arguments_weight, simple_weight, statement_weight, body_weight, body_in_list}
 use Rattle.pawk_eval.proofs.+evaluate.Goals as goal
 
 -- ---- nodes with rows
 
-pub expressions::eval-pass-requires : goal.expressions::eval-pass-requires
-expressions::eval-pass-requires g t c =
+pub expressions::eval-invoke-requires : goal.expressions::eval-invoke-requires
+expressions::eval-invoke-requires g t c =
     let is = call_shape c.args.e.now c.in-Call.f c.in-Call.arguments c.deref-in-Call.result.now c.in-Call.is c.deref-in-Call.ensures.value in
-    let falls : arguments_weight (arguments (argument_views c.deref-in-Call.result.now)) < weight (view c.args.e.now) = rw is (omega arith) in
+    let falls : arguments_weight (arguments (argument_views c.deref-in-Call.result.now)) + 1 < weight (view c.args.e.now) = rw is (omega arith) in
     search rules
 
-pub expressions::eval-returns-in_err-values-in-Call-clause-outcome : goal.expressions::eval-returns-in_err-values-in-Call-clause-outcome
-expressions::eval-returns-in_err-values-in-Call-clause-outcome g t c =
+pub expressions::eval-returns-in-Call-clause-outcome : goal.expressions::eval-returns-in-Call-clause-outcome
+expressions::eval-returns-in-Call-clause-outcome g t c =
     let is = call_shape c.args.e.now c.in-Call.f c.in-Call.arguments c.deref-in-Call.result.now c.in-Call.is c.deref-in-Call.ensures.value in
-    rw is (grind (arith, common_steps))
-
-pub expressions::eval-returns-in_ok-values-in-Call-clause-outcome : goal.expressions::eval-returns-in_ok-values-in-Call-clause-outcome
-expressions::eval-returns-in_ok-values-in-Call-clause-outcome g t c =
-    let is = call_shape c.args.e.now c.in-Call.f c.in-Call.arguments c.deref-in-Call.result.now c.in-Call.is c.deref-in-Call.ensures.value in
-    rw (is, c.in_ok-values-in-Call.ensures.outcome) c.call.ensures.outcome
+    rw is c.invoke.ensures.outcome
 
 pub places::place-key-requires : goal.places::place-key-requires
 places::place-key-requires g t c =
@@ -169,6 +165,30 @@ strings::suffixes-text_into-requires g t c =
 pub statements::execute-statement-requires : goal.statements::execute-statement-requires
 statements::execute-statement-requires g t c =
     let w = statement_in_body c.args.body.now c.loop-s.s-index c.s-item.result c.loop-s-test.true in let d = ap (λ s. statement_weight (stmt_view s)) c.s-item.is in search rules
+
+pub statements::execute-perform-requires : goal.statements::execute-perform-requires
+statements::execute-perform-requires g t c =
+    let w = statement_in_body c.args.body.now c.loop-s.s-index c.s-item.result c.loop-s-test.true in
+    let d = ap (λ s. statement_weight (stmt_view s)) c.s-item.is in
+    let is = ap statement_weight (simple_shape c.s-item.result c.in-Simple.simple c.in-Simple.is) in
+    let falls : simple_weight (simple_view c.in-Simple.simple) < body_weight (seen c.args.body.now) = omega (arith, w, d, is) in
+    search rules
+
+pub statements::execute-returns-in_err-perform-clause-outcome : goal.statements::execute-returns-in_err-perform-clause-outcome
+statements::execute-returns-in_err-perform-clause-outcome g t c =
+    let eres = eres_of c.args.context in
+    let enter = enter_of g.W.World.calls c.args.context c.args.depth in
+    let next = simple_next g.W.World.calls eres enter c.args.body.now c.loop-s.s-index c.s-item.result c.in-Simple.simple (moment (g.W.World.state c.loop-s.world) c.loop-s.run) _ c.loop-s-test.true c.s-item.is c.in-Simple.is c.in_ok-tick.ensures.outcome in
+    let stops : (h : Halt) → halt_of c.in_err-perform.field-0.0 ≡ Some h → execs g.W.World.calls eres enter (seen c.args.body.now) (moment (g.W.World.state c.args.world.now) c.args.run.now) ≡ halts h (g.W.World.state c.perform.new.world) (state_of c.perform.new.run.state) c.perform.new.run.output.items = λ h is. sym c.loop-s.invariant.0 ∙ next ∙ rw (c.in_err-perform.ensures.outcome h is) refl in
+    search rules
+
+pub statements::execute-loop-s-preserved-in-Simple : goal.statements::execute-loop-s-preserved-in-Simple
+statements::execute-loop-s-preserved-in-Simple g t c =
+    let eres = eres_of c.args.context in
+    let enter = enter_of g.W.World.calls c.args.context c.args.depth in
+    let next = simple_next g.W.World.calls eres enter c.args.body.now c.loop-s.s-index c.s-item.result c.in-Simple.simple (moment (g.W.World.state c.loop-s.world) c.loop-s.run) _ c.loop-s-test.true c.s-item.is c.in-Simple.is c.in_ok-tick.ensures.outcome in
+    let rest : execs g.W.World.calls eres enter (seen c.args.body.now) (moment (g.W.World.state c.args.world.now) c.args.run.now) ≡ execs g.W.World.calls eres enter (seen (drop (suc c.loop-s.s-index) c.args.body.now)) (moment (g.W.World.state c.perform.new.world) c.perform.new.run) = sym c.loop-s.invariant.0 ∙ next ∙ rw c.in_ok-perform.ensures.outcome refl in
+    (rw add-one (sym rest), omega arith)
 
 pub functions::pass-returns-in_err-value-clause-outcome : goal.functions::pass-returns-in_err-value-clause-outcome
 functions::pass-returns-in_err-value-clause-outcome g t c =

@@ -13,50 +13,83 @@ use Rattle.pawk_eval.proofs.+evaluate.Given as goal
 abbrev pub decreases-expressions::eval : goal.decreases-expressions::eval
 decreases-expressions::eval g l = rank (functions_of l.context) l.depth (weight (view l.e.now))
 
+abbrev pub decreases-expressions::read : goal.decreases-expressions::read
+decreases-expressions::read g l = rank (functions_of l.context) l.depth (place_weight (place_view l.from.now) + 1)
+
+abbrev pub decreases-expressions::invoke : goal.decreases-expressions::invoke
+decreases-expressions::invoke g l = rank (functions_of l.context) l.depth (arguments_weight (arguments (argument_views l.arguments.now)) + 1)
+
 abbrev pub decreases-expressions::assign : goal.decreases-expressions::assign
 decreases-expressions::assign g l = rank (functions_of l.context) l.depth (place_weight (place_view l.to.now) + weight (view l.e.now) + 1)
 
 abbrev pub decreases-expressions::number : goal.decreases-expressions::number
-decreases-expressions::number g l = rank (functions_of l.context) l.depth (weight (view l.e.now) + 1)
+decreases-expressions::number g l = rank (functions_of l.context) l.depth (weight (view l.e.now) + 2)
+
+abbrev pub decreases-expressions::number_of_value : goal.decreases-expressions::number_of_value
+decreases-expressions::number_of_value g l = rank (functions_of l.context) l.depth (weight (view l.e.now) + 1)
+
+abbrev pub decreases-expressions::number_at : goal.decreases-expressions::number_at
+decreases-expressions::number_at g l = rank (functions_of l.context) l.depth (place_weight (place_view l.from.now) + 1)
 
 abbrev pub decreases-expressions::truth : goal.decreases-expressions::truth
-decreases-expressions::truth g l = rank (functions_of l.context) l.depth (weight (view l.e.now) + 1)
+decreases-expressions::truth g l = rank (functions_of l.context) l.depth (weight (view l.e.now) + 2)
+
+abbrev pub decreases-expressions::truth_of_value : goal.decreases-expressions::truth_of_value
+decreases-expressions::truth_of_value g l = rank (functions_of l.context) l.depth (weight (view l.e.now) + 1)
 
 abbrev pub decreases-expressions::text_into : goal.decreases-expressions::text_into
-decreases-expressions::text_into g l = rank (functions_of l.context) l.depth (weight (view l.e.now) + 1)
+decreases-expressions::text_into g l = rank (functions_of l.context) l.depth (weight (view l.e.now) + 2)
+
+abbrev pub decreases-expressions::text_of_value : goal.decreases-expressions::text_of_value
+decreases-expressions::text_of_value g l = rank (functions_of l.context) l.depth (weight (view l.e.now) + 1)
+
+abbrev pub decreases-expressions::text_at : goal.decreases-expressions::text_at
+decreases-expressions::text_at g l = rank (functions_of l.context) l.depth (place_weight (place_view l.from.now) + 1)
 
 abbrev pub decreases-expressions::text : goal.decreases-expressions::text
-decreases-expressions::text g l = rank (functions_of l.context) l.depth (weight (view l.e.now) + 2)
+decreases-expressions::text g l = rank (functions_of l.context) l.depth (weight (view l.e.now) + 3)
 
 abbrev pub decreases-expressions::value : goal.decreases-expressions::value
-decreases-expressions::value g l = rank (functions_of l.context) l.depth (weight (view l.e.now) + 1)
+decreases-expressions::value g l = rank (functions_of l.context) l.depth (weight (view l.e.now) + 2)
+
+abbrev pub decreases-expressions::value_apart : goal.decreases-expressions::value_apart
+decreases-expressions::value_apart g l = rank (functions_of l.context) l.depth (weight (view l.e.now) + 1)
 
 abbrev pub decreases-numbers::numeric : goal.decreases-numbers::numeric
 decreases-numbers::numeric g l = rank (functions_of l.context) l.depth (numeric_weight (numeric_view l.n.now))
 
+abbrev pub decreases-numbers::numeric_apart : goal.decreases-numbers::numeric_apart
+decreases-numbers::numeric_apart g l = rank (functions_of l.context) l.depth (numeric_weight (numeric_view l.n.now) + 1)
+
 abbrev pub decreases-numbers::arithmetic : goal.decreases-numbers::arithmetic
-decreases-numbers::arithmetic g l = rank (functions_of l.context) l.depth (weight (view l.a.now) + weight (view l.b.now) + 3)
+decreases-numbers::arithmetic g l = rank (functions_of l.context) l.depth (weight (view l.a.now) + weight (view l.b.now) + 4)
 
 abbrev pub decreases-numbers::arithmetic_with : goal.decreases-numbers::arithmetic_with
-decreases-numbers::arithmetic_with g l = rank (functions_of l.context) l.depth (weight (view l.b.now) + 2)
+decreases-numbers::arithmetic_with g l = rank (functions_of l.context) l.depth (weight (view l.b.now) + 3)
 
 abbrev pub decreases-numbers::change : goal.decreases-numbers::change
-decreases-numbers::change g l = rank (functions_of l.context) l.depth (place_weight (place_view l.to.now) + weight (view l.e.now) + 2)
+decreases-numbers::change g l = rank (functions_of l.context) l.depth (place_weight (place_view l.to.now) + weight (view l.e.now) + 3)
 
 abbrev pub decreases-numbers::step_by : goal.decreases-numbers::step_by
 decreases-numbers::step_by g l = rank (functions_of l.context) l.depth (place_weight (place_view l.to.now) + 1)
 
 abbrev pub decreases-numbers::place_of : goal.decreases-numbers::place_of
-decreases-numbers::place_of g l = rank (functions_of l.context) l.depth (weight (view l.e.now) + weight (view l.sought.now) + 3)
+decreases-numbers::place_of g l = rank (functions_of l.context) l.depth (weight (view l.e.now) + weight (view l.sought.now) + 4)
 
 abbrev pub decreases-conditions::test : goal.decreases-conditions::test
 decreases-conditions::test g l = rank (functions_of l.context) l.depth (test_weight (test_view l.t.now))
+
+abbrev pub decreases-conditions::test_apart : goal.decreases-conditions::test_apart
+decreases-conditions::test_apart g l = rank (functions_of l.context) l.depth (test_weight (test_view l.t.now) + 1)
 
 abbrev pub decreases-conditions::member : goal.decreases-conditions::member
 decreases-conditions::member g l = rank (functions_of l.context) l.depth (row_weight (exprs (views l.keys.now)) + 2)
 
 abbrev pub decreases-conditions::compare : goal.decreases-conditions::compare
-decreases-conditions::compare g l = rank (functions_of l.context) l.depth (weight (view l.a.now) + weight (view l.b.now) + 1)
+decreases-conditions::compare g l = rank (functions_of l.context) l.depth (weight (view l.a.now) + weight (view l.b.now) + 2)
+
+abbrev pub decreases-conditions::compare_values : goal.decreases-conditions::compare_values
+decreases-conditions::compare_values g l = rank (functions_of l.context) l.depth (weight (view l.a.now) + weight (view l.b.now) + 1)
 
 abbrev pub decreases-strings::textual : goal.decreases-strings::textual
 decreases-strings::textual g l = rank (functions_of l.context) l.depth (textual_weight (textual_view l.t.now))
@@ -86,16 +119,16 @@ abbrev pub decreases-numbers::function : goal.decreases-numbers::function
 decreases-numbers::function g l = rank (functions_of l.context) l.depth (function_weight (function_view l.f.now))
 
 abbrev pub decreases-numbers::split : goal.decreases-numbers::split
-decreases-numbers::split g l = rank (functions_of l.context) l.depth (weight (view l.e.now) + separator_weight (fields_view l.by.now) + 3)
+decreases-numbers::split g l = rank (functions_of l.context) l.depth (weight (view l.e.now) + separator_weight (fields_view l.by.now) + 4)
 
 abbrev pub decreases-numbers::replace : goal.decreases-numbers::replace
-decreases-numbers::replace g l = rank (functions_of l.context) l.depth (pattern_weight (pattern_view l.parts.pattern.now) + weight (view l.parts.text.now) + place_weight (place_view l.parts.place.now) + 3)
+decreases-numbers::replace g l = rank (functions_of l.context) l.depth (pattern_weight (pattern_view l.parts.pattern.now) + weight (view l.parts.text.now) + place_weight (place_view l.parts.place.now) + 4)
 
 abbrev pub decreases-numbers::find : goal.decreases-numbers::find
-decreases-numbers::find g l = rank (functions_of l.context) l.depth (weight (view l.e.now) + pattern_weight (pattern_view l.pattern.now) + 3)
+decreases-numbers::find g l = rank (functions_of l.context) l.depth (weight (view l.e.now) + pattern_weight (pattern_view l.pattern.now) + 4)
 
 abbrev pub decreases-conditions::matches : goal.decreases-conditions::matches
-decreases-conditions::matches g l = rank (functions_of l.context) l.depth (weight (view l.e.now) + pattern_weight (pattern_view l.pattern.now) + 3)
+decreases-conditions::matches g l = rank (functions_of l.context) l.depth (weight (view l.e.now) + pattern_weight (pattern_view l.pattern.now) + 4)
 
 abbrev pub decreases-strings::formatted : goal.decreases-strings::formatted
 decreases-strings::formatted g l = rank (functions_of l.context) l.depth (format_weight (format_view l.format.now) + row_weight (exprs (views l.es.now)) + 1)
@@ -117,6 +150,12 @@ decreases-functions::call g l = rank (functions_of l.context) l.depth (0)
 
 abbrev pub decreases-statements::perform : goal.decreases-statements::perform
 decreases-statements::perform g l = rank (functions_of l.context) l.depth (simple_weight (simple_view l.s.now))
+
+abbrev pub decreases-statements::drop_value : goal.decreases-statements::drop_value
+decreases-statements::drop_value g l = rank (functions_of l.context) l.depth (weight (view l.e.now) + 1)
+
+abbrev pub decreases-statements::delete : goal.decreases-statements::delete
+decreases-statements::delete g l = rank (functions_of l.context) l.depth (row_weight (exprs (views l.keys.now)) + 2)
 
 abbrev pub decreases-statements::add : goal.decreases-statements::add
 decreases-statements::add g l = rank (functions_of l.context) l.depth (place_weight (place_view l.to.now) + weight (view l.e.now) + 3)
@@ -155,7 +194,7 @@ abbrev pub decreases-statements::execute : goal.decreases-statements::execute
 decreases-statements::execute g l = rank (functions_of l.context) l.depth (body_weight (seen l.body.now))
 
 abbrev pub decreases-statements::choose : goal.decreases-statements::choose
-decreases-statements::choose g l = rank (functions_of l.context) l.depth (weight (view l.test.now) + body_weight (seen l.a.now) + body_weight (seen l.b.now) + 2)
+decreases-statements::choose g l = rank (functions_of l.context) l.depth (weight (view l.test.now) + body_weight (seen l.a.now) + body_weight (seen l.b.now) + 3)
 
 abbrev pub decreases-loops::turns : goal.decreases-loops::turns
 decreases-loops::turns g l = rank (functions_of l.context) l.depth (option_weight (contexts.test_view l.test) + option_simple_weight (last_view l.last) + body_weight (seen l.body.now) + 1)
@@ -167,7 +206,7 @@ abbrev pub decreases-loops::perform_or_none : goal.decreases-loops::perform_or_n
 decreases-loops::perform_or_none g l = rank (functions_of l.context) l.depth (option_simple_weight (last_view l.s))
 
 abbrev pub decreases-loops::turns_after : goal.decreases-loops::turns_after
-decreases-loops::turns_after g l = rank (functions_of l.context) l.depth (weight (view l.test.now) + body_weight (seen l.body.now) + 5)
+decreases-loops::turns_after g l = rank (functions_of l.context) l.depth (weight (view l.test.now) + body_weight (seen l.body.now) + 6)
 
 abbrev pub decreases-loops::count : goal.decreases-loops::count
 decreases-loops::count g l = rank (functions_of l.context) l.depth (head_weight (head_view l.head.now) + body_weight (seen l.body.now) + 2)
@@ -179,7 +218,7 @@ abbrev pub decreases-loops::visit : goal.decreases-loops::visit
 decreases-loops::visit g l = rank (functions_of l.context) l.depth (body_weight (seen l.body.now) + 1)
 
 abbrev pub decreases-statements::guard : goal.decreases-statements::guard
-decreases-statements::guard g l = rank (functions_of l.context) l.depth (weight (view l.test.now) + body_weight (seen l.body.now) + 2)
+decreases-statements::guard g l = rank (functions_of l.context) l.depth (weight (view l.test.now) + body_weight (seen l.body.now) + 3)
 
 -- the text so far and the operands that are left give the whole
 abbrev pub invariant-strings::suffixes-loop-e : goal.invariant-strings::suffixes-loop-e
