@@ -17,7 +17,7 @@ use Rattle.pawk_search.proofs.SearchLemmas.{find_law_lem}
 use Rattle.pawk_search.proofs.ReadLemmas.{read_law_lem}
 use Rattle.pawk_meaning.specs.Builtins.{pattern_of_text, pattern_or_fault, found_by, replaced_by}
 use Rattle.pawk_code.specs.declared.word.Count.{Count}
-use Rattle.pawk_builtins.specs.MatcherViews.{IsReplaced, IsToldOfText, matched_by}
+use Rattle.pawk_builtins.specs.MatcherViews.{IsReplaced, SaysWhetherMatches, matched_by}
 use Rattle.pawk_builtins.specs.Replaces.{Left, Replaces}
 use Rattle.pawk_builtins.specs.Settles.{Settles}
 
@@ -89,23 +89,23 @@ answer_before bytes s (Err e) limit a h = tt
 
 -- ---- what a call of is_match answers
 
-told_is : (e : Pattern) (s : List ℕ) (told : Bool) → (IsTrue told ↔ HasMatch (Matches e s) 0) → is_some (find e s 0) ≡ told
-told_is e s told h = go told (find e s 0) h (find_law_lem e s 0 (omega arith)).answer
+finds_is : (e : Pattern) (s : List ℕ) (holds : Bool) → (IsTrue holds ↔ HasMatch (Matches e s) 0) → is_some (find e s 0) ≡ holds
+finds_is e s holds h = go holds (find e s 0) h (find_law_lem e s 0 (omega arith)).answer
   where
     go : (b : Bool) (o : Option (ℕ × ℕ)) → (IsTrue b ↔ HasMatch (Matches e s) 0) → IsFound (Matches e s) 0 o → is_some o ≡ b
     go true None h f = let m = h.0 refl in absurd (f.none refl m.0 m.1 m.2 m.3)
     go true (Some m) h f = refl
     go false None h f = refl
     go false (Some m) h f =
-        let told : false ≡ true = h.1 (m.0, omega arith, m.1, ((f.some m.0 m.1).0 refl).matches) in
+        let holds : false ≡ true = h.1 (m.0, omega arith, m.1, ((f.some m.0 m.1).0 refl).matches) in
         absurd cc
 
-pub told_settles : (bytes s : List ℕ) (r : Result Bool Stop) → IfOk r (IsToldOfText bytes s) → IfErr r (TellsNone bytes) → Settles (λ holds. holds) (matched_by (pattern_of_text bytes) s) r
-told_settles bytes s (Ok told) a t =
+pub match_settles : (bytes s : List ℕ) (r : Result Bool Stop) → IfOk r (SaysWhetherMatches bytes s) → IfErr r (TellsNone bytes) → Settles (λ holds. holds) (matched_by (pattern_of_text bytes) s) r
+match_settles bytes s (Ok holds) a t =
     ap (λ e. matched_by e s) (spells_is bytes a.pattern a.spelled)
-    ∙ ap Ok (told_is a.pattern s told a.answer)
-told_settles bytes s (Err (stop.Fault f)) a t = ap (λ e. matched_by e s) (none_is bytes f t)
-told_settles bytes s (Err stop.Memory) a t = tt
+    ∙ ap Ok (finds_is a.pattern s holds a.answer)
+match_settles bytes s (Err (stop.Fault f)) a t = ap (λ e. matched_by e s) (none_is bytes f t)
+match_settles bytes s (Err stop.Memory) a t = tt
 
 -- ---- what a call of replace answers
 

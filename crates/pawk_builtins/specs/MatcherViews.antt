@@ -23,11 +23,11 @@ abbrev pub matched_by : Result Pattern Fault → List ℕ → Result Bool Fault
 matched_by (Err f) s = Err f
 matched_by (Ok e) s = Ok (is_some (find e s 0))
 
--- it was told whether the expression that the bytes spell matches in the text
-pub record IsToldOfText (bytes text : List ℕ) (told : Bool) : Type 0 where
+-- whether the expression that the bytes spell matches in the text
+pub record SaysWhetherMatches (bytes text : List ℕ) (holds : Bool) : Type 0 where
   pub pattern : Pattern
   pub spelled : SpellsEre bytes pattern
-  pub answer : IsTrue told ↔ HasMatch (Matches pattern text) 0
+  pub answer : IsTrue holds ↔ HasMatch (Matches pattern text) 0
 
 -- so many matches of the expression that the bytes spell were replaced, and where there is one, the text is this
 pub record IsReplaced (bytes : List ℕ) (count : Count) (r s out : List ℕ) (n : ℕ) : Type 0 where

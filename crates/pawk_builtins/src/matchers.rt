@@ -6,7 +6,7 @@ ghost use Rattle.pawk_ere.specs.Kept.{IsAnswerOfText};
 ghost use Rattle.pawk_split.specs.FieldsOf.{TellsNone};
 ghost use Rattle.pawk_meaning.specs.Builtins.{found_by, replaced_by, pieces_by, pieces_between, fixed_at};
 ghost use Rattle.pawk_builtins.specs.ExpressionViews.{expression_of, texts_of};
-ghost use Rattle.pawk_builtins.specs.MatcherViews.{AreOfTheirTexts, IsReplaced, IsToldOfText, matched_by};
+ghost use Rattle.pawk_builtins.specs.MatcherViews.{AreOfTheirTexts, IsReplaced, SaysWhetherMatches, matched_by};
 ghost use Rattle.pawk_builtins.specs.Pieces.{pieces_in};
 ghost use Rattle.pawk_builtins.specs.Replaces.{Replaces};
 ghost use Rattle.pawk_builtins.specs.Settles.{Settles};
@@ -91,7 +91,7 @@ fn matches_fixed(
 ) -> Result<bool, Stop>
     requires { AreOfTheirTexts fixed.old.items }
     ensures fixed { AreOfTheirTexts fixed.new.items }
-    ensures answer { IfOk result (IsToldOfText ere.now text.now) }
+    ensures answer { IfOk result (SaysWhetherMatches ere.now text.now) }
     ensures fault { IfErr result (TellsNone ere.now) }
 {
     match fixed.get_mut(number) {

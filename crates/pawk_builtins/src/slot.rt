@@ -5,7 +5,7 @@ ghost use Rattle.pawk_ere.specs.Kept.{IsAnswerOfText, IsOfItsText, IsOfText};
 ghost use Rattle.pawk_pattern.specs.Refusals.{Tells};
 ghost use Rattle.pawk_pattern.specs.Tokens.{SpellsNone};
 ghost use Rattle.pawk_split.specs.FieldsOf.{TellsNone};
-ghost use Rattle.pawk_builtins.specs.MatcherViews.{IsToldOfText};
+ghost use Rattle.pawk_builtins.specs.MatcherViews.{SaysWhetherMatches};
 
 use pawk_ere::{Cache, EreRefusal, Loan};
 use pawk_split::expression_matcher;
@@ -79,7 +79,7 @@ pub(crate) fn matches_in(
 ) -> Result<bool, Stop>
     requires { IfSome slot.old IsOfItsText }
     ensures slot { IfSome slot.new IsOfItsText }
-    ensures answer { IfOk result (IsToldOfText ere.now text.now) }
+    ensures answer { IfOk result (SaysWhetherMatches ere.now text.now) }
     ensures fault { IfErr result (TellsNone ere.now) }
 {
     fill_slot(slot, alloc, ere)?;
