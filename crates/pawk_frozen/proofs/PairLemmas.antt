@@ -21,7 +21,7 @@ use Rattle.pawk_array.specs.Keys.{text_of}
 use Rattle.pawk_frozen.specs.declared.mark.Mark.{Mark as Code}
 use Rattle.pawk_frozen.specs.declared.mark.Mark.TheVariants as code
 use Rattle.pawk_frozen.specs.Marks.{Mark, Marks, mark_found, mark_or_blank, put_mark}
-use Rattle.pawk_frozen.specs.MarkViews.{mark_view, marks_of, HasKeyAt, Rise}
+use Rattle.pawk_frozen.specs.MarkViews.{mark_view, marks_of, HasKeyAt, Rise, StandOnce}
 use Rattle.pawk_frozen.proofs.KeyLemmas.{none_rise, rise-put, found-put, found-put_here, same_found, length-put_new, flip, put_same}
 
 abbrev pub Pairs : Type 0
@@ -63,6 +63,14 @@ length-marks_of (e ∷ es) h =
     ∙ add-one (length (marks_of es))
     ∙ ap suc (length-marks_of es (IsDistinct-tail same_bytes e.0 (keys_of es) h))
 
+-- no key of a map is that of another pair
+pub stand_once : (es : Pairs) → IsDistinct same_bytes (keys_of es) → StandOnce es
+stand_once [] h = tt
+stand_once (e ∷ es) h = (
+  found-marks_of (text_of e.0) es ∙ ap (option_map mark_view) (lookup-none (has_bytes (text_of e.0)) es (none_passes e.0 es (IsDistinct-head same_bytes e.0 (keys_of es) h))),
+  stand_once es (IsDistinct-tail same_bytes e.0 (keys_of es) h),
+)
+
 is_key_test : (q : List ℕ) → IsKeyTest same_bytes (has_bytes q)
 is_key_test q x y e = let same = (bytes_eq-Decides q (text_of x)).0 e in rw (← same) refl
 
@@ -95,35 +103,6 @@ put_updated k old new w here others =
     (λ q. found_updated k old new (Some w) here others q
     ∙ ap (λ b. if b then Some (mark_view w) else find order q (marks_of old)) (flip k q)
     ∙ sym (found-put q k (mark_view w) (marks_of old)))
-
--- ---- the last pair
-
-lookup-last : (test : Key → Bool) (es : Pairs) (e : Key × Code) → lookup test (es ++ e ∷ []) ≡ (if is_some (lookup test es) then lookup test es else lookup test (e ∷ []))
-lookup-last test [] e = refl
-lookup-last test (x ∷ es) e = by_cases (test x.0) (lookup-last test es e) where
-  by_cases : (b : Bool) → lookup test (es ++ e ∷ []) ≡ (if is_some (lookup test es) then lookup test es else lookup test (e ∷ [])) →
-      cond b (Some x.1) (lookup test (es ++ e ∷ [])) ≡ (if is_some (cond b (Some x.1) (lookup test es)) then cond b (Some x.1) (lookup test es) else lookup test (e ∷ []))
-  by_cases true h = refl
-  by_cases false h = h
-
--- pairs with one more that has a key of its own
-pub marks_of-last : (es : Pairs) (e : Key × Code) → lookup (has_bytes (text_of e.0)) es ≡ None → marks_of (es ++ e ∷ []) ≡ put_mark (text_of e.0) (mark_view e.1) (marks_of es)
-marks_of-last es e absent =
-    same_found (marks_of (es ++ e ∷ [])) (put_mark (text_of e.0) (mark_view e.1) (marks_of es)) (rise-marks_of (es ++ e ∷ [])) (rise-put (text_of e.0) (mark_view e.1) (marks_of es) (rise-marks_of es))
-    (λ q. found-marks_of q (es ++ e ∷ [])
-    ∙ ap (option_map mark_view) (lookup-last (has_bytes q) es e)
-    ∙ by_cases q (bytes_eq q (text_of e.0)) refl
-    ∙ sym (found-put q (text_of e.0) (mark_view e.1) (marks_of es))) where
-      other : (o : Option Code) → option_map mark_view (if is_some o then o else None) ≡ option_map mark_view o
-      other None = refl
-      other (Some v) = refl
-
-      by_cases : (q : List ℕ) (b : Bool) → bytes_eq q (text_of e.0) ≡ b →
-          option_map mark_view (if is_some (lookup (has_bytes q) es) then lookup (has_bytes q) es else cond b (Some e.1) None) ≡ (if b then Some (mark_view e.1) else find order q (marks_of es))
-      by_cases q true p =
-          let same = (bytes_eq-Decides q (text_of e.0)).0 p in
-          rw (same, absent) refl
-      by_cases q false p = other (lookup (has_bytes q) es) ∙ sym (found-marks_of q es)
 
 -- ---- places
 

@@ -1,6 +1,6 @@
 -- Marks of the code.
-use Rattle.std.specs.Prelude.{◌≡◌, ℕ, true, List, [], ◌∷◌, Some, if◌then◌else◌, slice_get}
-use Rattle.std.specs.FinMap.Entries.{is_sorted}
+use Rattle.std.specs.Prelude.{◌≡◌, ℕ, true, List, [], ◌∷◌, None, Some, if◌then◌else◌, slice_get}
+use Rattle.std.specs.FinMap.Entries.{find, is_sorted}
 use Rattle.pawk_array.specs.Entries.{order}
 use Rattle.pawk_array.specs.declared.key.Key.{Key}
 use Rattle.pawk_array.specs.Keys.{text_of}
@@ -27,6 +27,11 @@ mark_view code.Created = created
 abbrev pub marks_of : List (Key × Code) → Marks
 marks_of [] = []
 marks_of (e ∷ es) = put_mark (text_of e.0) (mark_view e.1) (marks_of es)
+
+-- each key stands once among the pairs
+abbrev pub StandOnce : List (Key × Code) → Type 0
+StandOnce [] = Unit {0}
+StandOnce (e ∷ es) = (find order (text_of e.0) (marks_of es) ≡ None) × StandOnce es
 
 -- the keys rise strictly
 abbrev pub Rise : Marks → Type 0

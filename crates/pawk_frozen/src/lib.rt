@@ -8,5 +8,5 @@ mod table;
 
 pub use frozen::Frozen;
 pub use mark::{Mark, Sums};
-pub use marks::Marks;
+pub use marks::{MarkPairs, Marks};
 pub use table::Table;

@@ -15,6 +15,7 @@ ghost use Rattle.pawk_frozen.specs.MarkLending.{LendsMark};
 
 use crate::mark::Mark;
 use indexmap::IndexMap;
+use indexmap::map::IntoIter;
 use pawk_array::{Key, Query};
 use pawk_code::word::Sign;
 use pawk_value::ValueRef;
@@ -37,6 +38,36 @@ impl Model for Marks {
     ghost Value = { spec.Marks };
 
     ghost view = { λ m. marks_of m.map.entries };
+}
+
+/// Keys and their marks that are taken out one behind the other, in the order in which the elements
+/// were first noted. Contracts see those that are left, in the order of the bytes of the keys.
+#[derive(Drop)]
+pub struct MarkPairs {
+    pairs: IntoIter<Key, Mark>,
+}
+
+impl Model for MarkPairs {
+    ghost use Rattle.pawk_frozen.specs.Marks as spec;
+    ghost use Rattle.pawk_frozen.specs.MarkViews.{StandOnce, marks_of};
+
+    ghost Value = { spec.Marks };
+
+    ghost view = { λ m. marks_of m.pairs };
+
+    ghost invariant = { λ m. StandOnce m.pairs };
+}
+
+impl MarkPairs {
+    /// Takes out the next key and its mark; each that is left has another key. None where there is
+    /// none.
+    pub fn next(&mut self) -> Option<(Key, Mark)>
+        ensures { MatchOption result ((self.old ≡ []) × (self.new ≡ [])) (λ pair.
+            (self.old ≡ put_mark (text_of pair.0) (mark_view pair.1) self.new)
+            × (find order (text_of pair.0) self.new ≡ None)) }
+    {
+        self.pairs.next()
+    }
 }
 
 /// The place of a key among the pairs; a key that is missing is added, with nothing noted.
@@ -83,14 +114,13 @@ impl Marks {
         self.map.get(Query(key))
     }
 
-    /// Takes out an element's key and mark, the latest new one first; each that is left has another
-    /// key. None where there is none.
-    pub fn pop(&mut self) -> Option<(Key, Mark)>
-        ensures { MatchOption result ((self.old ≡ []) × (self.new ≡ [])) (λ pair.
-            (self.old ≡ put_mark (text_of pair.0) (mark_view pair.1) self.new)
-            × (find order (text_of pair.0) self.new ≡ None)) }
+    /// The keys and their marks, to be taken out one behind the other. Takes no memory.
+    pub fn into_pairs(self) -> MarkPairs
+        ensures { result ≡ self }
     {
-        self.map.pop()
+        MarkPairs {
+            pairs: self.map.into_iter(),
+        }
     }
 
     /// The mark of an element, lent for a change. One that is missing is made blank; memory is

@@ -33,8 +33,8 @@ pub(crate) fn join_array(elements: &mut Array, marks: Marks) -> Result<(), JoinS
     ensures { Joins (array_takes marks elements.old)
         (λ _. elements.new ≡ spec.join_array marks elements.old) result }
 {
-    let mut marks = marks;
-    while let Some((key, mark)) = marks.pop() {
+    let mut pairs = marks.into_pairs();
+    while let Some((key, mark)) = pairs.next() {
         elements.order_law();
         join_element(elements, key.text(), mark)?;
     }

@@ -4,9 +4,9 @@ use Rattle.pawk_join.proofs.array.join_array.Given as goal
 
 abbrev pub invariant-loop-key : goal.invariant-loop-key
 invariant-loop-key l = record {
-  taken : array_takes l.marks l.elements ≡ array_takes l.fn.marks l.fn.elements;
-  joined : join_array l.marks l.elements ≡ join_array l.fn.marks l.fn.elements;
+  taken : array_takes l.pairs l.elements ≡ array_takes l.fn.marks l.fn.elements;
+  joined : join_array l.pairs l.elements ≡ join_array l.fn.marks l.fn.elements;
 }
 
 abbrev pub decreases-loop-key : goal.decreases-loop-key
-decreases-loop-key l = length l.marks
+decreases-loop-key l = length l.pairs
