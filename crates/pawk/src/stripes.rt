@@ -107,7 +107,7 @@ pub(crate) fn read_stripes<R: Threads + Sync, F: FileExt + Sync>(
     size: usize,
     count: usize,
 ) -> Result<Vec<Vec<u8>>, ErrorKind> {
-    let each = size / count.max(1);
+    let each = size.div_ceil(count.max(1));
     let read = |i: usize| -> Result<Vec<u8>, ErrorKind> {
         read_stripe(alloc, file, stripe_at(i, count, each), each)
     };
