@@ -1,2 +1,1 @@
 mod Joins
-mod Places

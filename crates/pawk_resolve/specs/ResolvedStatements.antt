@@ -12,7 +12,7 @@ use Rattle.pawk_code.specs.declared.word.Sign.TheVariants as sign
 use Rattle.pawk_code.specs.Expressions.{Expr, Exprs, Format, numeric, assign, change, step}
 use Rattle.pawk_code.specs.Calm.{are_calm}
 use Rattle.pawk_code.specs.Statements.{Simple, drop, set, add, count, print, printf, delete, clear, Leave, break, continue, next_record, next_file, exit, return, Head, Stmt, simple, leave, when, choose, repeat, do_while, loop, walk, Stmts, done, next}
-use Rattle.pawk_resolve.specs.Scopes.{Scope, array_of, variable_of}
+use Rattle.pawk_scope.specs.Scopes.{Scope, array_of, variable_of}
 use Rattle.pawk_resolve.specs.Sorted.{nothing, format_by}
 use Rattle.pawk_resolve.specs.Resolved.{resolved, resolved_all}
 

@@ -20,8 +20,8 @@ use Rattle.pawk_code.specs.declared.word.Case.TheVariants as case
 use Rattle.pawk_code.specs.Expressions.{number, text, global, local, field, Expr, leaf, numeric, test, textual, read, assign, Exprs, none, more, Place, to_global, to_local, to_field, arithmetic, signed, change, step, function, split, replace, find, length_of, index_of, whole, compare, both, either, negation, matches, join, suffix, substring, letters, formatted, Pattern, fixed_pattern, spelled_by, FieldsBy, by_fs, by_fixed, by_value, Format, fixed_format, format_of, Argument, pass, pass_array}
 use Rattle.pawk_resolve.specs.declared.operation.Operation.{Operation}
 use Rattle.pawk_resolve.specs.declared.operation.Operation.TheVariants as does
-use Rattle.pawk_resolve.specs.Slots.{slot}
-use Rattle.pawk_resolve.specs.Scopes.{Scope, array_of, is_array}
+use Rattle.pawk_scope.specs.Slots.{slot}
+use Rattle.pawk_scope.specs.Scopes.{Scope, array_of, is_array}
 
 -- what stands where a checked program has nothing
 abbrev pub nothing : Expr

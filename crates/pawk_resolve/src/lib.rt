@@ -2,10 +2,7 @@
 //! give.
 #![tactic(auto)]
 
-pub mod boxes;
 pub mod builtin;
 pub mod lists;
 pub mod operation;
-pub mod scope;
 pub mod sorted;
-pub mod table;

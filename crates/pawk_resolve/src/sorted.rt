@@ -12,6 +12,7 @@ use pawk_code::word::{Sign, Step};
 use pawk_scalar::NUMBER_LIMIT;
 use pawk_syntax_tree::tree::Single;
 use std::alloc::{AllocError, Global};
+use std::mem::replace;
 
 /// The number of a numeral.
 pub fn numeral(number: u64) -> i64
@@ -32,28 +33,28 @@ pub fn nothing() -> Expr
 }
 
 /// A field by its number.
-pub fn field(alloc: Global, e: Expr) -> Result<Expr, AllocError>
-    ensures { IfOk result (λ field. view field ≡ spec.field_of (view e)) }
+fn field(e: Box<Expr>) -> Expr
+    ensures { view result ≡ spec.field_of (view e.value) }
 {
-    match e {
-        Expr::Leaf(Leaf::Number(n)) if n >= 0 => Ok(Expr::Leaf(Leaf::Field(n as usize))),
-        e => Ok(Expr::Read(Place::Field(Box::new(alloc, e)?))),
+    match &*e {
+        Expr::Leaf(Leaf::Number(n)) if *n >= 0 => Expr::Leaf(Leaf::Field(*n as usize)),
+        _ => Expr::Read(Place::Field(e)),
     }
 }
 
 /// What is assigned: what was read there.
-pub fn place(alloc: Global, e: Expr) -> Result<Place, AllocError>
-    ensures { IfOk result (λ place. place_view place ≡ spec.place_of (view e)) }
+pub fn place(mut e: Box<Expr>) -> Place
+    ensures { place_view result ≡ spec.place_of (view e.value) }
 {
-    match e {
-        Expr::Read(place) => Ok(place),
-        Expr::Leaf(Leaf::Global(slot)) => Ok(Place::Global(slot)),
-        Expr::Leaf(Leaf::Local(number)) => Ok(Place::Local(number)),
+    match replace(&mut *e, nothing()) {
+        Expr::Read(place) => place,
+        Expr::Leaf(Leaf::Global(slot)) => Place::Global(slot),
+        Expr::Leaf(Leaf::Local(number)) => Place::Local(number),
         Expr::Leaf(Leaf::Field(number)) => {
-            let index = Expr::Leaf(Leaf::Number(numeral(number as u64)));
-            Ok(Place::Field(Box::new(alloc, index)?))
+            *e = Expr::Leaf(Leaf::Number(numeral(number as u64)));
+            Place::Field(e)
         }
-        _ => Ok(Place::Field(Box::new(alloc, nothing())?)),
+        _ => Place::Field(e),
     }
 }
 
@@ -97,44 +98,36 @@ pub fn join(alloc: Global, a: Expr, b: Expr) -> Result<Expr, AllocError>
 }
 
 /// A format: a constant one is read once.
-pub fn format(alloc: Global, e: Expr) -> Result<Format, AllocError>
-    ensures { IfOk result (λ format. format_view format ≡ spec.format_by (view e)) }
+pub fn format(alloc: Global, e: Box<Expr>) -> Result<Format, AllocError>
+    ensures { IfOk result (λ format. format_view format ≡ spec.format_by (view e.value)) }
 {
-    match e {
+    match &*e {
         Expr::Leaf(Leaf::Text(text)) => {
             Ok(Format::Fixed(FixedFormat::read(alloc, text.as_slice())?))
         }
-        e => Ok(Format::Value(Box::new(alloc, e)?)),
+        _ => Ok(Format::Value(e)),
     }
 }
 
-/// A sign before an operand.
-fn signed(alloc: Global, sign: Sign, e: Expr) -> Result<Expr, AllocError>
-    ensures { IfOk result (λ all. view all ≡ code.numeric (code.signed sign (view e))) }
-{
-    Ok(Expr::Numeric(Numeric::Sign(sign, Box::new(alloc, e)?)))
-}
-
 /// A change of a place by 1.
-fn step(alloc: Global, step: Step, e: Expr) -> Result<Expr, AllocError>
-    ensures { IfOk result (λ all. view all ≡
-        code.numeric (code.step step (spec.place_of (view e)))) }
+fn step(step: Step, e: Box<Expr>) -> Expr
+    ensures { view result ≡ code.numeric (code.step step (spec.place_of (view e.value))) }
 {
-    Ok(Expr::Numeric(Numeric::Step(step, place(alloc, e)?)))
+    Expr::Numeric(Numeric::Step(step, place(e)))
 }
 
 /// An operator with one operand.
-pub fn unary(alloc: Global, op: Single, e: Expr) -> Result<Expr, AllocError>
-    ensures { IfOk result (λ all. view all ≡ spec.unary_of op (view e)) }
+pub fn unary(op: Single, e: Box<Expr>) -> Expr
+    ensures { view result ≡ spec.unary_of op (view e.value) }
 {
     match op {
-        Single::Field => field(alloc, e),
-        Single::Not => Ok(Expr::Test(Test::Not(Box::new(alloc, e)?))),
-        Single::Plus => signed(alloc, Sign::Plus, e),
-        Single::Minus => signed(alloc, Sign::Minus, e),
-        Single::IncrementBefore => step(alloc, Step::IncrementBefore, e),
-        Single::DecrementBefore => step(alloc, Step::DecrementBefore, e),
-        Single::IncrementAfter => step(alloc, Step::IncrementAfter, e),
-        Single::DecrementAfter => step(alloc, Step::DecrementAfter, e),
+        Single::Field => field(e),
+        Single::Not => Expr::Test(Test::Not(e)),
+        Single::Plus => Expr::Numeric(Numeric::Sign(Sign::Plus, e)),
+        Single::Minus => Expr::Numeric(Numeric::Sign(Sign::Minus, e)),
+        Single::IncrementBefore => step(Step::IncrementBefore, e),
+        Single::DecrementBefore => step(Step::DecrementBefore, e),
+        Single::IncrementAfter => step(Step::IncrementAfter, e),
+        Single::DecrementAfter => step(Step::DecrementAfter, e),
     }
 }

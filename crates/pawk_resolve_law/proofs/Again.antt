@@ -21,8 +21,8 @@ use Rattle.pawk_code.specs.declared.word.Count.TheVariants as count
 use Rattle.pawk_code.specs.declared.word.Case.TheVariants as case
 use Rattle.pawk_code.specs.Expressions.{Leaf, number, text, global, local, special, field, Expr, leaf, numeric, test, textual, read, choice, assign, call, Exprs, none, more, Place, to_global, to_local, to_element, to_field, Numeric, arithmetic, signed, change, step, function, split, replace, find, NumericFunction, length_of, index_of, whole, Test, compare, both, either, negation, matches, member, Textual, join, suffix, substring, letters, formatted, Pattern, fixed_pattern, spelled_by, FieldsBy, by_fs, by_fixed, by_value, Format, fixed_format, format_of, Argument, pass, pass_array, Arguments, no_arguments, more_arguments}
 use Rattle.pawk_resolve.specs.declared.operation.Operation.TheVariants as does
-use Rattle.pawk_resolve.specs.Slots.{place, slot}
-use Rattle.pawk_resolve.specs.Scopes.{Scope, is_array, special_of, leaf_at, leaf_of, array_at, array_of}
+use Rattle.pawk_scope.specs.Slots.{place, slot}
+use Rattle.pawk_scope.specs.Scopes.{Scope, is_array, special_of, leaf_at, leaf_of, array_at, array_of}
 use Rattle.pawk_resolve.specs.Sorted.{field_of, place_of, snoc, join_of, pattern_of, fields_of, argument_named, argument_of, format_by, operation, binary_of}
 use Rattle.pawk_resolve.specs.Resolved.{resolved, resolved_all, resolved_arguments}
 use Rattle.pawk_resolve_law.specs.Names.{name_at, special_name, array_name, AreTables}

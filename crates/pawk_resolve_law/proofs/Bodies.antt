@@ -15,8 +15,8 @@ use Rattle.pawk_code.specs.declared.word.Sign.TheVariants as sign
 use Rattle.pawk_code.specs.declared.word.Step.TheVariants as by
 use Rattle.pawk_code.specs.Expressions.{Expr, numeric, assign, change, step}
 use Rattle.pawk_code.specs.Statements.{Simple, drop, set, add, count, print, printf, delete, clear, Leave, break, continue, next_record, next_file, exit, return, Head, Stmt, simple, leave, when, choose, repeat, do_while, loop, walk, Stmts, done, next}
-use Rattle.pawk_resolve.specs.Slots.{place, slot}
-use Rattle.pawk_resolve.specs.Scopes.{Scope, is_array, special_of, variable_at, variable_of}
+use Rattle.pawk_scope.specs.Slots.{place, slot}
+use Rattle.pawk_scope.specs.Scopes.{Scope, is_array, special_of, variable_at, variable_of}
 use Rattle.pawk_resolve.specs.Resolved.{resolved}
 use Rattle.pawk_resolve.specs.ResolvedStatements.{dropped, print_of, printf_by, simple_of, head_of, resolved_statement, resolved_body}
 use Rattle.pawk_resolve_law.specs.Names.{name_at, variable_name, AreTables}

@@ -19,7 +19,7 @@ use Rattle.pawk_syntax_check.specs.Fits.{every_mention}
 use Rattle.pawk_syntax_expressions.specs.Expressions.{eres_of_program}
 use Rattle.pawk_syntax.specs.Spells.{Spells}
 use Rattle.pawk_code.specs.Programs.{Code}
-use Rattle.pawk_resolve.specs.Scopes.{Globals}
+use Rattle.pawk_scope.specs.Scopes.{Globals}
 use Rattle.pawk_resolve.specs.ResolvedPrograms.{global_names, resolved_program}
 use Rattle.pawk_resolve_program.specs.Texts as slashed
 use Rattle.pawk_resolve_program.specs.Codes.{IsCodeOf}

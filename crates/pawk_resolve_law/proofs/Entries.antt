@@ -7,7 +7,7 @@ use Rattle.std.proofs.lemmas.Bool.{cases_Bool}
 use Rattle.std.proofs.lemmas.Slice.Eq.{bytes_eq-Decides}
 use Rattle.pawk_token.specs.Bytes.{Text}
 use Rattle.pawk_token.specs.Vocabulary.{is_among}
-use Rattle.pawk_resolve.specs.Slots.{place, with_text, with_texts}
+use Rattle.pawk_scope.specs.Slots.{place, with_text, with_texts}
 use Rattle.pawk_resolve_law.specs.Names.{AreDifferent}
 
 -- a text stands among others

@@ -10,7 +10,7 @@ use Rattle.pawk_syntax_check.specs.Words.{is_rule, is_function}
 use Rattle.pawk_code.specs.Statements.{Stmts}
 use Rattle.pawk_code.specs.declared.program.Kind.{Kind}
 use Rattle.pawk_code.specs.Programs.{Selector, always, matching, between, Rule, Function, Code}
-use Rattle.pawk_resolve.specs.Scopes.{Globals, Scope}
+use Rattle.pawk_scope.specs.Scopes.{Globals, Scope}
 use Rattle.pawk_resolve.specs.Resolved.{resolved}
 use Rattle.pawk_resolve.specs.ResolvedStatements.{resolved_body}
 use Rattle.pawk_resolve.specs.ResolvedPrograms.{global_scope, function_scope, begin_of, end_of, rule, rule_of, function, functions_from, resolved_items}

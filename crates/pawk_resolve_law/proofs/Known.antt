@@ -14,8 +14,8 @@ use Rattle.pawk_syntax_tree.specs.Canonical.{IsLvalue, FitsSingle, FitsDouble, I
 use Rattle.pawk_syntax_show.proofs.WritableTree.{IsWritableTree, AreWritableTrees}
 use Rattle.pawk_syntax_uses.specs.Mentions.{Mention, array, scalar, target, argument, call, builtin, Role, as_value, as_target, as_array, as_argument, role_under, role_left, Setting, plain, of_call, of_builtin, role_at, count, inside_all, mentions}
 use Rattle.pawk_syntax_check.specs.Calls.{is_lvalue, is_name, fits_builtin, has_targets, takes}
-use Rattle.pawk_resolve.specs.Slots.{place}
-use Rattle.pawk_resolve.specs.Scopes.{Scope, is_array, special_of}
+use Rattle.pawk_scope.specs.Slots.{place}
+use Rattle.pawk_scope.specs.Scopes.{Scope, is_array, special_of}
 use Rattle.pawk_resolve_program.specs.Texts.{of_tree, of_trees}
 use Rattle.pawk_resolve_law.specs.Proper.{IsExpression, IsFunction, IsScalar, IsArray, IsNamed, IsTarget, IsArrayName, Meets, IsPassed, IsPattern, IsRight, IsProper, AreProper, ArePassed, AreTaken}
 

@@ -10,7 +10,7 @@ use Rattle.pawk_syntax_show.proofs.WritableTree.{IsWritableTree, AreWritableTree
 use Rattle.pawk_syntax_show.proofs.WritableProgram.{MayWrite, IsWritableStmt, AreWritableStmts, IsWritablePart}
 use Rattle.pawk_syntax_uses.specs.Mentions.{Mention, as_value, of_value, of_values}
 use Rattle.pawk_syntax_uses.specs.Mentions as mention
-use Rattle.pawk_resolve.specs.Scopes.{Scope}
+use Rattle.pawk_scope.specs.Scopes.{Scope}
 use Rattle.pawk_resolve_program.specs.Texts.{of_tree, of_trees}
 use Rattle.pawk_resolve_program.specs.Texts as slashed
 use Rattle.pawk_resolve_law.specs.Proper.{IsProper, AreProper}

@@ -14,8 +14,8 @@ use Rattle.pawk_syntax_kinds.specs.Demands.{meets, name_in, demands_of}
 use Rattle.pawk_syntax_check.specs.Targets.{is_assignable}
 use Rattle.pawk_syntax_check.specs.Calls.{is_call, takes_arguments}
 use Rattle.pawk_code.specs.declared.leaf.Special.{Special}
-use Rattle.pawk_resolve.specs.Slots.{place}
-use Rattle.pawk_resolve.specs.Scopes.{Globals, Scope, is_array, owner, special_in, specials, special_of}
+use Rattle.pawk_scope.specs.Slots.{place}
+use Rattle.pawk_scope.specs.Scopes.{Globals, Scope, is_array, owner, special_in, specials, special_of}
 use Rattle.pawk_resolve.specs.ResolvedPrograms.{mentioned, parameters, global_names, function_name, global_scope, function_scope}
 use Rattle.pawk_resolve_law.specs.Proper.{IsScalar, IsArray, IsNamed}
 use Rattle.pawk_resolve_law.proofs.Known.{IsKnown, AreKnown, AreExpressions}

@@ -8,8 +8,8 @@ use Rattle.std.proofs.lemmas.Slice.Eq.{bytes_eq-Decides}
 use Rattle.pawk_token.specs.Bytes.{Text}
 use Rattle.pawk_code.specs.declared.leaf.Special.{Special}
 use Rattle.pawk_code.specs.declared.leaf.Special.TheVariants as special
-use Rattle.pawk_resolve.specs.Slots.{place, slot}
-use Rattle.pawk_resolve.specs.Scopes.{special_in, specials, special_of}
+use Rattle.pawk_scope.specs.Slots.{place, slot}
+use Rattle.pawk_scope.specs.Scopes.{special_in, specials, special_of}
 use Rattle.pawk_resolve_law.specs.Names.{name_at, AreDifferent, special_name}
 
 one_more : (o : Option ℕ) (n : ℕ) → option_map suc o ≡ Some n → (m : ℕ) × (o ≡ Some m) × (n ≡ suc m)

@@ -12,8 +12,8 @@ use Rattle.pawk_syntax_expressions.specs.Expressions.{eres_of_program}
 use Rattle.pawk_code.specs.declared.leaf.Special.{Special}
 use Rattle.pawk_code.specs.declared.leaf.Special.TheVariants as special
 use Rattle.pawk_code.specs.FirstSlots.{first_scalars}
-use Rattle.pawk_resolve.specs.Slots.{place, with_texts}
-use Rattle.pawk_resolve.specs.Scopes.{Globals, owner}
+use Rattle.pawk_scope.specs.Slots.{place, with_texts}
+use Rattle.pawk_scope.specs.Scopes.{Globals, owner}
 use Rattle.pawk_resolve.specs.ResolvedPrograms.{global_names, is_global_array, is_global_scalar, function_name, global_scope, function_scope}
 use Rattle.pawk_resolve_law.specs.Names.{AreDifferent, special_name, AreTables}
 use Rattle.pawk_resolve_law.specs.Programs.{names_of}

@@ -7,8 +7,8 @@ use Rattle.pawk_code.specs.declared.name.Variable.{Variable}
 use Rattle.pawk_code.specs.declared.name.Variable.TheVariants as variable
 use Rattle.pawk_code.specs.declared.leaf.Special.{Special}
 use Rattle.pawk_code.specs.declared.leaf.Special.TheVariants as special
-use Rattle.pawk_resolve.specs.Slots.{place}
-use Rattle.pawk_resolve.specs.Scopes.{Scope, is_array}
+use Rattle.pawk_scope.specs.Slots.{place}
+use Rattle.pawk_scope.specs.Scopes.{Scope, is_array}
 
 -- the text in this place, counted from 0
 abbrev pub name_at : List Text → ℕ → Text

@@ -10,7 +10,7 @@ use Rattle.pawk_syntax_check.specs.Words.{is_rule, is_function}
 use Rattle.pawk_syntax_expressions.specs.Expressions.{eres_of_program}
 use Rattle.pawk_code.specs.Statements.{Stmts}
 use Rattle.pawk_code.specs.Programs.{Selector, always, matching, between, Rule, Function, Code}
-use Rattle.pawk_resolve.specs.Scopes.{Globals, Scope}
+use Rattle.pawk_scope.specs.Scopes.{Globals, Scope}
 use Rattle.pawk_resolve.specs.ResolvedPrograms.{globals_of, global_scope, function_scope, kind_of}
 use Rattle.pawk_resolve_law.specs.Names.{AreTables}
 use Rattle.pawk_resolve_law.specs.Spelled.{spelled}

@@ -8,8 +8,8 @@ use Rattle.pawk_scalar.specs.Limits.{number_limit}
 use Rattle.pawk_syntax_tree.specs.declared.tree.Single.TheVariants as single
 use Rattle.pawk_syntax_tree.specs.Tree.{Tree, number, string, ere, variable, element, unary, binary, choice, member, call, builtin, Trees, none, more, takes_ere}
 use Rattle.pawk_syntax_uses.specs.Mentions.{Role, as_target, role_under, role_left}
-use Rattle.pawk_resolve.specs.Slots.{place}
-use Rattle.pawk_resolve.specs.Scopes.{Scope, is_array, special_of}
+use Rattle.pawk_scope.specs.Slots.{place}
+use Rattle.pawk_scope.specs.Scopes.{Scope, is_array, special_of}
 
 module _ (s : Scope) where
   abbrev pub IsExpression : Text → Type 0

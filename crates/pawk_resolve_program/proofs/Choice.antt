@@ -11,7 +11,7 @@ use Rattle.pawk_syntax_expressions.specs.Expressions.{eres_of_program}
 use Rattle.pawk_code.specs.declared.program.Code.{Code as Answer}
 use Rattle.pawk_code.specs.Programs.{Code}
 use Rattle.pawk_code.specs.ProgramViews.{code_view}
-use Rattle.pawk_resolve.specs.Scopes.{Globals}
+use Rattle.pawk_scope.specs.Scopes.{Globals}
 use Rattle.pawk_resolve.specs.ResolvedPrograms.{globals_of, resolved_items}
 use Rattle.pawk_resolve_program.specs.Texts.{of_parts}
 use Rattle.pawk_resolve_program.specs.Codes.{IsCodeOf}

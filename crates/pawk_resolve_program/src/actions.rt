@@ -4,14 +4,14 @@ ghost use Rattle.std.specs.Prelude.{◌≡◌, IfOk, map};
 ghost use Rattle.std.specs.List.{flat_map};
 ghost use Rattle.pawk_syntax_program.specs.Item.{part};
 ghost use Rattle.pawk_code.specs.ProgramViews.{body_view, rule_view, function_view};
-ghost use Rattle.pawk_resolve.specs.ScopeViews.{globals_view};
+ghost use Rattle.pawk_scope.specs.ScopeViews.{globals_view};
 ghost use Rattle.pawk_resolve.specs.ResolvedPrograms as spec;
 
 use crate::items::{begin_of, end_of, function_of, rule_of};
 use crate::vectors::add;
 use pawk_code::program::{Function, Rule};
 use pawk_code::statement::Statement;
-use pawk_resolve::scope::Globals;
+use pawk_scope::scope::Globals;
 use pawk_syntax_program::item::Item;
 use std::alloc::{AllocError, Global};
 

@@ -5,11 +5,11 @@ ghost use Rattle.std.specs.List.{flat_map};
 ghost use Rattle.pawk_token.specs.Vocabulary.{is_among};
 ghost use Rattle.pawk_syntax_program.specs.Item.{part, texts as name_texts};
 ghost use Rattle.pawk_syntax_uses.specs.Views.{mention_view};
-ghost use Rattle.pawk_resolve.specs.Tables.{texts};
-ghost use Rattle.pawk_resolve.specs.ScopeViews.{table_names};
+ghost use Rattle.pawk_scope.specs.Tables.{texts};
+ghost use Rattle.pawk_scope.specs.ScopeViews.{table_names};
 ghost use Rattle.pawk_resolve.specs.ResolvedPrograms as spec;
 
-use pawk_resolve::table::Table;
+use pawk_scope::table::Table;
 use pawk_syntax_program::item::Item;
 use pawk_syntax_tree::tree::Name;
 use pawk_syntax_uses::item::mentions;

@@ -4,7 +4,7 @@ ghost use Rattle.std.specs.Prelude.{◌≡◌, ◌++◌, ◌∷◌, [], OnOk, If
 ghost use Rattle.pawk_syntax_tree.specs.Tree.{trees, view, views};
 ghost use Rattle.pawk_syntax_program.specs.Statement.{stmt_view, option_view};
 ghost use Rattle.pawk_syntax_program.specs.Item.{part, seen};
-ghost use Rattle.pawk_resolve.specs.Tables.{texts as seen_texts};
+ghost use Rattle.pawk_scope.specs.Tables.{texts as seen_texts};
 ghost use Rattle.pawk_resolve_program.specs.Texts as spec;
 
 use pawk_syntax_program::item::Item;

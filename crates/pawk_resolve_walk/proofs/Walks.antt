@@ -7,7 +7,7 @@ use Rattle.pawk_syntax_program.specs.Statement.{stmt_view as tree_stmt_view}
 use Rattle.pawk_syntax_program.specs.Item.{seen as tree_seen}
 use Rattle.pawk_code.specs.Expressions.{Expr, Argument, exprs, more, arguments, more_arguments}
 use Rattle.pawk_code.specs.Statements.{Stmt, stmts, next}
-use Rattle.pawk_resolve.specs.Scopes.{Scope}
+use Rattle.pawk_scope.specs.Scopes.{Scope}
 use Rattle.pawk_resolve.specs.Sorted.{argument_of}
 use Rattle.pawk_resolve.specs.Resolved.{resolved, resolved_all, resolved_arguments}
 use Rattle.pawk_resolve.specs.ResolvedStatements.{resolved_statement, resolved_body}

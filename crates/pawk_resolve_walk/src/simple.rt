@@ -10,19 +10,19 @@ ghost use Rattle.pawk_syntax_tree.specs.Tree as tree;
 ghost use Rattle.pawk_syntax_tree.specs.Tree.{trees, view as tree_view, views as tree_views};
 ghost use Rattle.pawk_syntax_program.specs.Statement.{stmt_view as tree_stmt_view, option_view};
 ghost use Rattle.pawk_code.specs.Statements as statements;
-ghost use Rattle.pawk_resolve.specs.Scopes.{array_of};
-ghost use Rattle.pawk_resolve.specs.ScopeViews.{scope_view};
+ghost use Rattle.pawk_scope.specs.Scopes.{array_of};
+ghost use Rattle.pawk_scope.specs.ScopeViews.{scope_view};
 ghost use Rattle.pawk_resolve.specs.Resolved.{resolved, resolved_all};
 ghost use Rattle.pawk_resolve.specs.ResolvedStatements as spec;
 
 use crate::calm::are_calm;
-use crate::expression::{expression, list};
+use crate::expression::{expression, format_of, list};
 use pawk_code::expression::{Expr, Numeric};
 use pawk_code::statement::{Head, Leave, Operands, Simple, Statement};
 use pawk_code::word::Sign;
-use pawk_resolve::scope::Scope;
-use pawk_resolve::sorted::{format, nothing};
+use pawk_resolve::sorted::nothing;
 use pawk_scalar::Op;
+use pawk_scope::scope::Scope;
 use pawk_syntax_program::statement::{Leave as Word, Statement as TreeStatement};
 use pawk_syntax_tree::tree::{Expr as Tree, Name};
 use std::alloc::{AllocError, Global};
@@ -132,8 +132,7 @@ fn formatted<'t>(
     ensures { IfOk result (λ x. simple_view x ≡ spec.printf_of (scope_view scope.now)
         (tree.more (tree_view first.now) (trees (tree_views es.now)))) }
 {
-    let first = expression(scope, alloc, first)?;
-    let format = format(alloc, first)?;
+    let format = format_of(scope, alloc, first)?;
     let values = list(scope, alloc, es)?;
     Ok(Simple::Printf(format, operands(values)))
 }

@@ -6,7 +6,7 @@ ghost use Rattle.pawk_code.specs.StatementViews.{stmt_view, seen};
 ghost use Rattle.pawk_syntax_tree.specs.Tree.{view as tree_view};
 ghost use Rattle.pawk_syntax_program.specs.Statement.{stmt_view as tree_stmt_view};
 ghost use Rattle.pawk_syntax_program.specs.Item.{seen as tree_seen};
-ghost use Rattle.pawk_resolve.specs.ScopeViews.{scope_view};
+ghost use Rattle.pawk_scope.specs.ScopeViews.{scope_view};
 ghost use Rattle.pawk_resolve.specs.Resolved.{resolved};
 ghost use Rattle.pawk_resolve.specs.ResolvedStatements as spec;
 
@@ -14,7 +14,7 @@ use crate::expression::expression;
 use crate::simple::{head, plain};
 use pawk_code::expression::Expr;
 use pawk_code::statement::Statement;
-use pawk_resolve::scope::Scope;
+use pawk_scope::scope::Scope;
 use pawk_syntax_program::statement::Statement as TreeStatement;
 use pawk_syntax_tree::tree::Expr as Tree;
 use std::alloc::{AllocError, Global};

@@ -1,6 +1,6 @@
 use Rattle.std.proofs.Common.{◌≡◌, map, take}
 use Rattle.pawk_code.specs.ExpressionViews.{views, argument_views}
-use Rattle.pawk_resolve.specs.ScopeViews.{scope_view}
+use Rattle.pawk_scope.specs.ScopeViews.{scope_view}
 use Rattle.pawk_resolve_walk.proofs.Walks.{code_of, passed}
 use Rattle.pawk_resolve_walk.proofs.expression.+expression.Given as goal
 

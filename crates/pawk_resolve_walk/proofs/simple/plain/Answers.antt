@@ -1,7 +1,7 @@
 use Rattle.std.proofs.Common.{ap, sym, ◌∙◌}
 use Rattle.pawk_syntax_program.specs.Statement.{stmt_view as tree_stmt_view}
 use Rattle.pawk_code.specs.Statements.{simple}
-use Rattle.pawk_resolve.specs.ScopeViews.{scope_view}
+use Rattle.pawk_scope.specs.ScopeViews.{scope_view}
 use Rattle.pawk_resolve.specs.ResolvedStatements.{resolved_plain}
 use Rattle.pawk_resolve_walk.proofs.Shapes.{view-Simple, view-DeleteArray}
 use Rattle.pawk_resolve_walk.proofs.simple.plain.Goals as goal

@@ -1,7 +1,7 @@
 use Rattle.std.proofs.Common.{ap, ◌∙◌, arith}
 use Rattle.std.proofs.lemmas.List.{take_all}
 use Rattle.pawk_code.specs.Statements.{stmts}
-use Rattle.pawk_resolve.specs.ScopeViews.{scope_view}
+use Rattle.pawk_scope.specs.ScopeViews.{scope_view}
 use Rattle.pawk_resolve_walk.proofs.Walks.{all_steps}
 use Rattle.pawk_resolve_walk.proofs.statement.+statement.Goals as goal
 

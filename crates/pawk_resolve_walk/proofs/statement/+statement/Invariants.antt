@@ -1,6 +1,6 @@
 use Rattle.std.proofs.Common.{◌≡◌, map, take}
 use Rattle.pawk_code.specs.StatementViews.{stmt_view}
-use Rattle.pawk_resolve.specs.ScopeViews.{scope_view}
+use Rattle.pawk_scope.specs.ScopeViews.{scope_view}
 use Rattle.pawk_resolve_walk.proofs.Walks.{step_of}
 use Rattle.pawk_resolve_walk.proofs.statement.+statement.Given as goal
 

@@ -2,8 +2,8 @@
 
 ghost use Rattle.std.specs.Prelude.{◌≡◌, ◌++◌, ◌∷◌, ℕ, List, [], OnOk};
 ghost use Rattle.pawk_token.specs.Bytes.{Text};
-ghost use Rattle.pawk_resolve.specs.Slots as spec;
-ghost use Rattle.pawk_resolve.specs.Tables.{found, texts};
+ghost use Rattle.pawk_scope.specs.Slots as spec;
+ghost use Rattle.pawk_scope.specs.Tables.{found, texts};
 
 use std::alloc::{AllocError, Global};
 use std::collections::BTreeMap;
@@ -17,7 +17,7 @@ pub struct Table<'t> {
 }
 
 impl<'t> Table<'t> {
-    ghost use Rattle.pawk_resolve.specs.ScopeViews.{table_names};
+    ghost use Rattle.pawk_scope.specs.ScopeViews.{table_names};
 
     /// No names.
     pub fn new(alloc: Global) -> Table<'t>

@@ -1,8 +1,8 @@
 use Rattle.std.proofs.Common.{ap, sym, ◌∙◌}
-use Rattle.pawk_resolve.specs.Slots.{slot}
-use Rattle.pawk_resolve.specs.Scopes.{variable_at}
-use Rattle.pawk_resolve.specs.ScopeViews.{scope_view}
-use Rattle.pawk_resolve.proofs.scope.Scope.variable.Goals as goal
+use Rattle.pawk_scope.specs.Slots.{slot}
+use Rattle.pawk_scope.specs.Scopes.{variable_at}
+use Rattle.pawk_scope.specs.ScopeViews.{scope_view}
+use Rattle.pawk_scope.proofs.scope.Scope.variable.Goals as goal
 
 pub returns-in-Some : goal.returns-in-Some
 returns-in-Some c =

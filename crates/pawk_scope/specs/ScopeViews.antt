@@ -2,11 +2,11 @@
 use Rattle.std.specs.Prelude.{List}
 use Rattle.pawk_token.specs.Bytes.{Text}
 use Rattle.pawk_syntax_kinds.specs.KindViews.{kinds_in}
-use Rattle.pawk_resolve.specs.declared.table.Table.{Table}
-use Rattle.pawk_resolve.specs.declared.scope.Globals.{Globals as CodeGlobals}
-use Rattle.pawk_resolve.specs.declared.scope.Scope.{Scope as CodeScope}
-use Rattle.pawk_resolve.specs.Tables.{texts}
-use Rattle.pawk_resolve.specs.Scopes.{Globals, Scope}
+use Rattle.pawk_scope.specs.declared.table.Table.{Table}
+use Rattle.pawk_scope.specs.declared.scope.Globals.{Globals as CodeGlobals}
+use Rattle.pawk_scope.specs.declared.scope.Scope.{Scope as CodeScope}
+use Rattle.pawk_scope.specs.Tables.{texts}
+use Rattle.pawk_scope.specs.Scopes.{Globals, Scope}
 
 abbrev pub table_names : Table → List Text
 table_names t = texts t.names.items

@@ -8,8 +8,8 @@ use Rattle.std.proofs.lemmas.List.{map-append, length-map}
 use Rattle.std.specs.BTreeMap.{BTreeMap}
 use Rattle.std.proofs.lemmas.Slice.Eq.{bytes_eq-Decides}
 use Rattle.pawk_token.specs.Bytes.{Text}
-use Rattle.pawk_resolve.specs.Slots.{place}
-use Rattle.pawk_resolve.specs.Tables.{found, texts}
+use Rattle.pawk_scope.specs.Slots.{place}
+use Rattle.pawk_scope.specs.Tables.{found, texts}
 
 at_end : (b : Bool) (n : ℕ) → (if b then Some n else None) ≡ cond b (Some n) None
 at_end true n = refl

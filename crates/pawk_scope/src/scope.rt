@@ -2,7 +2,7 @@
 
 ghost use Rattle.std.specs.Prelude.{◌≡◌};
 ghost use Rattle.pawk_code.specs.ExpressionViews.{leaf_view};
-ghost use Rattle.pawk_resolve.specs.Scopes as spec;
+ghost use Rattle.pawk_scope.specs.Scopes as spec;
 
 use crate::table::Table;
 use pawk_code::leaf::{Leaf, Special};
@@ -52,7 +52,7 @@ pub fn special_of(name: &[u8]) -> Option<Special>
 }
 
 impl<'s, 't> Scope<'s, 't> {
-    ghost use Rattle.pawk_resolve.specs.ScopeViews.{scope_view};
+    ghost use Rattle.pawk_scope.specs.ScopeViews.{scope_view};
 
     /// What a scalar of this name is.
     pub fn leaf(&self, name: &[u8]) -> Leaf

@@ -12,7 +12,7 @@ use Rattle.pawk_code.specs.declared.leaf.Special.{Special}
 use Rattle.pawk_code.specs.declared.leaf.Special.TheVariants as special
 use Rattle.pawk_code.specs.Expressions.{Leaf, global, local}
 use Rattle.pawk_code.specs.Expressions as code
-use Rattle.pawk_resolve.specs.Slots.{place, slot}
+use Rattle.pawk_scope.specs.Slots.{place, slot}
 
 -- the names of a program, by their slots
 pub record Globals : Type 0 where

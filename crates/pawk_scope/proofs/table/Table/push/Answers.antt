@@ -3,9 +3,9 @@ use Rattle.std.specs.Prelude.{is_some}
 use Rattle.std.specs.Str.{bytes_eq}
 use Rattle.std.proofs.lemmas.Map.Text.{btree_map_updates_str}
 use Rattle.pawk_token.specs.Bytes.{Text}
-use Rattle.pawk_resolve.specs.Tables.{found}
-use Rattle.pawk_resolve.proofs.Places.{again_numbered, more_numbered}
-use Rattle.pawk_resolve.proofs.table.Table.push.Goals as goal
+use Rattle.pawk_scope.specs.Tables.{found}
+use Rattle.pawk_scope.proofs.Places.{again_numbered, more_numbered}
+use Rattle.pawk_scope.proofs.table.Table.push.Goals as goal
 
 pub invariant_of-self : goal.invariant_of-self
 invariant_of-self c =

@@ -1,0 +1,4 @@
+pub mod Slots
+pub mod Tables
+pub mod Scopes
+pub mod ScopeViews
