@@ -4,8 +4,8 @@
 //! - `text TEXT`: the lexer's tokens, each as `START-END:VALUE`, then what `next` answers at the end,
 //!   and in brackets what it answers when it is asked again;
 //! - `list TEXT`: the same tokens as one list, with what ends it;
-//! - `size FRONT TEXT BACK`: how many tokens a text of ten million bytes has: `TEXT` again and again
-//!   between the two others;
+//! - `size FRONT TEXT BACK`: how many tokens a text of ten million bytes has, or its refusal: `TEXT`
+//!   again and again between the two others;
 //! - `word NAME`: whether the name is a variable of the language;
 //! - `memory`: how want of memory is told.
 #![tactic(auto)]
@@ -139,24 +139,27 @@ fn long_text(alloc: Global, front: &[u8], text: &[u8]) -> Result<Vec<u8>, AllocE
     Ok(whole)
 }
 
-/// How many tokens a text has.
-fn count_tokens(alloc: Global, text: &[u8]) -> u64 {
+/// How many tokens a text has, or its refusal.
+fn count_tokens(alloc: Global, text: &[u8]) -> Result<u64, SyntaxRefusal> {
     let mut lexer = Lexer::new(alloc, text);
     let mut count = 0;
     for turn in 0..u64::MAX {
-        match lexer.next() {
-            Ok(Some(_)) => count = turn + 1,
-            _ => break,
+        match lexer.next()? {
+            Some(_) => count = turn + 1,
+            None => break,
         }
     }
-    count
+    Ok(count)
 }
 
-/// Adds how many tokens the text of a row `size` has.
+/// Adds how many tokens the text of a row `size` has, or its refusal.
 fn push_size(alloc: Global, row: &[u8], out: &mut Vec<u8>) -> Result<(), AllocError> {
     let mut whole = long_text(alloc, cell(row, 1), cell(row, 2))?;
     whole.extend_from_slice(decode(alloc, cell(row, 3))?.as_slice())?;
-    push_decimal(count_tokens(alloc, whole.as_slice()), out)
+    match count_tokens(alloc, whole.as_slice()) {
+        Ok(count) => push_decimal(count, out),
+        Err(refusal) => push_refusal(refusal, out),
+    }
 }
 
 /// What a name is.

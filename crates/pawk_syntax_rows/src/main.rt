@@ -3,10 +3,11 @@
 //! the byte of that value.
 //!
 //! - `text`: the canonical text of the program, its bytes written in the same way; `again` is added
-//!   where that text is not read as a program with the same canonical text;
+//!   where that text is read as a program with another canonical text;
 //! - `size`: how many bytes the canonical text has.
 //!
-//! A text that is refused is answered with the number of its refusal, and its place.
+//! A text that is refused, or whose canonical text is, is answered with the number of the refusal, and
+//! its place.
 #![tactic(auto)]
 
 use pawk_rows::{cell, decode, number, push_encoded};
@@ -51,32 +52,35 @@ fn canonical(alloc: Global, text: &[u8]) -> Result<Vec<u8>, SyntaxRefusal> {
 }
 
 /// Whether this text is its own canonical text.
-fn is_canonical(alloc: Global, text: &[u8]) -> bool {
-    match canonical(alloc, text) {
-        Ok(again) => again.as_slice() == text,
-        Err(_) => false,
-    }
+fn is_canonical(alloc: Global, text: &[u8]) -> Result<bool, SyntaxRefusal> {
+    Ok(canonical(alloc, text)?.as_slice() == text)
 }
 
 /// A canonical text as it is shown.
-fn shown(alloc: Global, asked: &[u8], text: &[u8]) -> Result<String, AllocError> {
+fn shown(alloc: Global, asked: &[u8], text: &[u8]) -> Result<String, SyntaxRefusal> {
     if asked == b"size".as_slice() {
         let size = text.len();
-        return format!(in alloc; "{size}");
+        return Ok(format!(in alloc; "{size}")?);
     }
     let mut bytes = Vec::new(alloc);
     push_encoded(text, &mut bytes)?;
-    if !is_canonical(alloc, text) {
+    if !is_canonical(alloc, text)? {
         bytes.extend_from_slice(b" again")?;
     }
-    String::from_str(alloc, str::from_utf8(bytes.as_slice()).unwrap_or(""))
+    Ok(String::from_str(alloc, str::from_utf8(bytes.as_slice()).unwrap_or(""))?)
+}
+
+/// The canonical text of a row, as it is shown.
+fn canonical_of(alloc: Global, row: &[u8]) -> Result<String, SyntaxRefusal> {
+    let text = text(alloc, row)?;
+    let canonical = canonical(alloc, text.as_slice())?;
+    shown(alloc, cell(row, 0), canonical.as_slice())
 }
 
 /// The answer to a row.
 fn answer(alloc: Global, row: &[u8]) -> Result<String, AllocError> {
-    let text = text(alloc, row)?;
-    match canonical(alloc, text.as_slice()) {
-        Ok(canonical) => shown(alloc, cell(row, 0), canonical.as_slice()),
+    match canonical_of(alloc, row) {
+        Ok(line) => Ok(line),
         Err(refusal) => format!(in alloc; "{refusal}"),
     }
 }
