@@ -90,6 +90,7 @@ fn opening_run<'a>(alloc: Global, opening: Opening<'_, 'a>, nr: u64) -> Result<R
         output: Vec::new(alloc),
         left: opening.job.budget,
         spare: Vec::new(alloc),
+        frames: Vec::new(alloc),
         matchers: Matchers::new(alloc, opening.job.code.expressions.len())?,
     })
 }

@@ -13,7 +13,7 @@ abbrev mutual
   weight (read p) = place_weight p + 2
   weight (choice c a b) = weight c + weight a + weight b + 3
   weight (assign p e) = place_weight p + weight e + 2
-  weight (call f as') = arguments_weight as' + 2
+  weight (call f as') = arguments_weight as' + 3
 
   pub row_weight : Exprs → ℕ
   row_weight none = 1

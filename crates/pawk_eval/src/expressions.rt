@@ -17,16 +17,16 @@ use crate::conditions::{test, test_apart};
 use crate::context::Context;
 use crate::functions::{call, pass};
 use crate::numbers::{numeric, numeric_apart};
-use crate::operations::value_with;
 use crate::places::place;
 use crate::strings::textual;
 use pawk_code::expression::{Argument, Expr, Place};
 use pawk_places::{
-    Run, give_back, give_back_target, leaf_copy, leaf_number, leaf_text, leaf_truth, leaf_value,
-    push_place_text, read_number, read_place, take_buffer, write_place,
+    Run, give_back, give_back_target, give_back_value, leaf_copy, leaf_number, leaf_text,
+    leaf_truth, leaf_value, push_place_text, read_number, read_place, take_buffer, value_with,
+    write_place,
 };
 use pawk_value::{
-    Fault, Held, Value, ValueRef, lend_held, push_text_lent, to_num_lent, truth_lent,
+    Fault, Held, Value, ValueRef, hold, lend, lend_held, push_text_lent, to_num_lent, truth_lent,
 };
 use pawk_world::{Halt, World};
 
@@ -70,7 +70,7 @@ pub(crate) fn eval<W: World>(
             }
         }
         Expr::Assign(to, a) => assign(context, depth, to, a, out, world, run),
-        Expr::Call(f, arguments) => invoke(context, depth, *f, arguments, out, world, run),
+        Expr::Call(f, arguments) => lay_call(context, depth, *f, arguments, out, world, run),
     }
 }
 
@@ -99,12 +99,33 @@ pub(crate) fn read<W: World>(
     Ok(held)
 }
 
-/// Calls a function with arguments, and lays its value down.
+/// Calls a function with arguments: its value.
 ///
 /// POSIX.1-2017, awk, "User-Defined Functions".
 #[cycle(evaluate)]
 #[inline(never)]
 pub(crate) fn invoke<W: World>(
+    context: Context<'_>,
+    depth: u64,
+    f: usize,
+    arguments: &[Argument],
+    world: &mut W,
+    run: &mut Run<'_>,
+) -> Result<Value, Halt>
+    ensures left { run.new.left ≤ run.old.left }
+    ensures outcome { Yields shown
+        (eval W.calls (eres_of context.entry) (enter_of W.calls context.entry depth)
+        (codes.call f (codes.arguments (argument_views arguments.now)))
+        (moment (W.state world.old) run.old)) result (moment (W.state world.new) run.new) }
+{
+    let values = pass(context, depth, arguments, world, run)?;
+    call(context, depth, f, values, world, run)
+}
+
+/// Calls a function with arguments, and lays its value down.
+#[cycle(evaluate)]
+#[inline(never)]
+pub(crate) fn lay_call<W: World>(
     context: Context<'_>,
     depth: u64,
     f: usize,
@@ -121,8 +142,58 @@ pub(crate) fn invoke<W: World>(
         (codes.call f (codes.arguments (argument_views arguments.now)))
         (moment (W.state world.old) run.old)) result (moment (W.state world.new) run.new) }
 {
-    let values = pass(context, depth, arguments, world, run)?;
-    call(context, depth, f, values, out, world, run)
+    let value = invoke(context, depth, f, arguments, world, run)?;
+    let held = hold(lend(&value), out)?;
+    give_back_value(&mut run.spare, value);
+    Ok(held)
+}
+
+/// The number of the value of a call, or the fault of its conversion.
+#[cycle(evaluate)]
+#[inline(never)]
+pub(crate) fn number_of_call<W: World>(
+    context: Context<'_>,
+    depth: u64,
+    f: usize,
+    arguments: &[Argument],
+    world: &mut W,
+    run: &mut Run<'_>,
+) -> Result<Result<i64, Fault>, Halt>
+    ensures left { run.new.left ≤ run.old.left }
+    ensures outcome { Yields (λ number. number)
+        (as_number (eval W.calls (eres_of context.entry) (enter_of W.calls context.entry depth)
+        (codes.call f (codes.arguments (argument_views arguments.now))))
+        (moment (W.state world.old) run.old)) result (moment (W.state world.new) run.new) }
+{
+    let value = invoke(context, depth, f, arguments, world, run)?;
+    let number = to_num_lent(lend(&value));
+    give_back_value(&mut run.spare, value);
+    Ok(number)
+}
+
+/// Appends the text of the value of a call.
+#[cycle(evaluate)]
+#[inline(never)]
+pub(crate) fn text_of_call<W: World>(
+    context: Context<'_>,
+    depth: u64,
+    f: usize,
+    arguments: &[Argument],
+    out: &mut Vec<u8>,
+    world: &mut W,
+    run: &mut Run<'_>,
+) -> Result<(), Halt>
+    ensures left { run.new.left ≤ run.old.left }
+    ensures outcome { Yields (λ _. out.new.items)
+        (as_text out.old.items
+        (eval W.calls (eres_of context.entry) (enter_of W.calls context.entry depth)
+        (codes.call f (codes.arguments (argument_views arguments.now))))
+        (moment (W.state world.old) run.old)) result (moment (W.state world.new) run.new) }
+{
+    let value = invoke(context, depth, f, arguments, world, run)?;
+    push_text_lent(lend(&value), out)?;
+    give_back_value(&mut run.spare, value);
+    Ok(())
 }
 
 /// Assigns the value of an expression to a place, and lays it down.
@@ -172,6 +243,7 @@ pub(crate) fn number<W: World>(
         Expr::Leaf(leaf) => leaf_number(leaf, world, run),
         Expr::Numeric(n) => Ok(Ok(numeric(context, depth, n, world, run)?)),
         Expr::Read(from) => number_at(context, depth, from, world, run),
+        Expr::Call(f, arguments) => number_of_call(context, depth, *f, arguments, world, run),
         e => number_of_value(context, depth, e, world, run),
     }
 }
@@ -295,6 +367,7 @@ pub(crate) fn text_into<W: World>(
         Expr::Leaf(leaf) => leaf_text(leaf, out, world, run),
         Expr::Textual(t) => textual(context, depth, t, out, world, run),
         Expr::Read(from) => text_at(context, depth, from, out, world, run),
+        Expr::Call(f, arguments) => text_of_call(context, depth, *f, arguments, out, world, run),
         e => text_of_value(context, depth, e, out, world, run),
     }
 }
@@ -396,6 +469,7 @@ pub(crate) fn value<W: World>(
                 value(context, depth, b, world, run)
             }
         }
+        Expr::Call(f, arguments) => invoke(context, depth, *f, arguments, world, run),
         e => value_apart(context, depth, e, world, run),
     }
 }
@@ -415,7 +489,7 @@ pub(crate) fn value_apart<W: World>(
         (eval W.calls (eres_of context.entry) (enter_of W.calls context.entry depth) (view e.now)
         (moment (W.state world.old) run.old)) result (moment (W.state world.new) run.new) }
 {
-    let mut bytes = Vec::new(run.alloc);
+    let mut bytes = take_buffer(run.alloc, &mut run.spare);
     let held = eval(context, depth, e, &mut bytes, world, run)?;
-    Ok(value_with(held, bytes))
+    Ok(value_with(&mut run.spare, held, bytes))
 }

@@ -2,8 +2,8 @@
 //!
 //! POSIX.1-2017, awk, "User-Defined Functions".
 
-ghost use Rattle.std.specs.Prelude.{◌≡◌, ◌≤◌, ◌++◌, [], OnOk};
-ghost use Rattle.pawk_value.specs.Held.{added, held_value};
+ghost use Rattle.std.specs.Prelude.{◌≤◌, []};
+ghost use Rattle.pawk_value.specs.Value.{shown};
 ghost use Rattle.pawk_code.specs.Expressions as codes;
 ghost use Rattle.pawk_code.specs.ExpressionViews.{argument_view, argument_views};
 ghost use Rattle.pawk_meaning.specs.Meaning.{argument_of, arguments_of};
@@ -16,8 +16,8 @@ use crate::expressions::value;
 use crate::operations::array_parameter;
 use crate::statements::execute;
 use pawk_code::expression::Argument;
-use pawk_places::{Parameter, Run, parameters, table_of, tick};
-use pawk_value::{Fault, Held, hold, lend};
+use pawk_places::{Parameter, Run, give_back_frame, parameters, table_of, take_frame, tick};
+use pawk_value::{Fault, Value};
 use pawk_world::{Halt, World};
 use std::mem;
 
@@ -37,7 +37,7 @@ pub(crate) fn pass<W: World>(
         (codes.arguments (argument_views arguments.now)) []
         (moment (W.state world.old) run.old)) result (moment (W.state world.new) run.new) }
 {
-    let mut values = Vec::new(run.alloc);
+    let mut values = take_frame(run.alloc, &mut run.frames);
     for argument in arguments {
         let value = parameter(context, depth, argument, world, run)?;
         values.push(value)?;
@@ -67,7 +67,7 @@ pub(crate) fn parameter<W: World>(
     }
 }
 
-/// Calls a function, where so many calls more may be nested, and lays its value down.
+/// Calls a function, where so many calls more may be nested: its value.
 ///
 /// Fault `depth` where none may.
 ///
@@ -79,14 +79,11 @@ pub(crate) fn call<W: World>(
     depth: u64,
     f: usize,
     arguments: Vec<Parameter>,
-    out: &mut Vec<u8>,
     world: &mut W,
     run: &mut Run<'_>,
-) -> Result<Held, Halt>
+) -> Result<Value, Halt>
     ensures left { run.new.left ≤ run.old.left }
-    ensures appended { OnOk result
-        (out.new.items ≡ out.old.items ++ added out.old.items out.new.items) }
-    ensures outcome { Yields (λ h. held_value h (added out.old.items out.new.items))
+    ensures outcome { Yields shown
         (enter_of W.calls context.entry depth f (holds_of arguments.items)
         (moment (W.state world.old) run.old)) result (moment (W.state world.new) run.new) }
 {
@@ -95,16 +92,16 @@ pub(crate) fn call<W: World>(
         return Err(Halt::Fault(Fault::Depth));
     }
     match context.function(f) {
-        None => Ok(Held::Uninit),
+        None => Ok(Value::Uninit),
         Some(function) => {
             let open = run.arrays.len();
             let fresh = parameters(run.alloc, arguments, &function.kinds, &mut run.arrays)?;
             let saved = mem::replace(&mut run.frame, fresh);
             let flow = execute(context, depth - 1, &function.body, world, run)?;
-            run.frame = saved;
+            let frame = mem::replace(&mut run.frame, saved);
+            give_back_frame(&mut run.spare, &mut run.frames, frame);
             run.arrays.truncate(open);
-            let value = flow.value();
-            Ok(hold(lend(&value), out)?)
+            Ok(flow.value())
         }
     }
 }

@@ -1,8 +1,7 @@
 //! What a part of a run does once its operands are evaluated.
 
 ghost use Rattle.std.specs.Prelude.{◌≡◌, ◌≤◌, ◌<◌, ◌^◌, [], pos, is_some, IfOk, IfSome};
-ghost use Rattle.pawk_value.specs.Value.{Text, shown};
-ghost use Rattle.pawk_value.specs.Held.{held_value};
+ghost use Rattle.pawk_value.specs.Value.{Text};
 ghost use Rattle.pawk_world.specs.Sums.{arith_by};
 ghost use Rattle.pawk_world.specs.Sums as spec;
 ghost use Rattle.pawk_code.specs.Expressions.{field};
@@ -25,7 +24,7 @@ use pawk_places::{
     Parameter, Run, Table, Target, give_back, put_text, read_place, take_buffer, variable_target,
     write_place,
 };
-use pawk_value::{Fault, Held, Op, Value, ValueRef, arith, lend_held, text_in};
+use pawk_value::{Fault, Op, Value, ValueRef, arith, lend_held, text_in};
 use pawk_world::{Halt, World};
 
 /// The operands of `sub` and `gsub`.
@@ -68,18 +67,6 @@ pub fn array_parameter(table: Table) -> Parameter
         Table::None => Parameter::Value(Value::Uninit),
         Table::Global(slot) => Parameter::Global(slot),
         Table::Local(number) => Parameter::Local(number),
-    }
-}
-
-/// The value of these bytes.
-pub fn value_with(held: Held, bytes: Vec<u8>) -> Value
-    ensures { shown result ≡ held_value held bytes.items }
-{
-    match held {
-        Held::Uninit => Value::Uninit,
-        Held::Num(number) => Value::Num(number),
-        Held::Text => Value::Text(bytes),
-        Held::Maybe => Value::Maybe(bytes),
     }
 }
 

@@ -48,6 +48,7 @@ pub fn opening_run<'a>(alloc: Global, job: Job<'_>) -> Result<Run<'a>, AllocErro
         left: job.budget,
         matchers: Matchers::new(alloc, job.code.expressions.len())?,
         spare: Vec::new(alloc),
+        frames: Vec::new(alloc),
     })
 }
 

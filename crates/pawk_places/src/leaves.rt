@@ -15,15 +15,15 @@ ghost use Rattle.pawk_places.specs.Moments.{holds_of, moment};
 ghost use Rattle.pawk_places.specs.Ready.{IsReady};
 ghost use Rattle.pawk_places.specs.Yields.{Yields};
 
-use crate::run::{Parameter, Run};
+use crate::run::{Parameter, Run, take_buffer, value_with};
 use itoa::Buffer;
 use pawk_builtins::index;
 use pawk_code::leaf::{Leaf, Special};
 use pawk_code::word::Relation;
 use pawk_store::RecordState;
 use pawk_value::{
-    Fault, Held, Op, Value, ValueRef, arith, compare_lent, copy_lent, hold, lend, push_text_lent,
-    text_in, to_num_lent, truth_lent,
+    Fault, Held, Op, Value, ValueRef, arith, compare_lent, hold, lend, push_text_lent, text_in,
+    to_num_lent, truth_lent,
 };
 use pawk_world::{Halt, World};
 use std::alloc::AllocError;
@@ -224,8 +224,13 @@ pub fn leaf_copy<W: World>(leaf: &Leaf, world: &W, run: &mut Run<'_>) -> Result<
     ensures outcome { Yields shown (value_of_leaf W.calls (leaf_view leaf.now)
         (moment (W.state world.now) run.old)) result (moment (W.state world.now) run.new) }
 {
+    if let Some(number) = plain_number(leaf, world, run) {
+        return Ok(Value::Num(number));
+    }
     prepare_leaf(leaf, &mut run.state)?;
-    Ok(copy_lent(run.alloc, lend_leaf(leaf, world, run))?)
+    let mut bytes = take_buffer(run.alloc, &mut run.spare);
+    let held = hold(lend_leaf(leaf, world, run), &mut bytes)?;
+    Ok(value_with(&mut run.spare, held, bytes))
 }
 
 /// How two leaves compare. Nothing is copied.

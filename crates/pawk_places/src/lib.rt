@@ -27,7 +27,10 @@ pub use outputs::{key_of_texts, print_alone, print_bytes, print_line, tick};
 pub use plain::{are_plain, print_plain};
 pub use quick::{quick_number, quick_numeric};
 pub use reading::{push_place_text, read_number, read_place};
-pub use run::{Parameter, Run, give_back, parameters, take_buffer};
+pub use run::{
+    Parameter, Run, give_back, give_back_frame, give_back_value, parameters, take_buffer,
+    take_frame, value_with,
+};
 pub use target::{Table, Target, element_target, give_back_target, table_of, variable_target};
 pub use writing::{
     add_to_field_key, add_to_key, add_to_number, add_to_place, change_place, put_text,

@@ -2,13 +2,15 @@
 
 ghost use Rattle.std.specs.Prelude.{◌≡◌, ◌++◌, ◌∷◌, [], List, IfOk};
 ghost use Rattle.pawk_meaning.specs.Parts.{Hold, entry_of, with_locals};
+ghost use Rattle.pawk_value.specs.Held.{held_value};
+ghost use Rattle.pawk_value.specs.Value.{shown};
 ghost use Rattle.pawk_places.specs.Moments.{hold_of, holds_of};
 
 use pawk_array::Array;
 use pawk_builtins::Matchers;
 use pawk_code::program::Kind;
 use pawk_store::RecordState;
-use pawk_value::Value;
+use pawk_value::{Held, Value};
 use std::alloc::{AllocError, Global};
 
 /// What a parameter of a function that runs holds.
@@ -37,6 +39,8 @@ pub struct Run<'a> {
     pub matchers: Matchers,
     /// Buffers that were given back.
     pub spare: Vec<Vec<u8>>,
+    /// The frames of calls that have ended.
+    pub frames: Vec<Vec<Parameter>>,
 }
 
 /// An empty buffer, if there is one that was given back.
@@ -59,6 +63,64 @@ pub fn take_buffer(alloc: Global, spare: &mut Vec<Vec<u8>>) -> Vec<u8>
 pub fn give_back(spare: &mut Vec<Vec<u8>>, buffer: Vec<u8>) {
     if spare.len() < 64 && buffer.capacity() > 0 {
         let _ = spare.push(buffer);
+    }
+}
+
+/// Gives the buffer of a value back, if it has one.
+pub fn give_back_value(spare: &mut Vec<Vec<u8>>, value: Value) {
+    match value {
+        Value::Text(bytes) | Value::Maybe(bytes) => give_back(spare, bytes),
+        Value::Uninit | Value::Num(_) => {}
+    }
+}
+
+/// The value of these bytes, whose buffer is given back where the value is none of bytes.
+pub fn value_with(spare: &mut Vec<Vec<u8>>, held: Held, bytes: Vec<u8>) -> Value
+    ensures { shown result ≡ held_value held bytes.items }
+{
+    match held {
+        Held::Text => Value::Text(bytes),
+        Held::Maybe => Value::Maybe(bytes),
+        Held::Num(number) => {
+            give_back(spare, bytes);
+            Value::Num(number)
+        }
+        Held::Uninit => {
+            give_back(spare, bytes);
+            Value::Uninit
+        }
+    }
+}
+
+/// An empty frame, in the room of a call that has ended, if there is one.
+pub fn take_frame(alloc: Global, frames: &mut Vec<Vec<Parameter>>) -> Vec<Parameter>
+    ensures { result.items ≡ [] }
+{
+    match frames.pop() {
+        Some(frame) => {
+            let mut frame = frame;
+            frame.clear();
+            frame
+        }
+        None => Vec::new(alloc),
+    }
+}
+
+/// Gives the frame of a call that has ended back, and the buffers of its values.
+#[inline(never)]
+pub fn give_back_frame(
+    spare: &mut Vec<Vec<u8>>,
+    frames: &mut Vec<Vec<Parameter>>,
+    frame: Vec<Parameter>,
+) {
+    let mut frame = frame;
+    for _ in 0..frame.len() {
+        if let Some(Parameter::Value(value)) = frame.pop() {
+            give_back_value(spare, value);
+        }
+    }
+    if frames.len() < 64 && frame.capacity() > 0 {
+        let _ = frames.push(frame);
     }
 }
 

@@ -26,14 +26,47 @@ use Rattle.pawk_eval.proofs.+evaluate.Goals as goal
 
 -- ---- nodes with rows
 
-pub expressions::eval-invoke-requires : goal.expressions::eval-invoke-requires
-expressions::eval-invoke-requires g t c =
+pub expressions::eval-lay_call-requires : goal.expressions::eval-lay_call-requires
+expressions::eval-lay_call-requires g t c =
     let is = call_shape c.args.e.now c.in-Call.f c.in-Call.arguments c.deref-in-Call.result.now c.in-Call.is c.deref-in-Call.ensures.value in
-    let falls : arguments_weight (arguments (argument_views c.deref-in-Call.result.now)) + 1 < weight (view c.args.e.now) = rw is (omega arith) in
+    let falls : arguments_weight (arguments (argument_views c.deref-in-Call.result.now)) + 2 < weight (view c.args.e.now) = rw is (omega arith) in
     search rules
 
 pub expressions::eval-returns-in-Call-clause-outcome : goal.expressions::eval-returns-in-Call-clause-outcome
 expressions::eval-returns-in-Call-clause-outcome g t c =
+    let is = call_shape c.args.e.now c.in-Call.f c.in-Call.arguments c.deref-in-Call.result.now c.in-Call.is c.deref-in-Call.ensures.value in
+    rw is c.lay_call.ensures.outcome
+
+pub expressions::number-number_of_call-requires : goal.expressions::number-number_of_call-requires
+expressions::number-number_of_call-requires g t c =
+    let is = call_shape c.args.e.now c.in-Call.f c.in-Call.arguments c.deref.result.now c.in-Call.is c.deref.ensures.value in
+    let falls : arguments_weight (arguments (argument_views c.deref.result.now)) + 2 < weight (view c.args.e.now) + 2 = rw is (omega arith) in
+    search rules
+
+pub expressions::number-returns-in-Call-clause-outcome : goal.expressions::number-returns-in-Call-clause-outcome
+expressions::number-returns-in-Call-clause-outcome g t c =
+    let is = call_shape c.args.e.now c.in-Call.f c.in-Call.arguments c.deref.result.now c.in-Call.is c.deref.ensures.value in
+    rw is c.number_of_call.ensures.outcome
+
+pub expressions::text_into-text_of_call-requires : goal.expressions::text_into-text_of_call-requires
+expressions::text_into-text_of_call-requires g t c =
+    let is = call_shape c.args.e.now c.in-Call.f c.in-Call.arguments c.deref.result.now c.in-Call.is c.deref.ensures.value in
+    let falls : arguments_weight (arguments (argument_views c.deref.result.now)) + 2 < weight (view c.args.e.now) + 2 = rw is (omega arith) in
+    search rules
+
+pub expressions::text_into-returns-in-Call-clause-outcome : goal.expressions::text_into-returns-in-Call-clause-outcome
+expressions::text_into-returns-in-Call-clause-outcome g t c =
+    let is = call_shape c.args.e.now c.in-Call.f c.in-Call.arguments c.deref.result.now c.in-Call.is c.deref.ensures.value in
+    rw is c.text_of_call.ensures.outcome
+
+pub expressions::value-invoke-requires : goal.expressions::value-invoke-requires
+expressions::value-invoke-requires g t c =
+    let is = call_shape c.args.e.now c.in-Call.f c.in-Call.arguments c.deref-in-Call.result.now c.in-Call.is c.deref-in-Call.ensures.value in
+    let falls : arguments_weight (arguments (argument_views c.deref-in-Call.result.now)) + 1 < weight (view c.args.e.now) + 2 = rw is (omega arith) in
+    search rules
+
+pub expressions::value-returns-in-Call-clause-outcome : goal.expressions::value-returns-in-Call-clause-outcome
+expressions::value-returns-in-Call-clause-outcome g t c =
     let is = call_shape c.args.e.now c.in-Call.f c.in-Call.arguments c.deref-in-Call.result.now c.in-Call.is c.deref-in-Call.ensures.value in
     rw is c.invoke.ensures.outcome
 
@@ -272,8 +305,8 @@ functions::call-returns-in_err-flow-in-Some-clause-outcome g t c =
     let stops : (h : Halt) → halt_of c.in_err-flow-in-Some.field-0.0 ≡ Some h → enter_of g.W.World.calls c.args.context c.args.depth c.args.f (holds_of c.args.arguments.items) (moment (g.W.World.state c.args.world.now) c.args.run.now) ≡ halts h (g.W.World.state c.execute.new.world) (state_of c.execute.new.run.state) c.execute.new.run.output.items = λ h is. rw (runs, c.in_err-flow-in-Some.ensures.outcome h is) in
     search rules
 
-pub functions::call-returns-in_ok-hold-in-Some-clause-outcome : goal.functions::call-returns-in_ok-hold-in-Some-clause-outcome
-functions::call-returns-in_ok-hold-in-Some-clause-outcome g t c =
+pub functions::call-returns-in_ok-flow-in-Some-clause-outcome : goal.functions::call-returns-in_ok-flow-in-Some-clause-outcome
+functions::call-returns-in_ok-flow-in-Some-clause-outcome g t c =
     let pos : 0 < c.args.depth = omega (arith, c.if-depth-eq0.false) in
     let m1 = moment (g.W.World.state c.args.world.now) c.tick.new.run in
     let e : Entry = record { frame = holds_of c.replace-saved.new.dest.items; arrays = c.parameters.new.arrays.items } in

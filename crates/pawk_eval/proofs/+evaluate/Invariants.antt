@@ -19,6 +19,15 @@ decreases-expressions::read g l = rank (functions_of l.context) l.depth (place_w
 abbrev pub decreases-expressions::invoke : goal.decreases-expressions::invoke
 decreases-expressions::invoke g l = rank (functions_of l.context) l.depth (arguments_weight (arguments (argument_views l.arguments.now)) + 1)
 
+abbrev pub decreases-expressions::lay_call : goal.decreases-expressions::lay_call
+decreases-expressions::lay_call g l = rank (functions_of l.context) l.depth (arguments_weight (arguments (argument_views l.arguments.now)) + 2)
+
+abbrev pub decreases-expressions::number_of_call : goal.decreases-expressions::number_of_call
+decreases-expressions::number_of_call g l = rank (functions_of l.context) l.depth (arguments_weight (arguments (argument_views l.arguments.now)) + 2)
+
+abbrev pub decreases-expressions::text_of_call : goal.decreases-expressions::text_of_call
+decreases-expressions::text_of_call g l = rank (functions_of l.context) l.depth (arguments_weight (arguments (argument_views l.arguments.now)) + 2)
+
 abbrev pub decreases-expressions::assign : goal.decreases-expressions::assign
 decreases-expressions::assign g l = rank (functions_of l.context) l.depth (place_weight (place_view l.to.now) + weight (view l.e.now) + 1)
 
