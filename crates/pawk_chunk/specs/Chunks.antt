@@ -12,7 +12,7 @@ use Rattle.pawk_admit.specs.Roles.{Roles, roles_view}
 use Rattle.pawk_frozen.specs.Frozens.{Frozen, begun, calls}
 use Rattle.pawk_meaning.specs.Records.{End, through}
 use Rattle.pawk_meaning.specs.Runs.{records_from}
-use Rattle.pawk_one.specs.Ends.{left_view}
+use Rattle.pawk_part.specs.Ends.{left_view}
 use Rattle.pawk_chunk.specs.declared.chunk.ChunkResult.{ChunkResult}
 use Rattle.pawk_chunk.specs.declared.chunk.Opening.{Opening as CodeOpening}
 

@@ -9,9 +9,9 @@ use Rattle.std.proofs.lemmas.List.FromFn.{length-range_with_len, get_or-range_wi
 use Rattle.pawk_input.specs.declared.cutting.Chunk.{Chunk}
 use Rattle.pawk_frozen.specs.Frozens.{Frozen}
 use Rattle.pawk_meaning.specs.Records.{End, through}
-use Rattle.pawk_one.specs.Ends.{left_view}
-use Rattle.pawk_one.specs.declared.left.Left.{Left}
-use Rattle.pawk_one.specs.declared.left.Left.TheVariants as left
+use Rattle.pawk_part.specs.Ends.{left_view}
+use Rattle.pawk_part.specs.declared.left.Left.{Left}
+use Rattle.pawk_part.specs.declared.left.Left.TheVariants as left
 use Rattle.pawk_chunk.specs.Chunks.{Leaves, AreResults}
 use Rattle.pawk_chunk.specs.declared.chunk.ChunkResult.{ChunkResult}
 use Rattle.pawk_crew.specs.Worker.{Numbered, IsResultIn, numbers, stops}

@@ -5,8 +5,8 @@ use Rattle.pawk_board.specs.History.{tells, sees}
 use Rattle.pawk_input.specs.declared.cutting.Chunk.{Chunk}
 use Rattle.pawk_frozen.specs.Frozens.{Frozen}
 use Rattle.pawk_meaning.specs.Records.{End}
-use Rattle.pawk_one.specs.declared.left.Left.{Left}
-use Rattle.pawk_one.specs.declared.left.Left.TheVariants as left
+use Rattle.pawk_part.specs.declared.left.Left.{Left}
+use Rattle.pawk_part.specs.declared.left.Left.TheVariants as left
 use Rattle.pawk_chunk.specs.Chunks.{Leaves}
 use Rattle.pawk_chunk.specs.declared.chunk.ChunkResult.{ChunkResult}
 use Rattle.pawk_crew.specs.Task.{end_in}

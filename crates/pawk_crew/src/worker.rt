@@ -9,7 +9,7 @@ use crate::task::Task;
 use pawk_board::{BoardSeat, Claim};
 use pawk_chunk::{ChunkResult, run_chunk};
 use pawk_labour::Gate;
-use pawk_one::Left;
+use pawk_part::Left;
 use std::alloc::{AllocError, Global};
 
 /// Whether no chunk after one that was left so is wanted.

@@ -10,7 +10,7 @@ ghost use Rattle.pawk_gather.specs.Results as results;
 
 use pawk_chunk::ChunkResult;
 use pawk_join::{JoinStop, Leaving, Merged, Part, merge};
-use pawk_one::Left;
+use pawk_part::Left;
 use pawk_store::{Globals, RecordState};
 use std::alloc::{AllocError, Global};
 

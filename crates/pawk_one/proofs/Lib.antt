@@ -1,3 +1,2 @@
 pub mod FinishLemmas
-pub mod LeftLemmas
 pub mod RunLemmas

@@ -13,18 +13,18 @@ ghost use Rattle.pawk_meaning.specs.Runs.{records_from, ends_from, behind_begin}
 ghost use Rattle.pawk_meaning.specs.Runs.{behind_records, records_by_rs};
 ghost use Rattle.pawk_eval.specs.Contexts.{eres_of, functions_of};
 ghost use Rattle.pawk_meaning.specs.Runs as spec;
-ghost use Rattle.pawk_one.specs.declared.left.Left.TheVariants.{Through};
-ghost use Rattle.pawk_one.specs.Ends.{Finishes, end_view, finish_view, left_view};
+ghost use Rattle.pawk_part.specs.declared.left.Left.TheVariants.{Through};
+ghost use Rattle.pawk_part.specs.Ends.{end_view, left_view};
+ghost use Rattle.pawk_one.specs.Ends.{Finishes, finish_view};
 ghost use Rattle.pawk_one.specs.Ends as ends;
 
 use crate::ending::{Ending, Place};
 use crate::finish::Finish;
-use crate::left::Left;
-use crate::part::{actions, record};
 use itoa::Buffer;
 use pawk_code::program::Code;
 use pawk_eval::Context;
 use pawk_input::{Input, Item, Records};
+use pawk_part::{Left, actions, record};
 use pawk_places::Run;
 use pawk_value::{Fault, text_in};
 use pawk_world::World;

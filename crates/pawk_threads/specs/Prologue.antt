@@ -5,7 +5,8 @@ use Rattle.pawk_input.specs.Input.{File}
 use Rattle.pawk_store.specs.Globals.{Globals, calls}
 use Rattle.pawk_meaning.specs.Records.{End, through}
 use Rattle.pawk_meaning.specs.Runs.{behind_begin, take_separator}
-use Rattle.pawk_one.specs.Ends.{Answers, end_view}
+use Rattle.pawk_part.specs.Ends.{end_view}
+use Rattle.pawk_one.specs.Ends.{Answers}
 use Rattle.pawk_one.specs.declared.outcome.Outcome.{Outcome}
 use Rattle.pawk_threads.specs.Routes.{IsRoute, separator_of}
 use Rattle.pawk_threads.specs.declared.prologue.Prologue.{Prologue}

@@ -8,7 +8,8 @@ ghost use Rattle.pawk_meaning.specs.Runs.{behind_records};
 ghost use Rattle.pawk_meaning.specs.Outputs.{in_a_row};
 ghost use Rattle.pawk_join.specs.MergeViews.{leaving_view};
 ghost use Rattle.pawk_join.specs.MergeViews as merges;
-ghost use Rattle.pawk_one.specs.Ends.{Answers, left_view};
+ghost use Rattle.pawk_part.specs.Ends.{left_view};
+ghost use Rattle.pawk_one.specs.Ends.{Answers};
 ghost use Rattle.pawk_gather.specs.Gathered.{behind_output};
 
 use crate::prologue::Prologue;

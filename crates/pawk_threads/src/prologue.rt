@@ -6,7 +6,8 @@ ghost use Rattle.pawk_input.specs.Input.{files_of};
 ghost use Rattle.pawk_store.specs.Globals.{calls};
 ghost use Rattle.pawk_store.specs.Openings.{pairs_of};
 ghost use Rattle.pawk_meaning.specs.Runs as spec;
-ghost use Rattle.pawk_one.specs.Ends.{Answers, left_view};
+ghost use Rattle.pawk_part.specs.Ends.{left_view};
+ghost use Rattle.pawk_one.specs.Ends.{Answers};
 ghost use Rattle.pawk_threads.specs.Prologue.{end_of};
 ghost use Rattle.pawk_threads.specs.Routes.{HasRecords, begin_end};
 

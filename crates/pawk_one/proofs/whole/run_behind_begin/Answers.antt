@@ -4,7 +4,7 @@ use Rattle.pawk_input.specs.Input.{files_of}
 use Rattle.pawk_meaning.specs.Runs.{behind_begin}
 use Rattle.pawk_one.specs.declared.ending.Ending.TheVariants as ending
 use Rattle.pawk_one.specs.declared.ending.Place.TheVariants as place
-use Rattle.pawk_one.specs.Ends.{end_view, left_view}
+use Rattle.pawk_part.specs.Ends.{end_view, left_view}
 use Rattle.pawk_one.proofs.FinishLemmas.{finishes}
 use Rattle.pawk_one.proofs.whole.run_behind_begin.Goals as goal
 

@@ -5,10 +5,11 @@ use Rattle.pawk_store.specs.Slots.{rs_slot}
 use Rattle.pawk_value.specs.Conversion.{text_of}
 use Rattle.pawk_value.specs.Fault.TheVariants as faults
 use Rattle.pawk_meaning.specs.Runs.{records_from}
-use Rattle.pawk_one.specs.declared.left.Left.TheVariants.{Through}
+use Rattle.pawk_part.specs.declared.left.Left.TheVariants.{Through}
 use Rattle.pawk_one.specs.declared.ending.Ending.TheVariants as ending
 use Rattle.pawk_one.specs.declared.ending.Place.TheVariants as place
-use Rattle.pawk_one.specs.Ends.{end_view, finish_view}
+use Rattle.pawk_part.specs.Ends.{end_view}
+use Rattle.pawk_one.specs.Ends.{finish_view}
 use Rattle.pawk_one.proofs.FinishLemmas.{finishes, rs_faults, rs_goes}
 use Rattle.pawk_one.proofs.whole.run_input.Goals as goal
 

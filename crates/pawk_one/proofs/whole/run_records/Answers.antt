@@ -3,7 +3,7 @@ use Rattle.pawk_code.specs.ProgramViews.{code_view}
 use Rattle.pawk_input.specs.Input.{item_of}
 use Rattle.pawk_meaning.specs.Records.{one_record, run_part}
 use Rattle.pawk_meaning.specs.Runs.{records_from}
-use Rattle.pawk_one.specs.Ends.{end_view}
+use Rattle.pawk_part.specs.Ends.{end_view}
 use Rattle.pawk_one.proofs.RunLemmas.{last_record, next_record}
 use Rattle.pawk_one.proofs.whole.run_records.Goals as goal
 

@@ -2,8 +2,8 @@ use Rattle.std.proofs.Common.{◌≡◌, None}
 use Rattle.pawk_code.specs.ProgramViews.{code_view}
 use Rattle.pawk_input.specs.Walk.{items_left}
 use Rattle.pawk_meaning.specs.Runs.{records_from}
-use Rattle.pawk_one.specs.declared.left.Left.TheVariants.{Through}
-use Rattle.pawk_one.specs.Ends.{end_view}
+use Rattle.pawk_part.specs.declared.left.Left.TheVariants.{Through}
+use Rattle.pawk_part.specs.Ends.{end_view}
 use Rattle.pawk_one.proofs.whole.run_records.Given as goal
 
 -- from where the walk is, the records that are left end as all of them do

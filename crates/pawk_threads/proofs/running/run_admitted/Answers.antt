@@ -5,7 +5,7 @@ use Rattle.pawk_store.specs.Globals.{Globals}
 use Rattle.pawk_meaning.specs.Records.{End}
 use Rattle.pawk_meaning.specs.Runs.{take_separator}
 use Rattle.pawk_admit.specs.Roles.{roles_view}
-use Rattle.pawk_one.specs.Ends.{end_view, left_view}
+use Rattle.pawk_part.specs.Ends.{end_view, left_view}
 use Rattle.pawk_threads.specs.Prologue.{Goes, end_of}
 use Rattle.pawk_threads.specs.Routes.{separator_of}
 use Rattle.pawk_threads.specs.declared.report.Route.TheVariants.{Parallel}

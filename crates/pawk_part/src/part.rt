@@ -8,7 +8,7 @@ ghost use Rattle.pawk_eval.specs.Contexts.{eres_of, functions_of};
 ghost use Rattle.pawk_meaning.specs.Records.{one_record, opening_moment, run_part};
 ghost use Rattle.pawk_meaning.specs.Records as spec;
 ghost use Rattle.pawk_places.specs.Moments.{moment};
-ghost use Rattle.pawk_one.specs.Ends.{EndsBy, end_view};
+ghost use Rattle.pawk_part.specs.Ends.{EndsBy, end_view};
 
 use crate::left::{Left, left_by};
 use crate::rules::{do_actions, do_rules, read_record};

@@ -2,8 +2,8 @@ use Rattle.std.proofs.Common.{refl}
 use Rattle.pawk_world.specs.declared.halt.Halt.TheVariants as code
 use Rattle.pawk_world.specs.Halts as halt
 use Rattle.pawk_places.specs.Moments.{moment}
-use Rattle.pawk_one.proofs.LeftLemmas.{end_of_halt_by}
-use Rattle.pawk_one.proofs.left.left_of.Goals as goal
+use Rattle.pawk_part.proofs.LeftLemmas.{end_of_halt_by}
+use Rattle.pawk_part.proofs.left.left_of.Goals as goal
 
 pub returns-in-Fault : goal.returns-in-Fault
 returns-in-Fault g c = λ outcome y. end_of_halt_by outcome c.args.halt (code.Fault c.in-Fault.fault) (halt.fault c.in-Fault.fault) (moment (g.W.World.state c.args.world.now) c.args.run.now) c.in-Fault.is refl y

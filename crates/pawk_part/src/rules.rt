@@ -8,7 +8,7 @@ ghost use Rattle.pawk_input.specs.Input.{item_of};
 ghost use Rattle.pawk_eval.specs.Contexts.{eres_of, functions_of};
 ghost use Rattle.pawk_places.specs.Moments.{moment};
 ghost use Rattle.pawk_places.specs.Yields.{Yields};
-ghost use Rattle.pawk_one.specs.Ends.{EndsBy};
+ghost use Rattle.pawk_part.specs.Ends.{EndsBy};
 ghost use Rattle.pawk_meaning.specs.Records.{holds, does, reads, begins, in_range, selects, rules_from, does_rule, actions};
 
 use crate::limits::GREATEST_CALLS;

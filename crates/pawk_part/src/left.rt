@@ -4,7 +4,7 @@ ghost use Rattle.std.specs.Prelude.{◌≡◌, IfOk};
 ghost use Rattle.pawk_places.specs.Moments.{moment};
 ghost use Rattle.pawk_meaning.specs.Parts.{Outcome};
 ghost use Rattle.pawk_meaning.specs.Records.{end_of};
-ghost use Rattle.pawk_one.specs.Ends.{EndsBy, HaltsBy, end_view};
+ghost use Rattle.pawk_part.specs.Ends.{EndsBy, HaltsBy, end_view};
 
 use pawk_places::Run;
 use pawk_value::Fault;

@@ -3,7 +3,7 @@ use Rattle.pawk_code.specs.ProgramViews.{rule_view}
 use Rattle.pawk_eval.specs.Contexts.{eres_of, functions_of}
 use Rattle.pawk_places.specs.Moments.{moment}
 use Rattle.pawk_meaning.specs.Records.{rules_from}
-use Rattle.pawk_one.proofs.rules.do_rules.Given as goal
+use Rattle.pawk_part.proofs.rules.do_rules.Given as goal
 
 -- the rules that are left do what all of them do
 abbrev pub invariant-loop-number : goal.invariant-loop-number

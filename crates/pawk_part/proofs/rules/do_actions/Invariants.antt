@@ -3,7 +3,7 @@ use Rattle.pawk_code.specs.ProgramViews.{body_view}
 use Rattle.pawk_eval.specs.Contexts.{eres_of, functions_of}
 use Rattle.pawk_places.specs.Moments.{moment}
 use Rattle.pawk_meaning.specs.Records.{actions}
-use Rattle.pawk_one.proofs.rules.do_actions.Given as goal
+use Rattle.pawk_part.proofs.rules.do_actions.Given as goal
 
 -- the actions that are left do what all of them do
 abbrev pub invariant-loop-body : goal.invariant-loop-body

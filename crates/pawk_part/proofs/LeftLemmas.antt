@@ -4,7 +4,7 @@ use Rattle.pawk_world.specs.declared.halt.Halt.{Halt as Code}
 use Rattle.pawk_world.specs.Halts.{Halt, halt_of}
 use Rattle.pawk_meaning.specs.Parts.{Moment, Outcome}
 use Rattle.pawk_meaning.specs.Records.{end_of, end_of_halt}
-use Rattle.pawk_one.specs.Ends.{HaltsBy}
+use Rattle.pawk_part.specs.Ends.{HaltsBy}
 
 -- the end of a part that halted so
 pub end_of_halt_by : {S : Type 0} (outcome : Outcome S (Unit {0})) (r e : Code) (h : Halt) (m : Moment S) → r ≡ e → halt_of e ≡ Some h → HaltsBy outcome r m → end_of outcome ≡ end_of_halt h m.world m.state m.output

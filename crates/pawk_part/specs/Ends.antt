@@ -1,0 +1,35 @@
+-- What a part of a run leaves, as the code has it.
+use Rattle.std.specs.Prelude.{◌≡◌, Some, Result, Ok, Err}
+use Rattle.pawk_store.specs.StateViews.{state_of}
+use Rattle.pawk_places.specs.declared.run.Run.{Run}
+use Rattle.pawk_world.specs.declared.halt.Halt.{Halt as Code}
+use Rattle.pawk_world.specs.Halts.{Halt, halt_of}
+use Rattle.pawk_meaning.specs.Parts.{Moment, Outcome, gives, halts}
+use Rattle.pawk_meaning.specs.Records.{Left as Leaving, through, next_file, exit, fault, clash, End}
+use Rattle.pawk_part.specs.declared.left.Left.{Left}
+use Rattle.pawk_part.specs.declared.left.Left.TheVariants as left
+
+abbrev pub left_view : Left → Leaving
+left_view left.Through = through
+left_view left.NextFile = next_file
+left_view (left.Exit n) = exit n
+left_view (left.Fault f) = fault f
+left_view left.Clash = clash
+
+abbrev pub end_view : {S : Type 0} → S → Run → Left → End S
+end_view world run left = record {
+  world = world;
+  state = state_of run.state;
+  output = run.output.items;
+  left = left_view left;
+}
+
+module _ {S : Type 0} where
+  -- a part halted so at this moment; where memory was refused nothing is said
+  abbrev pub HaltsBy : Outcome S (Unit {0}) → Code → Moment S → Type 0
+  HaltsBy outcome e m = (h : Halt) → halt_of e ≡ Some h → outcome ≡ halts h m.world m.state m.output
+
+  -- a part ended so at this moment
+  abbrev pub EndsBy : Outcome S (Unit {0}) → Result (Unit {0}) Code → Moment S → Type 0
+  EndsBy outcome (Ok t) m = outcome ≡ gives tt m
+  EndsBy outcome (Err e) m = HaltsBy outcome e m
