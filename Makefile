@@ -44,13 +44,10 @@ bench: build
 	@test -e $(BENCH_DATA)/suite/values.txt || bench/records $(BENCH_DATA)/suite
 	bench/run $(BENCH_DATA)
 	bench/workers $(BENCH_DATA)
-	cd crates/pawk_ere_bench && rt run </dev/null
+	cd crates/pawk_bench && rt run </dev/null
 	bench/expressions $(BENCH_DATA)
 	@test -e $(BENCH_DATA)/paragraphs.txt || bench/words $(BENCH_DATA)
-	cd crates/pawk_split_bench && rt run </dev/null
 	bench/fields $(BENCH_DATA)
-	cd crates/pawk_record_bench && rt run </dev/null
-	cd crates/pawk_array_bench && rt run </dev/null
 	bench/keys $(BENCH_DATA)
 	bench/suite $(BENCH_DATA)/suite
 

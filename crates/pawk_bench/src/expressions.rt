@@ -1,11 +1,10 @@
-// Counts the lines of a file that an expression matches, as `awk '/e/ { n++ } END { print n }'` does, and tells the time.
-#![tactic(auto)]
+//! Counts the lines of a file that an expression matches, as `awk '/e/ { n++ } END { print n }'` does, and tells the time.
 
-use memchr::memchr;
+use crate::shared::{milliseconds_since, print_usage, split_line};
 use pawk_ere::{Ere, Matcher};
 use std::alloc::AllocError;
 use std::time::Instant;
-use std::{env, fs, io};
+use std::{fs, io};
 
 /// What is asked of a line.
 #[derive(Clone, Copy)]
@@ -35,14 +34,6 @@ impl Tally {
             count: self.count.wrapping_add(1),
             ends: self.ends.wrapping_add(end as u64),
         }
-    }
-}
-
-/// What follows the byte at a place.
-fn after(text: &[u8], place: usize) -> &[u8] {
-    match text.split_at_checked(place) {
-        Some((_, [_, rest @ ..])) => rest,
-        _ => &[],
     }
 }
 
@@ -101,14 +92,11 @@ fn search_lines(
     let mut tally = Tally::NONE;
     let mut rest = text;
     for _ in 0..u64::MAX {
-        let Some(end) = memchr(b'\n', rest) else {
-            break;
-        };
-        let Some(line) = rest.get(..end) else {
+        let Some((line, later)) = split_line(rest) else {
             break;
         };
         tally = search(matcher, question, line, tally)?;
-        rest = after(rest, end);
+        rest = later;
     }
     Ok(tally)
 }
@@ -122,7 +110,7 @@ fn measure(
 ) -> io::Result<()> {
     let start = Instant::now(rt)?;
     let tally = search_lines(matcher, question, text)?;
-    let milliseconds = start.elapsed(rt)?.as_millis();
+    let milliseconds = milliseconds_since(rt, start)?;
     let (count, ends) = (tally.count, tally.ends);
     match question {
         Question::Find => println!(rt; "{count} lines, sum {ends}, {milliseconds} ms to find"),
@@ -139,19 +127,19 @@ fn measure_all(rt: &HostRuntime, matcher: &mut Matcher, text: &[u8]) -> io::Resu
     Ok(())
 }
 
-/// Measures an expression over the bytes of a file.
-fn run(rt: &HostRuntime, pattern: &[u8], text: &[u8]) -> io::Result<()> {
-    match Ere::parse(rt.alloc(), pattern) {
+/// Measures an expression over a text.
+fn measure_expression(rt: &HostRuntime, expression: &[u8], text: &[u8]) -> io::Result<()> {
+    match Ere::parse(rt.alloc(), expression) {
         Err(why) => println!(rt; "refused: {why}"),
         Ok(ere) => measure_all(rt, &mut Matcher::new(rt.alloc(), &ere)?, text),
     }
 }
 
-fn main(rt: HostRuntime) -> io::Result<()> {
-    let mut args = env::args(&rt)?.skip(1);
-    let (Some(pattern), Some(path)) = (args.next(), args.next()) else {
-        return println!(rt; "usage: pawk_ere_bench EXPRESSION FILE");
+/// Measures an expression over the bytes of a file, as the words say.
+pub fn run(rt: &HostRuntime, words: &[String]) -> io::Result<()> {
+    let [expression, path, ..] = words else {
+        return print_usage(rt, "expressions EXPRESSION FILE");
     };
-    let text = fs::read(&rt, path.as_str())?;
-    run(&rt, pattern.as_bytes(), &text)
+    let text = fs::read(rt, path.as_str())?;
+    measure_expression(rt, expression.as_bytes(), &text)
 }

@@ -1,13 +1,13 @@
-// Counts the fields of a file's records, as `awk '{ n += NF } END { print n }'` does, by one of the calls of pawk_split.
-#![tactic(auto)]
+//! Counts the fields of a file's records, as `awk '{ n += NF } END { print n }'` does, by one of the calls of pawk_split.
 
+use crate::shared::print_usage;
 use pawk_ere::Cache;
 use pawk_records::Separator;
 use pawk_split::{append_fields, count_fields_by, split_fields_with};
 use pawk_value::Stop;
-use std::alloc::Global;
+use std::alloc::{AllocError, Global};
 use std::ops::Range;
-use std::{env, fs, io};
+use std::{fs, io};
 
 /// How the fields of a record are counted, always with a cache.
 #[derive(Clone, Copy)]
@@ -44,6 +44,23 @@ struct Counter<'a> {
 }
 
 impl<'a> Counter<'a> {
+    /// The counter by a call, with an empty cache.
+    fn new(
+        alloc: Global,
+        call: Call,
+        fs: &'a [u8],
+        paragraph: bool,
+    ) -> Result<Counter<'a>, AllocError> {
+        Ok(Counter {
+            alloc,
+            call,
+            fs,
+            paragraph,
+            cache: Cache::with(alloc, 8)?,
+            ranges: Vec::new(alloc),
+        })
+    }
+
     /// How many fields a record has.
     fn count(&mut self, record: &[u8]) -> Result<usize, Stop> {
         match self.call {
@@ -92,18 +109,9 @@ impl<'a> Counter<'a> {
     }
 }
 
-/// Counts the fields of a file's records.
-fn run(rt: &HostRuntime, call: Call, fs: &str, path: &str, paragraph: bool) -> io::Result<()> {
-    let text = fs::read(rt, path)?;
-    let mut counter = Counter {
-        alloc: rt.alloc(),
-        call,
-        fs: fs.as_bytes(),
-        paragraph,
-        cache: Cache::with(rt.alloc(), 8)?,
-        ranges: Vec::new(rt.alloc()),
-    };
-    match counter.count_all(&text) {
+/// Prints the number of fields, or why it was not found.
+fn print_count(rt: &HostRuntime, answer: Result<u64, Stop>) -> io::Result<()> {
+    match answer {
         Ok(count) => println!(rt; "{count}"),
         Err(Stop::Fault(fault)) => {
             let name = fault.name();
@@ -113,13 +121,25 @@ fn run(rt: &HostRuntime, call: Call, fs: &str, path: &str, paragraph: bool) -> i
     }
 }
 
-fn main(rt: HostRuntime) -> io::Result<()> {
-    let mut args = env::args(&rt)?.skip(1);
-    if let (Some(name), Some(fs), Some(path)) = (args.next(), args.next(), args.next()) {
+/// Counts the fields of a text's records, and prints their number.
+fn measure(
+    rt: &HostRuntime,
+    call: Call,
+    fs: &[u8],
+    paragraph: bool,
+    text: &[u8],
+) -> io::Result<()> {
+    let mut counter = Counter::new(rt.alloc(), call, fs, paragraph)?;
+    print_count(rt, counter.count_all(text))
+}
+
+/// Counts the fields of a file's records, as the words say.
+pub fn run(rt: &HostRuntime, words: &[String]) -> io::Result<()> {
+    if let [name, fs, path, rest @ ..] = words {
         if let Some(call) = Call::of(name.as_str()) {
-            let paragraph = args.next().is_some();
-            return run(&rt, call, fs.as_str(), path.as_str(), paragraph);
+            let text = fs::read(rt, path.as_str())?;
+            return measure(rt, call, fs.as_bytes(), !rest.is_empty(), &text);
         }
     }
-    println!(rt; "usage: pawk_split_bench count|split|append FS FILE [paragraph]")
+    print_usage(rt, "fields count|split|append FS FILE [paragraph]")
 }
