@@ -4,3 +4,5 @@ pub mod FieldsLawLemmas
 pub mod SplitLemmas
 pub mod WordLanes
 pub mod EndLanes
+pub mod BlockBits
+pub mod WordBits

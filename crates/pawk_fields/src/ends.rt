@@ -5,13 +5,7 @@ ghost use Rattle.std.specs.List.{prefix_len};
 ghost use Rattle.pawk_fields.specs.Fields.{is_not_blank};
 
 use crate::blanks::word_length;
-use std::simd::prelude::*;
-
-/// How many bytes are looked at side by side.
-const LANES: usize = 16;
-
-/// The bit behind those of the lanes, where any word ends.
-const BEHIND: u64 = 65_536;
+use crate::blocks::{BEHIND, LANES, lane_blanks};
 
 /// How many bytes that are no blanks follow one another, of those that are looked at side by side
 /// from a place on, the first ones skipped.
@@ -22,10 +16,7 @@ fn lane_run(text: &[u8], place: usize, skip: usize) -> usize
     ensures { result
         ≡ prefix_len is_not_blank (drop skip (take LANES (drop place text.now))) }
 {
-    let here = u8x16::from_slice(&text[place..]);
-    let is_blank = here.simd_eq(u8x16::splat(b' '))
-        | (here.simd_eq(u8x16::splat(b'\t')) | here.simd_eq(u8x16::splat(b'\n')));
-    let bits = is_blank.to_bitmask() + BEHIND;
+    let bits = lane_blanks(text, place) + BEHIND;
     (bits >> skip).trailing_zeros() as usize
 }
 

@@ -1,9 +1,9 @@
 -- Fields that stand in a line with OFS between them, and an assignment to one of them there.
-use Rattle.std.proofs.Common.{◌≡◌, ℕ, zero, suc, ◌+◌, ◌-◌, ◌*◌, ◌^◌, ◌<◌, ◌≤◌, min, arith, List, [], ◌∷◌, ◌++◌, length, set, replicate, map, drop, take, Some, None, Result, Ok, Err, length-drop, refl, sym, ap, subst, ◌∙◌, append_assoc, append-nil, length-append}
+use Rattle.std.proofs.Common.{◌≡◌, ℕ, zero, suc, ◌+◌, ◌-◌, ◌<◌, ◌≤◌, min, arith, List, [], ◌∷◌, ◌++◌, length, set, replicate, map, drop, take, Some, None, Result, Ok, Err, length-drop, refl, sym, ap, subst, ◌∙◌, append_assoc, append-nil, length-append}
 use Rattle.std.proofs.lemmas.List.{drop_at, take_at, take_rest, set_at, set_split, drop-set-lt, map-set, take-append-drop}
 use Rattle.std.proofs.lemmas.List.Edits.{length-between}
 use Rattle.std.proofs.lemmas.List.Folds.{drop_split}
-use Rattle.std.specs.Prelude.{OnOk, slice_get, slice_index_or, slice_range}
+use Rattle.std.specs.Prelude.{OnOk, slice_get, slice_index_or}
 use Rattle.std.specs.declared.ops.Range.{Range}
 use Rattle.pawk_fields.specs.FieldSeparator.{range_of}
 use Rattle.pawk_scalar.specs.Conversion.{text_of}
@@ -12,7 +12,7 @@ use Rattle.pawk_record.specs.declared.layout.Kind.{Kind}
 use Rattle.pawk_record.specs.declared.layout.Kind.TheVariants as kinds
 use Rattle.pawk_record.specs.declared.layout.Layout.{Layout}
 use Rattle.pawk_record.specs.Lines.{Adds, AreJoined, AreJoinedTo, IsBehind, IsJoined, IsLaidOut, MovesEnd, Replaces, before_at, bytes_in, exchanged, kind_of, moved, places_from, values, values_of}
-use Rattle.pawk_record.specs.Records.{joined, joined_from, padded, with_value}
+use Rattle.pawk_record.specs.Records.{joined, joined_from, with_value}
 use Rattle.pawk_record.proofs.LaidLemmas.{laid_values}
 
 -- ---- lists

@@ -159,9 +159,13 @@ impl Layout {
         ensures kinds { self.new.kinds.items ≡ [] }
         ensures apart { self.new.is_joined ≡ false }
     {
-        self.text.clear();
+        if !self.text.is_empty() {
+            self.text.clear();
+        }
         self.ranges.clear();
-        self.kinds.clear();
+        if !self.kinds.is_empty() {
+            self.kinds.clear();
+        }
         self.is_joined = false;
     }
 

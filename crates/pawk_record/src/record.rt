@@ -1,6 +1,6 @@
 //! The record and its fields.
 
-ghost use Rattle.std.specs.Prelude.{◌≡◌, ◌≤◌, length, Some, None, Ok, Err, [], IfErr, IfOk, OnOk};
+ghost use Rattle.std.specs.Prelude.{◌≡◌, ◌≤◌, length, Some, None, Ok, Err, [], IfErr, IfOk, IfSome, OnOk};
 ghost use Rattle.pawk_scalar.specs.Value.{lent_value};
 ghost use Rattle.pawk_split.specs.FieldsOf.{IfFault};
 ghost use Rattle.pawk_record.specs.Lines.{line_of};
@@ -172,6 +172,17 @@ impl<'a> Record<'a> {
         ensures { result ≡ length self.now.record_now.fields }
     {
         self.here.ranges.len()
+    }
+
+    /// How many fields there are (`NF`), if all were looked for.
+    #[inline]
+    pub fn found_count(&self) -> Option<usize>
+        ensures { IfSome result (λ count. count ≡ length self.now.record_now.fields) }
+    {
+        match self.next {
+            Some(_) => None,
+            None => Some(self.here.ranges.len()),
+        }
     }
 
     /// Assigns a value to the field with index `n`, from 1 on. Past the last field there are uninitialised ones up to it.

@@ -9,7 +9,7 @@ ghost use Rattle.pawk_split.specs.FieldWalks.{most_left};
 ghost use Rattle.pawk_record.specs.Splitting.{IsBy, IsSplitter, first_place, left, ranges_or_none};
 
 use pawk_ere::Matcher;
-use pawk_fields::FieldSeparator;
+use pawk_fields::{FieldSeparator, find_words};
 use pawk_split::{append_fields, byte_separator, expression_matcher};
 use pawk_value::{Fault, Stop};
 use std::alloc::{AllocError, Global};
@@ -99,8 +99,8 @@ fn find_until(
 }
 
 /// The same. The place stands in a register meanwhile.
-#[inline]
-fn find_fields(
+#[inline(never)]
+fn find_each(
     separator: FieldSeparator,
     text: &[u8],
     ranges: &mut Vec<Range<usize>>,
@@ -118,6 +118,28 @@ fn find_fields(
     let answer = find_until(separator, text, ranges, &mut place, count);
     *next = place;
     answer
+}
+
+/// The same. Between blanks many fields are looked for at once.
+#[inline(always)]
+fn find_fields(
+    separator: FieldSeparator,
+    text: &[u8],
+    ranges: &mut Vec<Range<usize>>,
+    next: &mut Option<usize>,
+    count: usize,
+) -> Result<(), AllocError>
+    requires { ForSome next.old (λ p. p ≤ length text.now) }
+    ensures same { ranges.new.items ++ map range_of (ranges_from separator text.now next.new)
+        ≡ ranges.old.items ++ map range_of (ranges_from separator text.now next.old) }
+    ensures within { ForSome next.new (λ p. p ≤ length text.now) }
+    ensures enough { OnOk result ((count ≤ length ranges.new.items) ⊎ (next.new ≡ None)) }
+    ensures more { length ranges.old.items ≤ length ranges.new.items }
+{
+    match separator {
+        FieldSeparator::Blanks => find_words(text, ranges, next, count),
+        _ => find_each(separator, text, ranges, next, count),
+    }
 }
 
 /// Adds the ranges of all fields by an expression.
@@ -143,6 +165,14 @@ fn find_all(
     }
 }
 
+/// Whether two texts are the same.
+#[inline(never)]
+fn are_same(a: &[u8], b: &[u8]) -> bool
+    ensures { result ≡ true → a.now ≡ b.now }
+{
+    a == b
+}
+
 /// What separates the fields of records: by an FS, and in paragraph mode.
 #[derive(Drop)]
 pub(crate) struct Splitter {
@@ -163,13 +193,19 @@ impl Splitter {
         }
     }
 
-    /// Whether it is one of this FS.
-    #[inline]
+    /// Whether it is one of this FS. An FS of one byte, the usual one, is compared at once.
+    #[inline(always)]
     fn is_of(&self, fs: &[u8], paragraph: bool) -> bool
         ensures { result ≡ true
             → (self.now.fs.items ≡ fs.now) × (self.now.paragraph ≡ paragraph) }
     {
-        self.paragraph == paragraph && self.fs.as_slice() == fs
+        if self.paragraph != paragraph {
+            return false;
+        }
+        match (self.fs.as_slice(), fs) {
+            ([old], [byte]) => old == byte,
+            (old, _) => are_same(old, fs),
+        }
     }
 
     /// One of an FS.
@@ -203,8 +239,29 @@ impl Splitter {
         }
     }
 
+    /// Makes it one of the FS for a record that has fields by it. Fault `fs` or `ere` where it has none; then the splitter
+    /// stays.
+    #[inline(never)]
+    fn refit(&mut self, alloc: Global, fs: &[u8], paragraph: bool, text: &[u8]) -> Result<(), Stop>
+        requires { IsSplitter self.old }
+        ensures right { IsSplitter self.new }
+        ensures fields { OnOk result (fields_of fs.now paragraph text.now
+            ≡ Ok (left self.new text.now (first_place text.now))) }
+        ensures fault { IfErr result (λ stop. IfFault stop
+            (λ fault. fields_of fs.now paragraph text.now ≡ Err fault)) }
+        ensures refused { OnErr result (self.new ≡ self.old) }
+    {
+        let fresh = Splitter::with(alloc, fs, paragraph)?;
+        if let Some(fault) = fresh.fault(text) {
+            return Err(Stop::Fault(fault));
+        }
+        *self = fresh;
+        Ok(())
+    }
+
     /// Makes it one of the FS, unless it is one, for a record that has fields by it. Fault `fs` or `ere` where it has none;
     /// then the splitter stays.
+    #[inline]
     pub(crate) fn fit(
         &mut self,
         alloc: Global,
@@ -220,18 +277,13 @@ impl Splitter {
             (λ fault. fields_of fs.now paragraph text.now ≡ Err fault)) }
         ensures refused { OnErr result (self.new ≡ self.old) }
     {
-        if self.is_of(fs, paragraph) {
-            return match self.fault(text) {
-                Some(fault) => Err(Stop::Fault(fault)),
-                None => Ok(()),
-            };
+        if !self.is_of(fs, paragraph) {
+            return self.refit(alloc, fs, paragraph, text);
         }
-        let fresh = Splitter::with(alloc, fs, paragraph)?;
-        if let Some(fault) = fresh.fault(text) {
-            return Err(Stop::Fault(fault));
+        match self.fault(text) {
+            Some(fault) => Err(Stop::Fault(fault)),
+            None => Ok(()),
         }
-        *self = fresh;
-        Ok(())
     }
 
     /// Looks for fields of a record from the next one on, until there are so many or none is left. What was found and what is

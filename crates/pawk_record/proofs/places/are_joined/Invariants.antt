@@ -1,4 +1,3 @@
-use Rattle.std.proofs.Common.{◌≡◌}
 use Rattle.pawk_record.specs.Lines.{AreJoinedTo}
 use Rattle.pawk_record.proofs.places.are_joined.Given as goal
 

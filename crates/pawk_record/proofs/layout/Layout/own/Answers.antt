@@ -1,7 +1,7 @@
 use Rattle.std.proofs.Common.{◌≡◌, ◌++◌, ◌∙◌, ap, refl, sym, subst, List, [], ◌∷◌, ℕ, length, arith, eqb-true, vec_len}
 use Rattle.std.specs.declared.ops.Range.{Range}
 use Rattle.pawk_record.specs.declared.layout.Kind.{Kind}
-use Rattle.pawk_record.specs.Lines.{AreJoined, IsJoined, IsLaidOut, line_of, values_of}
+use Rattle.pawk_record.specs.Lines.{AreJoined, IsLaidOut, line_of, values_of}
 use Rattle.pawk_record.proofs.JoinLemmas.{outside_laid, own_values}
 use Rattle.pawk_record.proofs.layout.Layout.own.Goals as goal
 

@@ -1,13 +1,13 @@
-use Rattle.std.proofs.Common.{◌≡◌, ◌<◌, ◌≤◌, ◌++◌, ◌∙◌, true, false, ℕ, None, Some, Ok, Err, arith, ap, sym, refl, length, map, subst, List, Bool}
+use Rattle.std.proofs.Common.{◌≡◌, ◌<◌, ◌≤◌, ◌++◌, ◌∙◌, true, false, ℕ, None, Some, Ok, Err, arith, ap, sym, refl, length, map, subst, Bool}
 use Rattle.std.proofs.lemmas.Result.{err_from_is_err_and}
 use Rattle.pawk_fields.specs.FieldSeparator.{range_of}
-use Rattle.pawk_scalar.specs.Value.{Val, lent_value}
+use Rattle.pawk_scalar.specs.Value.{lent_value}
 use Rattle.pawk_value.specs.Fault.{Fault}
 use Rattle.pawk_value.specs.Fault.TheVariants.{Length}
 use Rattle.pawk_record.specs.Lines.{IsJoined, IsLaidOut, line_of, values, values_of}
 use Rattle.pawk_record.specs.Records.{Record, SplitRecord, joined, with_field, with_value}
 use Rattle.pawk_record.specs.Splitting.{left}
-use Rattle.pawk_record.specs.Views.{record_of, text_of}
+use Rattle.pawk_record.specs.Views.{record_of}
 use Rattle.pawk_record.specs.declared.layout.Layout.{Layout}
 use Rattle.pawk_record.proofs.JoinLemmas.{joined_of}
 use Rattle.pawk_record.proofs.SplittingLemmas.{fault_map}
