@@ -13,6 +13,7 @@ use pawk_value::{Fault, Stop};
 use std::alloc::Global;
 
 /// Whether the matcher of a text is there.
+#[inline(always)]
 fn has_matcher(slot: &Option<Loan>, ere: &[u8]) -> bool
     requires { IfSome slot.now IsOfItsText }
     ensures { result ≡ true → IsSomeAnd slot.now (λ loan. IsOfText ere.now loan.matcher) }
@@ -34,8 +35,24 @@ fn read_loan(alloc: Global, ere: &[u8]) -> Result<Loan, Stop>
     Ok(Loan { text, matcher })
 }
 
+/// Reads the matcher of a text into a place; fault `ere` where the text spells no expression. After an `Err` the
+/// place is as before.
+#[inline(never)]
+fn put_matcher(slot: &mut Option<Loan>, alloc: Global, ere: &[u8]) -> Result<(), Stop>
+    requires { IfSome slot.old IsOfItsText }
+    ensures slot { IfSome slot.new IsOfItsText }
+    ensures matcher { OnOk result
+        (IsSomeAnd slot.new (λ loan. IsOfText ere.now loan.matcher)) }
+    ensures fault { IfErr result (TellsNone ere.now) }
+{
+    let loan = read_loan(alloc, ere)?;
+    *slot = Some(loan);
+    Ok(())
+}
+
 /// Reads the matcher of a text into a place, unless it is there; fault `ere` where the text spells no
 /// expression. After an `Err` the place is as before.
+#[inline(always)]
 pub(crate) fn fill_slot(slot: &mut Option<Loan>, alloc: Global, ere: &[u8]) -> Result<(), Stop>
     requires { IfSome slot.old IsOfItsText }
     ensures slot { IfSome slot.new IsOfItsText }
@@ -46,9 +63,7 @@ pub(crate) fn fill_slot(slot: &mut Option<Loan>, alloc: Global, ere: &[u8]) -> R
     if has_matcher(slot, ere) {
         return Ok(());
     }
-    let loan = read_loan(alloc, ere)?;
-    *slot = Some(loan);
-    Ok(())
+    put_matcher(slot, alloc, ere)
 }
 
 /// What is found in a text by the matcher in a place, which is read if it is not there.

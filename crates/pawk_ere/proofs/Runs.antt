@@ -2,7 +2,7 @@
 use Rattle.std.proofs.Common.{◌≡◌, ℕ, zero, suc, ◌+◌, ◌-◌, ◌*◌, ◌<◌, ◌≤◌, Bool, List, length, get_or, Option, Some, None, IfSome, refl, sym, subst, ⊎_elim, arith}
 use Rattle.std.proofs.lemmas.Bool.{cases_lt}
 use Rattle.pawk_pattern.specs.Pattern.{Holds, IsFound}
-use Rattle.pawk_ere.specs.Runs.{AllHold, IsRun}
+use Rattle.pawk_ere.specs.Runs.{AllHold, IsRun, NoneHolds}
 use Rattle.pawk_machine.proofs.Leftmost.{found_none, found_first}
 use Rattle.pawk_machine.specs.Regex.{Regex, Empty, Bytes, Sequence, Takes, copies}
 
@@ -48,6 +48,10 @@ run_copies a members (suc n) x f =
 abbrev pub NoRun : List Bool → List ℕ → ℕ → ℕ → ℕ → Type 0
 NoRun members s count low high = (k : ℕ) → low ≤ k → k < high → AllHold members s k (k + count) → ⊥
 
+-- where no byte belongs to the set no run of one starts
+no_run_of_one : (members : List Bool) (s : List ℕ) (low high : ℕ) → NoneHolds members s low high → NoRun members s 1 low high
+no_run_of_one members s low high none k ge lt all = none k ge lt (all k (omega arith) (omega arith)).1
+
 -- a byte of another kind ends each run that starts before it
 pub no_run_over : (members : List Bool) (s : List ℕ) (count low start place : ℕ) → NoRun members s count low start → place < start + count → (Holds members (get_or s place 0) → ⊥) → NoRun members s count low (place + 1)
 no_run_over members s count low start place before near other k ge lt all = ⊎_elim
@@ -69,6 +73,19 @@ run_none e members s count from start some within' short before is = found_none 
     (λ l. before k ge l (subst (AllHold members s k) x.1 x.0))
     (λ r. let y = x.0 ((k + count) - 1) (omega arith) (omega (arith, x.1)) in let z = y.0 in omega arith)
     (cases_lt k start))
+
+-- a byte of the set behind others is the leftmost match
+pub one_some : (e : Regex) (members : List Bool) (s : List ℕ) (from place : ℕ) → from ≤ place → place < length s → Holds members (get_or s place 0) → NoneHolds members s from place → IsRun e members 1 → IsFound (Takes e s) from (Some (place, place + 1))
+one_some e members s from place le lt here before is = run_some e members s 1 from place le
+    (no_run_of_one members s from place before)
+    (λ k ge below.
+    let same : k ≡ place = omega arith in
+    subst (λ x. (x < length s) × Holds members (get_or s x 0)) (sym same) (lt, here))
+    is
+
+pub one_none : (e : Regex) (members : List Bool) (s : List ℕ) (from : ℕ) → from ≤ length s → NoneHolds members s from (length s) → IsRun e members 1 → IsFound (Takes e s) from None
+one_none e members s from within' none is =
+    run_none e members s 1 from (length s) (omega arith) (omega arith) (omega arith) (no_run_of_one members s from (length s) none) is
 
 pub map_some : {A : Type 0} (P Q : A → Type 0) (r : Option A) → ((x : A) → P x → Q x) → IfSome r P → IfSome r Q
 map_some P Q None f h = tt

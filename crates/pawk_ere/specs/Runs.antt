@@ -7,6 +7,10 @@ use Rattle.pawk_pattern.specs.Pattern.{Holds}
 abbrev pub AllHold : List Bool → List ℕ → ℕ → ℕ → Type 0
 AllHold members s i j = (k : ℕ) → i ≤ k → k < j → (k < length s) × Holds members (get_or s k 0)
 
+-- no byte from one place up to another belongs to the set
+abbrev pub NoneHolds : List Bool → List ℕ → ℕ → ℕ → Type 0
+NoneHolds members s i j = (k : ℕ) → i ≤ k → k < j → Holds members (get_or s k 0) → ⊥
+
 -- it matches so many bytes of the set and nothing else
 abbrev pub IsRun : Regex → List Bool → ℕ → Type 0
 IsRun e members count = (s : List ℕ) (i j : ℕ) → Takes e s i j ↔ (AllHold members s i j × (j ≡ i + count))

@@ -1,7 +1,7 @@
 // Searches for an expression that is so many bytes of one set and nothing else.
 
 ghost use Rattle.pawk_machine.specs.Members.{members_of};
-ghost use Rattle.pawk_ere.specs.Runs.{AllHold, IsRun};
+ghost use Rattle.pawk_ere.specs.Runs.{AllHold, IsRun, NoneHolds};
 ghost use Rattle.pawk_machine.specs.Regex.{Regex, Takes};
 ghost use Rattle.pawk_machine.specs.Tree.{regex_of};
 ghost use Rattle.pawk_pattern.specs.Pattern.{HasMatch, Holds, IsFound};
@@ -52,6 +52,36 @@ fn last_other(set: &Members, text: &[u8], low: usize, high: usize) -> Option<usi
     None
 }
 
+/// The first place from `from` on whose byte belongs to the set, if there is one.
+fn first_member(set: &Members, text: &[u8], from: usize) -> Option<usize>
+    requires { from ≤ length text.now }
+    ensures { MatchOption result
+        (NoneHolds (members_of set.now) text.now from (length text.now))
+        (λ place. (from ≤ place) × (place < length text.now)
+        × Holds (members_of set.now) (slice_index text.now place)
+        × NoneHolds (members_of set.now) text.now from place) }
+{
+    let mut place = from;
+    while place < text.len() {
+        if set.contains(text[place]) {
+            return Some(place);
+        }
+        place += 1;
+    }
+    None
+}
+
+/// The leftmost match of an expression that matches one byte of the set and nothing else.
+fn search_one(set: &Members, text: &[u8], from: usize) -> Option<(usize, usize)>
+    requires { from ≤ length text.now }
+    ensures { (e : Regex) → IsRun e (members_of set.now) 1 → IsFound (Takes e text.now) from result }
+{
+    match first_member(set, text, from) {
+        None => None,
+        Some(place) => Some((place, place + 1)),
+    }
+}
+
 /// The leftmost match of an expression that matches `count` bytes of the set and nothing else. No byte is read more than
 /// twice: a byte of another kind ends each match that starts before it.
 pub fn search_run(set: &Members, count: usize, text: &[u8], from: usize) -> Option<(usize, usize)>
@@ -59,6 +89,9 @@ pub fn search_run(set: &Members, count: usize, text: &[u8], from: usize) -> Opti
     requires within { from ≤ length text.now }
     ensures { (e : Regex) → IsRun e (members_of set.now) count → IsFound (Takes e text.now) from result }
 {
+    if count == 1 {
+        return search_one(set, text, from);
+    }
     let mut start = from;
     while count <= text.len() - start {
         match last_other(set, text, start, start + count) {

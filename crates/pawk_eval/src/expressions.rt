@@ -21,9 +21,9 @@ use crate::places::place;
 use crate::strings::textual;
 use pawk_code::expression::{Argument, Expr, Place};
 use pawk_places::{
-    Run, give_back, give_back_target, give_back_value, leaf_copy, leaf_number, leaf_text,
-    leaf_truth, leaf_value, push_place_text, read_number, read_place, take_buffer, value_with,
-    write_place,
+    Run, give_back, give_back_target, give_back_value, leaf_copy, leaf_text, leaf_truth,
+    leaf_value, lent_number, plain_test, plain_value, push_place_text, read_number, read_place,
+    take_buffer, value_with, write_place,
 };
 use pawk_value::{
     Fault, Held, Value, ValueRef, hold, lend, lend_held, push_text_lent, to_num_lent, truth_lent,
@@ -239,8 +239,11 @@ pub(crate) fn number<W: World>(
         (view e.now))
         (moment (W.state world.old) run.old)) result (moment (W.state world.new) run.new) }
 {
+    if let Some(number) = plain_value(e, world, run) {
+        return Ok(Ok(number));
+    }
     match e {
-        Expr::Leaf(leaf) => leaf_number(leaf, world, run),
+        Expr::Leaf(leaf) => lent_number(leaf, world, run),
         Expr::Numeric(n) => Ok(Ok(numeric(context, depth, n, world, run)?)),
         Expr::Read(from) => number_at(context, depth, from, world, run),
         Expr::Call(f, arguments) => number_of_call(context, depth, *f, arguments, world, run),
@@ -312,6 +315,9 @@ pub fn truth<W: World>(
         (view e.now))
         (moment (W.state world.old) run.old)) result (moment (W.state world.new) run.new) }
 {
+    if let Some(holds) = plain_test(e, world, run) {
+        return Ok(Ok(holds));
+    }
     match e {
         Expr::Leaf(leaf) => leaf_truth(leaf, world, run),
         Expr::Test(t) => Ok(Ok(test(context, depth, t, world, run)?)),
@@ -457,6 +463,9 @@ pub(crate) fn value<W: World>(
         (eval W.calls (eres_of context.entry) (enter_of W.calls context.entry depth) (view e.now)
         (moment (W.state world.old) run.old)) result (moment (W.state world.new) run.new) }
 {
+    if let Some(number) = plain_value(e, world, run) {
+        return Ok(Value::Num(number));
+    }
     match e {
         Expr::Leaf(leaf) => leaf_copy(leaf, world, run),
         Expr::Numeric(n) => Ok(Value::Num(numeric(context, depth, n, world, run)?)),

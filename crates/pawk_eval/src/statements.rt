@@ -43,10 +43,10 @@ use pawk_code::name::Array;
 use pawk_code::statement::{Leave, Simple, Statement};
 use pawk_code::word::Sign;
 use pawk_places::{
-    Run, Table, add_to_field_key, add_to_key, add_to_number, add_to_place, are_plain,
-    assign_in_place, clear_array, element_target, give_back, give_back_target, leaf_number,
-    plain_number, print_alone, print_bytes, print_line, print_plain, remove_element, set_at_number,
-    table_of, take_buffer, tick, write_place,
+    Run, Table, add_to_field_key, add_to_key, add_to_number, add_to_parameter, add_to_place,
+    are_plain, assign_in_place, clear_array, element_target, give_back, give_back_target,
+    leaf_number, plain_number, print_alone, print_bytes, print_line, print_plain, remove_element,
+    set_at_number, table_of, take_buffer, tick, write_place,
 };
 use pawk_value::{Value, ValueRef, lend_held};
 use pawk_world::{Halt, World};
@@ -284,6 +284,9 @@ pub(crate) fn tally<W: World>(
 {
     if let Place::Global(slot) = to {
         return world.add_scalar(*slot, sign, Ok(1));
+    }
+    if let Place::Local(number) = to {
+        return add_to_parameter(sign, *number, Ok(1), world, run);
     }
     if let Place::Element(array, keys) = to {
         return tally_element(context, depth, sign, *array, keys, world, run);

@@ -14,11 +14,13 @@ ghost use Rattle.pawk_places.specs.Moments.{moment};
 ghost use Rattle.pawk_places.specs.Appending.{IsAssigned};
 
 use crate::plain::push_plain;
+use crate::quick::plain_value;
 use crate::run::{Run, give_back, take_buffer};
+use crate::writing::set_parameter_number;
 use itoa::Buffer;
 use pawk_code::expression::{Expr, Place, Textual};
 use pawk_code::leaf::Leaf;
-use pawk_value::{LENGTH_LIMIT, text_in};
+use pawk_value::{LENGTH_LIMIT, ValueRef, text_in};
 use pawk_world::{Halt, World};
 
 /// The operands of a concatenation, if it is one.
@@ -112,8 +114,36 @@ fn append<W: World>(
     Ok(all)
 }
 
-/// Assigns an expression to a place in the place's own room, where the place is a global, the expression the
-/// concatenation of that global and others behind it, and each of these is found without an effect; else
+/// Assigns a number that is one already to a variable, else nothing changes. Says whether it was assigned.
+#[inline(always)]
+fn assign_plain<W: World>(
+    to: &Place,
+    e: &Expr,
+    world: &mut W,
+    run: &mut Run<'_>,
+) -> Result<bool, Halt>
+    ensures left { run.new.left ≤ run.old.left }
+    ensures outcome { IsAssigned W.calls (place_view to.now) (view e.now)
+        (moment (W.state world.old) run.old) result (moment (W.state world.new) run.new) }
+{
+    let Some(number) = plain_value(e, world, run) else {
+        return Ok(false);
+    };
+    match to {
+        Place::Global(slot) => {
+            world.set_scalar(*slot, ValueRef::Num(number))?;
+            Ok(true)
+        }
+        Place::Local(place) => {
+            set_parameter_number(*place, number, world, run)?;
+            Ok(true)
+        }
+        _ => Ok(false),
+    }
+}
+
+/// Assigns an expression to a place in the place's own room: a number that is one already, or, where the place is a
+/// global, the concatenation of that global and others behind it, each of which is found without an effect; else
 /// nothing changes. Says whether it was assigned. The text of the global is not copied.
 ///
 /// POSIX.1-2017, awk, "Expressions in awk" (concatenation, assignment).
@@ -135,5 +165,5 @@ pub fn assign_in_place<W: World>(
             }
         }
     }
-    Ok(false)
+    assign_plain(to, e, world, run)
 }

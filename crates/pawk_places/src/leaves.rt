@@ -95,6 +95,7 @@ pub fn plain_number<W: World>(leaf: &Leaf, world: &W, run: &Run<'_>) -> Option<i
         Leaf::Local(number) => number_in(lend_parameter(run.frame.as_slice(), *number)),
         Leaf::Special(Special::Nr) => i64::try_from(run.state.nr).ok(),
         Leaf::Special(Special::Fnr) => i64::try_from(run.state.fnr).ok(),
+        Leaf::Special(Special::Nf) => i64::try_from(run.state.line.found_count()?).ok(),
         _ => None,
     }
 }
@@ -133,7 +134,7 @@ pub fn leaf_number<W: World>(
 
 /// The number of a leaf, as [`leaf_number`], which is looked for.
 #[inline(never)]
-pub(crate) fn lent_number<W: World>(
+pub fn lent_number<W: World>(
     leaf: &Leaf,
     world: &W,
     run: &mut Run<'_>,

@@ -21,11 +21,12 @@ pub use arrays::{
 };
 pub use leaves::{
     arithmetic_behind, compare_leaves, compare_number, leaf_copy, leaf_length, leaf_number,
-    leaf_text, leaf_truth, leaf_value, place_in, place_in_leaf, plain_number, related_numbers,
+    leaf_text, leaf_truth, leaf_value, lent_number, place_in, place_in_leaf, plain_number,
+    related_numbers,
 };
 pub use outputs::{key_of_texts, print_alone, print_bytes, print_line, tick};
 pub use plain::{are_plain, print_plain};
-pub use quick::{quick_number, quick_numeric};
+pub use quick::{plain_test, plain_value, quick_number, quick_numeric};
 pub use reading::{push_place_text, read_number, read_place};
 pub use run::{
     Parameter, Run, give_back, give_back_frame, give_back_value, parameters, take_buffer,
@@ -33,6 +34,6 @@ pub use run::{
 };
 pub use target::{Table, Target, element_target, give_back_target, table_of, variable_target};
 pub use writing::{
-    add_to_field_key, add_to_key, add_to_number, add_to_place, change_place, put_text,
-    set_at_number, set_match_place, write_place,
+    add_to_field_key, add_to_key, add_to_number, add_to_parameter, add_to_place, change_place,
+    put_text, set_at_number, set_match_place, write_place,
 };

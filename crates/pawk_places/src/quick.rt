@@ -4,16 +4,16 @@
 
 ghost use Rattle.std.specs.Prelude.{◌≡◌, ◌≤◌, ℕ, List, Ok, IfSome};
 ghost use Rattle.pawk_value.specs.Conversion.{num_of};
-ghost use Rattle.pawk_value.specs.Value.{Val};
+ghost use Rattle.pawk_value.specs.Value.{Num, Val};
 ghost use Rattle.pawk_code.specs.ExpressionViews.{leaf_view, numeric_view, view};
 ghost use Rattle.pawk_code.specs.Expressions.{length_of};
 ghost use Rattle.pawk_meaning.specs.Meaning.{eval, function_of, leaf_value, number_of};
-ghost use Rattle.pawk_meaning.specs.Parts.{Hold, Part, as_number, gives};
+ghost use Rattle.pawk_meaning.specs.Parts.{Hold, Part, as_number, as_truth, gives};
 ghost use Rattle.pawk_places.specs.Moments.{moment};
 
-use crate::leaves::{leaf_length, lent_number, plain_number};
+use crate::leaves::{leaf_length, lent_number, plain_number, related_numbers};
 use crate::run::Run;
-use pawk_code::expression::{Expr, Numeric, NumericFunction};
+use pawk_code::expression::{Expr, Numeric, NumericFunction, Test};
 use pawk_code::leaf::Leaf;
 use pawk_value::arith;
 use pawk_world::World;
@@ -98,6 +98,58 @@ fn quick_length<W: World>(e: &Expr, world: &W, run: &mut Run<'_>) -> Option<i64>
             Ok(length) => Some(length),
             Err(_) => None,
         },
+        _ => None,
+    }
+}
+
+/// The number that the value of an expression is, if it is a leaf for which nothing has to be looked for.
+#[inline(always)]
+fn plain_leaf<W: World>(e: &Expr, world: &W, run: &Run<'_>) -> Option<i64>
+    ensures { IfSome result (λ number. (eres : List (List ℕ))
+        → (enter : ℕ → List Hold → Part W.State Val)
+        → eval W.calls eres enter (view e.now) (moment (W.state world.now) run.now)
+        ≡ gives (Num number) (moment (W.state world.now) run.now)) }
+{
+    match e {
+        Expr::Leaf(leaf) => plain_number(leaf, world, run),
+        _ => None,
+    }
+}
+
+/// The number that the value of an expression is, if it is a leaf for which nothing has to be looked for, or an
+/// operation on two such leaves without a fault; then no moment changes.
+#[inline(always)]
+pub fn plain_value<W: World>(e: &Expr, world: &W, run: &Run<'_>) -> Option<i64>
+    ensures { IfSome result (λ number. (eres : List (List ℕ))
+        → (enter : ℕ → List Hold → Part W.State Val)
+        → eval W.calls eres enter (view e.now) (moment (W.state world.now) run.now)
+        ≡ gives (Num number) (moment (W.state world.now) run.now)) }
+{
+    match e {
+        Expr::Leaf(leaf) => plain_number(leaf, world, run),
+        Expr::Numeric(Numeric::Arithmetic(op, a, b)) => {
+            let x = plain_leaf(a, world, run)?;
+            let y = plain_leaf(b, world, run)?;
+            arith(*op, x, y).ok()
+        }
+        _ => None,
+    }
+}
+
+/// The truth of an expression that compares two numbers of [`plain_value`]; none where it is another.
+#[inline(always)]
+pub fn plain_test<W: World>(e: &Expr, world: &W, run: &Run<'_>) -> Option<bool>
+    ensures { IfSome result (λ holds. (eres : List (List ℕ))
+        → (enter : ℕ → List Hold → Part W.State Val)
+        → as_truth (eval W.calls eres enter (view e.now)) (moment (W.state world.now) run.now)
+        ≡ gives (Ok holds) (moment (W.state world.now) run.now)) }
+{
+    match e {
+        Expr::Test(Test::Compare(relation, a, b)) => {
+            let x = plain_value(a, world, run)?;
+            let y = plain_value(b, world, run)?;
+            Some(related_numbers(*relation, x, y))
+        }
         _ => None,
     }
 }

@@ -31,7 +31,7 @@ use crate::target::{Table, Target, element_target};
 use itoa::Buffer;
 use pawk_code::word::Sign;
 use pawk_value::{
-    Fault, LENGTH_LIMIT, Op, ValueRef, arith, assign, copy_lent, text_in, to_num_lent,
+    Fault, LENGTH_LIMIT, Op, Value, ValueRef, arith, assign, copy_lent, text_in, to_num_lent,
 };
 use pawk_world::{Halt, World};
 use std::alloc::{AllocError, Global};
@@ -67,6 +67,42 @@ fn set_parameter(
     if number < frame.len() {
         assign_parameter(alloc, &mut frame[number], value)?;
     }
+    Ok(())
+}
+
+/// Gives a parameter a number.
+#[inline(always)]
+fn become_number(parameter: &mut Parameter, number: i64)
+    ensures { hold_of parameter.new ≡ parts.value (Num number) }
+{
+    *parameter = Parameter::Value(Value::Num(number));
+}
+
+/// Gives the parameter of a place in a frame a number, if there is one.
+#[inline(always)]
+fn put_number(frame: &mut Vec<Parameter>, place: usize, number: i64)
+    ensures { holds_of frame.new.items
+        ≡ slice_set (holds_of frame.old.items) place (parts.value (Num number)) }
+{
+    if place < frame.len() {
+        become_number(&mut frame[place], number);
+    }
+}
+
+/// Assigns a number to a parameter.
+#[inline(always)]
+pub(crate) fn set_parameter_number<W: World>(
+    place: usize,
+    number: i64,
+    world: &W,
+    run: &mut Run<'_>,
+) -> Result<(), Halt>
+    ensures left { run.new.left ≤ run.old.left }
+    ensures outcome { Yields (λ _. tt)
+        (write_at W.calls (parameter place) (Num number)
+        (moment (W.state world.now) run.old)) result (moment (W.state world.now) run.new) }
+{
+    put_number(&mut run.frame, place, number);
     Ok(())
 }
 
@@ -177,7 +213,7 @@ fn op_of(sign: Sign) -> Op
 
 /// Adds an amount to a parameter, or takes it away, as [`change_place`] does; the value is dropped.
 #[inline(never)]
-fn add_to_parameter<W: World>(
+pub fn add_to_parameter<W: World>(
     sign: Sign,
     number: usize,
     amount: Result<i64, Fault>,
@@ -192,7 +228,7 @@ fn add_to_parameter<W: World>(
     let old = to_num_lent(lend_parameter(run.frame.as_slice(), number))?;
     let amount = amount?;
     let new = arith(op_of(sign), old, amount)?;
-    set_parameter(run.alloc, &mut run.frame, number, ValueRef::Num(new))?;
+    put_number(&mut run.frame, number, new);
     Ok(())
 }
 
