@@ -19,9 +19,13 @@ all: build
 toolchain:
 	$(if $(shell command -v rt 2>/dev/null),@:,$(error the command rt of the Rattle kit is missing on PATH))
 
-# The check keeps its work in crates/*/out, so a build without a change takes a few seconds. Running the program with
-# --version is how rt is asked to build it.
-build: toolchain
+# What the program is proved and built from, and more.
+SOURCES = crates.txt $(shell find crates -name out -prune -o -name '*.rt' -print -o -name '*.antt' -print)
+
+build: build/pawk
+
+# The check keeps its work in crates/*/out. Running the program with --version is how rt is asked to build it.
+build/pawk: $(SOURCES) | toolchain
 	cd crates/pawk && rt run -- --version </dev/null
 	@$(MAKE) fetch
 

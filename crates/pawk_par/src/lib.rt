@@ -8,14 +8,14 @@ mod request;
 mod streaming;
 mod writing;
 
-pub use pawk_chunk::{ChunkResult, Opening, run_chunk};
-pub use pawk_crew::{Chunked, Task, work};
 pub use pawk_device::{Failed, Reader, Sink, Source, Writer};
-pub use pawk_gather::merge_results;
 pub use pawk_one::{Ending, Job, Left, Outcome, Place};
 pub use pawk_settings::SettingsRefusal;
 pub use pawk_syntax::SyntaxRefusal;
-pub use pawk_threads::{Cutting, Gate, Open, Refusal, Report, Route, Way, run};
+pub use pawk_threads::{
+    ChunkResult, Chunked, Cutting, Gate, Open, Opening, Refusal, Report, Route, Task, Way,
+    merge_results, run, run_chunk, work,
+};
 pub use refusal::StreamRefusal;
 pub use request::Request;
 pub use streaming::run_streams;
