@@ -8,7 +8,7 @@ use Rattle.std.proofs.Crossing.{crosses}
 use Rattle.pawk_code.proofs.Sharing.{code_row_sync}
 use Rattle.pawk_input.proofs.files.Input.TheSendSync as input
 use Rattle.pawk_input.specs.contracts.files.Input as Input
-use Rattle.pawk_one.specs.contracts.whole.Job as Job
+use Rattle.pawk_part.specs.contracts.job.Job as Job
 use Rattle.pawk.specs.contracts.deep.Division as Division
 use Rattle.pawk_settings.specs.contracts.assignment.Assignment as Assignment
 

@@ -15,7 +15,7 @@ use pawk_admit::Roles;
 use pawk_builtins::Matchers;
 use pawk_frozen::{Frozen, Table};
 use pawk_input::{Input, Plan, Records};
-use pawk_one::{Job, Left, run_records};
+use pawk_part::{Job, Left, run_records};
 use pawk_places::Run;
 use pawk_record::Record;
 use pawk_store::{Globals, RecordState};

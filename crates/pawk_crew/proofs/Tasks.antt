@@ -2,7 +2,7 @@
 use denote.Ref.{NamedLft}
 use denote.Param.Send.{IsSend, IsSync, sendable}
 use Rattle.std.proofs.Crossing.{crosses}
-use Rattle.pawk_one.specs.contracts.whole.Job as Job
+use Rattle.pawk_part.specs.contracts.job.Job as Job
 use Rattle.pawk_chunk.specs.contracts.chunk.Opening as Opening
 use Rattle.pawk_chunk.specs.contracts.chunk.ChunkResult as ChunkResult
 use Rattle.pawk_crew.specs.contracts.task.Chunked as Chunked

@@ -1,2 +1,1 @@
 pub mod FinishLemmas
-pub mod RunLemmas

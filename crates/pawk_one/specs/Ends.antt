@@ -1,5 +1,5 @@
 -- What a run leaves, as the code has it.
-use Rattle.std.specs.Prelude.{◌≡◌, ℕ, Bool, true, false, Option, Some, None}
+use Rattle.std.specs.Prelude.{◌≡◌}
 use Rattle.pawk_code.specs.declared.leaf.Special.{Special}
 use Rattle.pawk_store.specs.declared.specials.Specials.{Specials}
 use Rattle.pawk_store.specs.Globals.{Globals}
@@ -7,7 +7,6 @@ use Rattle.pawk_store.specs.ListingViews.{special_of}
 use Rattle.pawk_store.specs.RecordStates.{RecordState, special_value}
 use Rattle.pawk_store.specs.StateViews.{state_of}
 use Rattle.pawk_places.specs.declared.run.Run.{Run}
-use Rattle.pawk_meaning.specs.Records.{Left as Leaving, through, next_file, exit, fault, clash}
 use Rattle.pawk_meaning.specs.Runs.{Place, in_begin, at_record, in_end, Ending, status, fault_at, disallowed, Finish}
 use Rattle.pawk_one.specs.declared.ending.Place.{Place as CodePlace}
 use Rattle.pawk_one.specs.declared.ending.Place.TheVariants as place
@@ -34,22 +33,6 @@ finish_view world run ending = record {
   output = run.output.items;
   ending = ending_view ending;
 }
-
--- whether no record is read behind a part that is left so
-abbrev pub ends_records : Leaving → Bool
-ends_records through = false
-ends_records next_file = false
-ends_records (exit n) = true
-ends_records (fault f) = true
-ends_records clash = true
-
--- the file whose rest is left unread behind a record of it
-abbrev pub file_left : Leaving → ℕ → Option ℕ
-file_left through file = None
-file_left next_file file = Some file
-file_left (exit n) file = None
-file_left (fault f) file = None
-file_left clash file = None
 
 -- the variables that a run sets have these values in a record state
 abbrev pub AreSpecials : Specials → RecordState → Type 0

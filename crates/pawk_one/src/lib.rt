@@ -11,7 +11,5 @@ pub use ending::{Ending, Place};
 pub use finish::Finish;
 pub use outcome::{Outcome, opening_run, run_one};
 pub use output::Output;
-pub use pawk_part::{Left, actions, record};
-pub use whole::{
-    Job, run_begin, run_behind_begin, run_behind_records, run_program, run_records, take_separator,
-};
+pub use pawk_part::{Job, Left, actions, record, run_records};
+pub use whole::{run_begin, run_behind_begin, run_behind_records, run_program, take_separator};

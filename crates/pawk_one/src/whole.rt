@@ -1,30 +1,25 @@
 //! Whole runs.
 
-ghost use Rattle.std.specs.Prelude.{◌≡◌, [], IfOk, None};
+ghost use Rattle.std.specs.Prelude.{◌≡◌, [], IfOk};
 ghost use Rattle.pawk_code.specs.ProgramViews.{code_view};
-ghost use Rattle.pawk_input.specs.Input.{files_of, item_of};
-ghost use Rattle.pawk_input.specs.Walk.{items_left};
+ghost use Rattle.pawk_input.specs.Input.{files_of};
 ghost use Rattle.pawk_store.specs.Slots.{rs_slot};
 ghost use Rattle.pawk_store.specs.StateViews.{state_of};
 ghost use Rattle.pawk_value.specs.Conversion.{text_of};
 ghost use Rattle.pawk_meaning.specs.Records.{run_part};
 ghost use Rattle.pawk_meaning.specs.Records as record_spec;
-ghost use Rattle.pawk_meaning.specs.Runs.{records_from, ends_from, behind_begin};
+ghost use Rattle.pawk_meaning.specs.Runs.{ends_from, behind_begin};
 ghost use Rattle.pawk_meaning.specs.Runs.{behind_records, records_by_rs};
-ghost use Rattle.pawk_eval.specs.Contexts.{eres_of, functions_of};
 ghost use Rattle.pawk_meaning.specs.Runs as spec;
 ghost use Rattle.pawk_part.specs.declared.left.Left.TheVariants.{Through};
 ghost use Rattle.pawk_part.specs.Ends.{end_view, left_view};
 ghost use Rattle.pawk_one.specs.Ends.{Finishes, finish_view};
-ghost use Rattle.pawk_one.specs.Ends as ends;
 
 use crate::ending::{Ending, Place};
 use crate::finish::Finish;
 use itoa::Buffer;
-use pawk_code::program::Code;
-use pawk_eval::Context;
-use pawk_input::{Input, Item, Records};
-use pawk_part::{Left, actions, record};
+use pawk_input::Input;
+use pawk_part::{Job, Left, actions, run_records};
 use pawk_places::Run;
 use pawk_value::{Fault, text_in};
 use pawk_world::World;
@@ -32,32 +27,6 @@ use std::alloc::AllocError;
 
 /// The slot of RS.
 const RS: usize = 3;
-
-/// What is run, and how many steps BEGIN, each record and END may take.
-#[derive(Clone, Copy)]
-pub struct Job<'p> {
-    pub code: &'p Code,
-    pub budget: u64,
-}
-
-impl<'p> Job<'p> {
-    /// What its parts look at.
-    fn context(self) -> Context<'p>
-        ensures eres { eres_of result ≡ (code_view self.entry.code.now).expressions }
-        ensures functions { functions_of result ≡ (code_view self.entry.code.now).functions }
-    {
-        Context { code: self.code }
-    }
-
-    /// Whether records are read: where there is a main rule or an action of END.
-    ///
-    /// POSIX.1-2017, awk, "Overall Program Structure".
-    pub fn reads_records(self) -> bool
-        ensures { result ≡ spec.reads_records (code_view self.entry.code.now) }
-    {
-        !self.code.rules.is_empty() || !self.code.ends.is_empty()
-    }
-}
 
 /// Runs the actions of END.
 fn run_end<W: World>(job: Job<'_>, world: &mut W, run: &mut Run<'_>) -> Result<Ending, AllocError>
@@ -80,73 +49,6 @@ fn run_end<W: World>(job: Job<'_>, world: &mut W, run: &mut Run<'_>) -> Result<E
         Left::Fault(fault) => Ok(Ending::Fault(fault, Place::End)),
         Left::Clash => Ok(Ending::Disallowed),
     }
-}
-
-/// Whether a record is of the file whose rest is left unread.
-fn is_skipped(skip: Option<usize>, item: &Item<'_>) -> bool
-    ensures { result ≡ spec.is_skipped skip (item_of item.now) }
-{
-    match skip {
-        Some(file) => item.file == file,
-        None => false,
-    }
-}
-
-/// The file whose rest is left unread behind this record.
-fn file_left(left: Left, item: &Item<'_>) -> Option<usize>
-    ensures { result ≡ ends.file_left (left_view left) item.now.file }
-{
-    match left {
-        Left::Through => None,
-        Left::NextFile => Some(item.file),
-        Left::Exit(_) => None,
-        Left::Fault(_) => None,
-        Left::Clash => None,
-    }
-}
-
-/// Whether no record is read behind a part that is left so.
-fn ends_records(left: Left) -> bool
-    ensures { result ≡ ends.ends_records (left_view left) }
-{
-    match left {
-        Left::Through => false,
-        Left::NextFile => false,
-        Left::Exit(_) => true,
-        Left::Fault(_) => true,
-        Left::Clash => true,
-    }
-}
-
-/// Runs the rules on each record, which may take so many steps; the output goes behind what is there.
-/// `nextfile` leaves the rest of its file unread.
-///
-/// POSIX.1-2017, awk, "Overall Program Structure".
-pub fn run_records<'a, W: World>(
-    job: Job<'_>,
-    records: Records<'a>,
-    world: &mut W,
-    run: &mut Run<'a>,
-) -> Result<Left, AllocError>
-    ensures { IfOk result (λ left. records_from W.calls (code_view job.entry.code.now).expressions
-        (code_view job.entry.code.now) job.entry.budget None
-        (end_view (W.state world.old) run.old Through) (items_left records.entry)
-        ≡ end_view (W.state world.new) run.new left) }
-{
-    let mut skip = None;
-    let mut left = Left::Through;
-    for item in records {
-        if is_skipped(skip, &item) {
-            continue;
-        }
-        let rules = job.code.rules.as_slice();
-        left = record(job.context(), rules, job.budget, &item, world, run)?;
-        if ends_records(left) {
-            return Ok(left);
-        }
-        skip = file_left(left, &item);
-    }
-    Ok(left)
 }
 
 /// Goes on behind records that were left so: with END, unless they ended in a fault or did what the world

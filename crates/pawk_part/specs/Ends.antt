@@ -1,5 +1,5 @@
 -- What a part of a run leaves, as the code has it.
-use Rattle.std.specs.Prelude.{◌≡◌, Some, Result, Ok, Err}
+use Rattle.std.specs.Prelude.{◌≡◌, ℕ, Bool, true, false, Option, Some, None, Result, Ok, Err}
 use Rattle.pawk_store.specs.StateViews.{state_of}
 use Rattle.pawk_places.specs.declared.run.Run.{Run}
 use Rattle.pawk_world.specs.declared.halt.Halt.{Halt as Code}
@@ -15,6 +15,22 @@ left_view left.NextFile = next_file
 left_view (left.Exit n) = exit n
 left_view (left.Fault f) = fault f
 left_view left.Clash = clash
+
+-- whether no record is read behind a part that is left so
+abbrev pub ends_records : Leaving → Bool
+ends_records through = false
+ends_records next_file = false
+ends_records (exit n) = true
+ends_records (fault f) = true
+ends_records clash = true
+
+-- the file whose rest is left unread behind a record of it
+abbrev pub file_left : Leaving → ℕ → Option ℕ
+file_left through file = None
+file_left next_file file = Some file
+file_left (exit n) file = None
+file_left (fault f) file = None
+file_left clash file = None
 
 abbrev pub end_view : {S : Type 0} → S → Run → Left → End S
 end_view world run left = record {

@@ -6,7 +6,7 @@ use denote.Param.{param}
 use denote.Param.Send.{IsSend, IsSync, sendable}
 use Rattle.pawk_code.proofs.Sharing.{code_row_sync}
 use Rattle.pawk_crew.proofs.States.{state_row_sync}
-use Rattle.pawk_one.specs.contracts.whole.Job as Job
+use Rattle.pawk_part.specs.contracts.job.Job as Job
 use Rattle.pawk_chunk.specs.contracts.chunk.Opening as Opening
 use Rattle.pawk_crew.specs.contracts.task.Chunked as Chunked
 use Rattle.pawk_crew.specs.contracts.task.Task as Task

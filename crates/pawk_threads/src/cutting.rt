@@ -16,11 +16,16 @@ use std::alloc::Global;
 use std::sync::Wait;
 use std::thread::Threads;
 
+/// How many chunks there may be before the input is cut by a greater size.
+const MANY_CHUNKS: usize = 256;
+
 /// How the input is to be cut into chunks.
 #[derive(Drop)]
 pub enum Cutting {
     /// A chunk ends before the first record that begins at least so many bytes past the chunk's begin,
-    /// or at the end of the file. The size is 1 or more.
+    /// or at the end of the file. The size is 1 or more. Where there are more than 256 such chunks, the
+    /// input is cut by a greater size: each chunk notes all keys that it meets, and the merge goes
+    /// through all of these.
     Size(u64),
     /// One more chunk begins at each of these places: a file, and an offset in it, both counted from 0.
     At(Vec<(usize, usize)>),
@@ -53,7 +58,46 @@ fn plan_here(alloc: Global, input: &Input, rs: &[u8], bytes: u64) -> Result<Plan
     }
 }
 
-/// The same plan, out of how many records begin in each block of `block` bytes.
+/// A greater size, by which there are not so many chunks.
+fn greater_size(bytes: u64, chunks: usize) -> u64
+    requires sized { 0 < bytes }
+    ensures sized { 0 < result }
+{
+    let times = (chunks / MANY_CHUNKS) as u64;
+    bytes.saturating_add(bytes.saturating_mul(times))
+}
+
+/// A plan by a greater size where a plan has many chunks, if memory is there; else that plan.
+fn with_fewer_chunks(
+    alloc: Global,
+    input: &Input,
+    rs: &[u8],
+    bytes: u64,
+    block: usize,
+    counts: &[u64],
+    plan: Plan,
+) -> Plan
+    requires sized { 0 < bytes }
+    requires one_byte { length rs.now ≤ 1 }
+    requires ready { IsReady rs.now input.now }
+    requires block { 0 < block }
+    requires counts { counts.now ≡ block_counts rs.now block (files_of input.now) }
+    requires plan { IsPlanOf rs.now (files_of input.now) plan }
+    requires few { length plan ≤ most_chunks }
+    ensures plan { IsPlanOf rs.now (files_of input.now) result }
+    ensures few { length result ≤ most_chunks }
+{
+    if plan.len() <= MANY_CHUNKS {
+        return plan;
+    }
+    let bytes = greater_size(bytes, plan.len());
+    match Plan::by_counts(alloc, input, rs, bytes, block, counts) {
+        Ok(fewer) => fewer,
+        Err(_) => plan,
+    }
+}
+
+/// The plan by size, out of how many records begin in each block of `block` bytes.
 fn plan_by_counts(
     alloc: Global,
     input: &Input,
@@ -75,7 +119,7 @@ fn plan_by_counts(
         → IsRefused rs.now (files_of input.now) (Cutting.Size bytes) }
 {
     match Plan::by_counts(alloc, input, rs, bytes, block, counts) {
-        Ok(plan) => Ok(plan),
+        Ok(plan) => Ok(with_fewer_chunks(alloc, input, rs, bytes, block, counts, plan)),
         Err(CutRefusal::Memory) => Err(Refusal::Memory),
         Err(_) => Err(Refusal::Cutting),
     }

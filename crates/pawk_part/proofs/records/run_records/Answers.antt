@@ -4,8 +4,8 @@ use Rattle.pawk_input.specs.Input.{item_of}
 use Rattle.pawk_meaning.specs.Records.{one_record, run_part}
 use Rattle.pawk_meaning.specs.Runs.{records_from}
 use Rattle.pawk_part.specs.Ends.{end_view}
-use Rattle.pawk_one.proofs.RunLemmas.{last_record, next_record}
-use Rattle.pawk_one.proofs.whole.run_records.Goals as goal
+use Rattle.pawk_part.proofs.RunLemmas.{last_record, next_record}
+use Rattle.pawk_part.proofs.records.run_records.Goals as goal
 
 pub returns-then-ends_records : goal.returns-then-ends_records
 returns-then-ends_records g c =

@@ -6,7 +6,7 @@ use Rattle.pawk_code.specs.Programs.{Code}
 use Rattle.pawk_input.specs.Input.{Item}
 use Rattle.pawk_meaning.specs.Records.{Left, through, next_file, exit, fault, clash, End, one_record, run_part}
 use Rattle.pawk_meaning.specs.Runs.{behind, is_skipped, records_from}
-use Rattle.pawk_one.specs.Ends.{ends_records, file_left}
+use Rattle.pawk_part.specs.Ends.{ends_records, file_left}
 
 module _ {S : Type 0} where
   behind_end : (go : Option ℕ → End S → End S) (file : ℕ) (left : Left) (e : End S) → ends_records left ≡ true → behind go file left e ≡ e

@@ -1,0 +1,86 @@
+//! Records one after the other.
+
+ghost use Rattle.std.specs.Prelude.{◌≡◌, IfOk, None};
+ghost use Rattle.pawk_code.specs.ProgramViews.{code_view};
+ghost use Rattle.pawk_input.specs.Input.{item_of};
+ghost use Rattle.pawk_input.specs.Walk.{items_left};
+ghost use Rattle.pawk_meaning.specs.Runs.{records_from};
+ghost use Rattle.pawk_meaning.specs.Runs as spec;
+ghost use Rattle.pawk_part.specs.declared.left.Left.TheVariants.{Through};
+ghost use Rattle.pawk_part.specs.Ends.{end_view, left_view};
+ghost use Rattle.pawk_part.specs.Ends as ends;
+
+use crate::job::Job;
+use crate::left::Left;
+use crate::part::record;
+use pawk_input::{Item, Records};
+use pawk_places::Run;
+use pawk_world::World;
+use std::alloc::AllocError;
+
+/// Whether a record is of the file whose rest is left unread.
+fn is_skipped(skip: Option<usize>, item: &Item<'_>) -> bool
+    ensures { result ≡ spec.is_skipped skip (item_of item.now) }
+{
+    match skip {
+        Some(file) => item.file == file,
+        None => false,
+    }
+}
+
+/// The file whose rest is left unread behind this record.
+fn file_left(left: Left, item: &Item<'_>) -> Option<usize>
+    ensures { result ≡ ends.file_left (left_view left) item.now.file }
+{
+    match left {
+        Left::Through => None,
+        Left::NextFile => Some(item.file),
+        Left::Exit(_) => None,
+        Left::Fault(_) => None,
+        Left::Clash => None,
+    }
+}
+
+/// Whether no record is read behind a part that is left so.
+fn ends_records(left: Left) -> bool
+    ensures { result ≡ ends.ends_records (left_view left) }
+{
+    match left {
+        Left::Through => false,
+        Left::NextFile => false,
+        Left::Exit(_) => true,
+        Left::Fault(_) => true,
+        Left::Clash => true,
+    }
+}
+
+/// Runs the rules on each record, which may take so many steps; the output goes behind what is there.
+/// `nextfile` leaves the rest of its file unread.
+///
+/// POSIX.1-2017, awk, "Overall Program Structure".
+pub fn run_records<'a, W: World>(
+    job: Job<'_>,
+    records: Records<'a>,
+    world: &mut W,
+    run: &mut Run<'a>,
+) -> Result<Left, AllocError>
+    ensures { IfOk result (λ left. records_from W.calls (code_view job.entry.code.now).expressions
+        (code_view job.entry.code.now) job.entry.budget None
+        (end_view (W.state world.old) run.old Through) (items_left records.entry)
+        ≡ end_view (W.state world.new) run.new left) }
+{
+    let mut skip = None;
+    let mut left = Left::Through;
+    for item in records {
+        if is_skipped(skip, &item) {
+            continue;
+        }
+        let rules = job.code.rules.as_slice();
+        left = record(job.context(), rules, job.budget, &item, world, run)?;
+        if ends_records(left) {
+            return Ok(left);
+        }
+        skip = file_left(left, &item);
+    }
+    Ok(left)
+}
