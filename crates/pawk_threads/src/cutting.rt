@@ -16,16 +16,22 @@ use std::alloc::Global;
 use std::sync::Wait;
 use std::thread::Threads;
 
-/// How many chunks there may be before the input is cut by a greater size.
+/// How many chunks there may be for each worker before the input is cut by a greater size.
+const CHUNKS_OF_WORKER: usize = 12;
+
+/// So many chunks there may always be.
+const FEW_CHUNKS: usize = 48;
+
+/// More there never are where a greater size gives fewer.
 const MANY_CHUNKS: usize = 256;
 
 /// How the input is to be cut into chunks.
 #[derive(Drop)]
 pub enum Cutting {
     /// A chunk ends before the first record that begins at least so many bytes past the chunk's begin,
-    /// or at the end of the file. The size is 1 or more. Where there are more than 256 such chunks, the
-    /// input is cut by a greater size: each chunk notes all keys that it meets, and the merge goes
-    /// through all of these.
+    /// or at the end of the file. The size is 1 or more. Where there are more such chunks than 12 for each
+    /// worker (but 48 at least, and 256 at most), the input is cut by a greater size: each chunk notes
+    /// all keys that it meets, and the merge, which one thread does, goes through all of these.
     Size(u64),
     /// One more chunk begins at each of these places: a file, and an offset in it, both counted from 0.
     At(Vec<(usize, usize)>),
@@ -58,16 +64,23 @@ fn plan_here(alloc: Global, input: &Input, rs: &[u8], bytes: u64) -> Result<Plan
     }
 }
 
-/// A greater size, by which there are not so many chunks.
-fn greater_size(bytes: u64, chunks: usize) -> u64
+/// How many chunks there may be for so many workers before the input is cut by a greater size.
+fn many_chunks(workers: usize) -> usize
+    requires workers { IsCrew workers }
+    ensures some { 0 < result }
+{
+    (workers * CHUNKS_OF_WORKER).clamp(FEW_CHUNKS, MANY_CHUNKS)
+}
+
+/// A size that is greater by so many times that size.
+fn greater_size(bytes: u64, times: u64) -> u64
     requires sized { 0 < bytes }
     ensures sized { 0 < result }
 {
-    let times = (chunks / MANY_CHUNKS) as u64;
     bytes.saturating_add(bytes.saturating_mul(times))
 }
 
-/// A plan by a greater size where a plan has many chunks, if memory is there; else that plan.
+/// The plan by another size, if memory is there; else the plan that is given.
 fn with_fewer_chunks(
     alloc: Global,
     input: &Input,
@@ -87,10 +100,6 @@ fn with_fewer_chunks(
     ensures plan { IsPlanOf rs.now (files_of input.now) result }
     ensures few { length result ≤ most_chunks }
 {
-    if plan.len() <= MANY_CHUNKS {
-        return plan;
-    }
-    let bytes = greater_size(bytes, plan.len());
     match Plan::by_counts(alloc, input, rs, bytes, block, counts) {
         Ok(fewer) => fewer,
         Err(_) => plan,
@@ -105,12 +114,14 @@ fn plan_by_counts(
     bytes: u64,
     block: usize,
     counts: &[u64],
+    workers: usize,
 ) -> Result<Plan, Refusal>
     requires sized { 0 < bytes }
     requires one_byte { length rs.now ≤ 1 }
     requires ready { IsReady rs.now input.now }
     requires block { 0 < block }
     requires counts { counts.now ≡ block_counts rs.now block (files_of input.now) }
+    requires workers { IsCrew workers }
     ensures plan { IfOk result (λ p. IsPlanOf rs.now (files_of input.now) p) }
     ensures few { IfOk result (λ p. length p ≤ most_chunks) }
     ensures accepted { IfOk result (λ _.
@@ -118,11 +129,17 @@ fn plan_by_counts(
     ensures refused { result ≡ Err Refusal.Cutting
         → IsRefused rs.now (files_of input.now) (Cutting.Size bytes) }
 {
-    match Plan::by_counts(alloc, input, rs, bytes, block, counts) {
-        Ok(plan) => Ok(with_fewer_chunks(alloc, input, rs, bytes, block, counts, plan)),
-        Err(CutRefusal::Memory) => Err(Refusal::Memory),
-        Err(_) => Err(Refusal::Cutting),
+    let plan = match Plan::by_counts(alloc, input, rs, bytes, block, counts) {
+        Ok(plan) => plan,
+        Err(CutRefusal::Memory) => return Err(Refusal::Memory),
+        Err(_) => return Err(Refusal::Cutting),
+    };
+    let many = many_chunks(workers);
+    if plan.len() <= many {
+        return Ok(plan);
     }
+    let greater = greater_size(bytes, (plan.len() / many) as u64);
+    Ok(with_fewer_chunks(alloc, input, rs, greater, block, counts, plan))
 }
 
 /// The plan by size, out of counts of records that workers make, where the input has few enough blocks.
@@ -150,7 +167,7 @@ fn plan_by_size<G: Gate + Sync, R: Threads + Wait>(
         return plan_here(alloc, input, rs, bytes);
     };
     match count_records(rt, alloc, input, rs, block, workers, gate) {
-        Ok(counts) => plan_by_counts(alloc, input, rs, bytes, block, counts.as_slice()),
+        Ok(counts) => plan_by_counts(alloc, input, rs, bytes, block, counts.as_slice(), workers),
         Err(CrewRefusal::Memory) => Err(Refusal::Memory),
         Err(CrewRefusal::Thread) => Err(Refusal::Thread),
     }
