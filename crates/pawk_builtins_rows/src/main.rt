@@ -30,7 +30,7 @@ use pawk_code::format::FixedFormat;
 use pawk_code::leaf::Leaf;
 use pawk_code::word::{Case, Count};
 use pawk_rows::{cell, decode, piece, push_decimal, push_encoded};
-use pawk_value::{Held, Stop};
+use pawk_value::{Fault, Held, Stop};
 use std::alloc::{AllocError, Global};
 use std::io;
 use std::ops::Range;
@@ -107,10 +107,11 @@ fn values_of(alloc: Global, cell: &[u8]) -> Result<Values, AllocError> {
 }
 
 /// Tells what a format makes of values.
-fn tell_format(alloc: Global, cell: &[u8], text: &[u8], out: &mut Vec<u8>) -> Result<(), Stop> {
+fn tell_format(alloc: Global, cell: &[u8], out: &mut Vec<u8>) -> Result<(), Stop> {
+    let text = decode(alloc, part(cell, 1))?;
     let values = values_of(alloc, cell)?;
-    let format = format_of(alloc, cell, text)?;
-    let line = format_values(alloc, &format, text, &values)?;
+    let format = format_of(alloc, cell, text.as_slice())?;
+    let line = format_values(alloc, &format, text.as_slice(), &values)?;
     tell_bytes(line.as_slice(), out)?;
     Ok(())
 }
@@ -128,7 +129,13 @@ fn tell_letters(
 }
 
 /// Does a call that takes no expression.
-fn act_on_text(
+fn act_on_text(alloc: Global, cell: &[u8], out: &mut Vec<u8>) -> Result<(), AllocError> {
+    let text = decode(alloc, part(cell, 1))?;
+    tell_text_call(alloc, cell, text.as_slice(), out)
+}
+
+/// Tells what a call without an expression makes of a text.
+fn tell_text_call(
     alloc: Global,
     cell: &[u8],
     text: &[u8],
@@ -250,15 +257,36 @@ fn act(
     call: Call<'_>,
     out: &mut Vec<u8>,
 ) -> Result<(), Stop> {
-    let text = decode(alloc, part(call.cell, 1))?;
     match part(call.cell, 0) {
         b"index" | b"part" | b"rest" | b"lower" | b"upper" => {
-            Ok(act_on_text(alloc, call.cell, text.as_slice(), out)?)
+            Ok(act_on_text(alloc, call.cell, out)?)
         }
-        b"format" | b"template" => tell_format(alloc, call.cell, text.as_slice(), out),
+        b"format" | b"template" => tell_format(alloc, call.cell, out),
         b"pieces" | b"between" => tell_split(alloc, matchers, call, out),
         b"match" | b"matchv" | b"match0" => tell_match(alloc, matchers, call, out),
         _ => tell_replaced(alloc, matchers, call, out),
+    }
+}
+
+/// Adds the name of a fault in brackets.
+fn tell_fault(fault: Fault, out: &mut Vec<u8>) -> Result<(), AllocError> {
+    out.extend_from_slice(b" [")?;
+    out.extend_from_slice(fault.name().as_bytes())?;
+    out.push(b']')?;
+    Ok(())
+}
+
+/// Does what a cell asks, or tells the fault.
+fn answer_cell(
+    alloc: Global,
+    matchers: &mut Matchers,
+    call: Call<'_>,
+    out: &mut Vec<u8>,
+) -> Result<(), AllocError> {
+    match act(alloc, matchers, call, out) {
+        Ok(()) => Ok(()),
+        Err(Stop::Fault(fault)) => tell_fault(fault, out),
+        Err(Stop::Memory) => Err(AllocError),
     }
 }
 
@@ -282,15 +310,7 @@ fn answer(alloc: Global, row: &[u8]) -> Result<Vec<u8>, AllocError> {
             number,
             cell: cell(row, number),
         };
-        match act(alloc, &mut matchers, call, &mut out) {
-            Ok(()) => {}
-            Err(Stop::Fault(fault)) => {
-                out.extend_from_slice(b" [")?;
-                out.extend_from_slice(fault.name().as_bytes())?;
-                out.push(b']')?;
-            }
-            Err(Stop::Memory) => return Err(AllocError),
-        }
+        answer_cell(alloc, &mut matchers, call, &mut out)?;
     }
     Ok(out)
 }

@@ -286,18 +286,23 @@ fn answer(alloc: Global, caches: &mut Caches, row: &[u8]) -> Result<Vec<u8>, All
     Ok(out)
 }
 
+/// Answers a line.
+fn answer_line(rt: &HostRuntime, caches: &mut Caches, line: io::Result<String>) -> io::Result<()> {
+    let row = line?;
+    let answer = answer(rt.alloc(), caches, row.as_str().as_bytes())?;
+    println!(rt;
+        "{}",
+        str::from_utf8(answer.as_slice()).unwrap_or("not a text")
+    )
+}
+
 fn main(rt: HostRuntime) -> io::Result<()> {
     let mut caches = Caches {
         small: Cache::with(rt.alloc(), 1)?,
         large: Cache::with(rt.alloc(), 1024)?,
     };
     for line in rt.lines(rt.alloc()) {
-        let row = line?;
-        let answer = answer(rt.alloc(), &mut caches, row.as_str().as_bytes())?;
-        println!(rt;
-            "{}",
-            str::from_utf8(answer.as_slice()).unwrap_or("not a text")
-        )?;
+        answer_line(&rt, &mut caches, line)?;
     }
     Ok(())
 }

@@ -20,15 +20,19 @@ use crate::numbers::{numeric, numeric_apart};
 use crate::places::place;
 use crate::strings::textual;
 use pawk_code::expression::{Argument, Expr, Place};
+use pawk_code::leaf::Leaf;
 use pawk_places::{
     Run, give_back, give_back_target, give_back_value, leaf_copy, leaf_text, leaf_truth,
-    leaf_value, lent_number, plain_test, plain_value, push_place_text, read_number, read_place,
-    take_buffer, value_with, write_place,
+    leaf_value, lent_number, plain_test, plain_value, push_place_text, quick_field, read_number,
+    read_place, take_buffer, value_with, write_place,
 };
 use pawk_value::{
     Fault, Held, Value, ValueRef, hold, lend, lend_held, push_text_lent, to_num_lent, truth_lent,
 };
 use pawk_world::{Halt, World};
+
+/// So many levels of operations in the index of a field are tried at once before they are evaluated one by one.
+const LEVELS: u32 = 2;
 
 /// Lays down the value of an expression: its bytes are appended to `out`.
 #[cycle(evaluate)]
@@ -290,6 +294,11 @@ pub(crate) fn number_at<W: World>(
         (codes.read (place_view from.now)))
         (moment (W.state world.old) run.old)) result (moment (W.state world.new) run.new) }
 {
+    if let Place::Field(index) = from {
+        if let Some(field) = quick_field(index, LEVELS, world, run) {
+            return lent_number(&Leaf::Field(field), world, run);
+        }
+    }
     let target = place(context, depth, from, world, run)?;
     let number = read_number(&target, world, run)?;
     give_back_target(&mut run.spare, target);
@@ -421,6 +430,11 @@ pub(crate) fn text_at<W: World>(
         (codes.read (place_view from.now)))
         (moment (W.state world.old) run.old)) result (moment (W.state world.new) run.new) }
 {
+    if let Place::Field(index) = from {
+        if let Some(field) = quick_field(index, LEVELS, world, run) {
+            return leaf_text(&Leaf::Field(field), out, world, run);
+        }
+    }
     let target = place(context, depth, from, world, run)?;
     push_place_text(&target, out, world, run)?;
     give_back_target(&mut run.spare, target);

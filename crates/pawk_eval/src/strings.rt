@@ -18,10 +18,10 @@ use crate::operands::{format_operand, values};
 use crate::operations::fill_format;
 use pawk_builtins::{Values, both, push_letters, substring, suffix, within_limit};
 use pawk_code::expression::{Expr, Format, Textual};
-use pawk_places::{Run, give_back};
+use pawk_places::{Run, give_back, quick_letters};
 use pawk_world::{Halt, World};
 
-/// Appends what gives a text.
+/// Appends what gives a text. A leaf or a field whose letters change is not copied first.
 #[cycle(evaluate)]
 pub(crate) fn textual<W: World>(
     context: Context<'_>,
@@ -58,6 +58,9 @@ pub(crate) fn textual<W: World>(
             Ok(())
         }
         Textual::Case(case, e) => {
+            if quick_letters(*case, e, out, world, run)? {
+                return Ok(());
+            }
             let text = text(context, depth, e, world, run)?;
             push_letters(*case, &text, out)?;
             give_back(&mut run.spare, text);

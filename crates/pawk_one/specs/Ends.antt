@@ -1,5 +1,5 @@
 -- What a run leaves, as the code has it.
-use Rattle.std.specs.Prelude.{◌≡◌}
+use Rattle.std.specs.Prelude.{◌≡◌, ℕ, List, None}
 use Rattle.pawk_code.specs.declared.leaf.Special.{Special}
 use Rattle.pawk_store.specs.declared.specials.Specials.{Specials}
 use Rattle.pawk_store.specs.Globals.{Globals}
@@ -7,7 +7,11 @@ use Rattle.pawk_store.specs.ListingViews.{special_of}
 use Rattle.pawk_store.specs.RecordStates.{RecordState, special_value}
 use Rattle.pawk_store.specs.StateViews.{state_of}
 use Rattle.pawk_places.specs.declared.run.Run.{Run}
-use Rattle.pawk_meaning.specs.Runs.{Place, in_begin, at_record, in_end, Ending, status, fault_at, disallowed, Finish}
+use Rattle.pawk_world.specs.Worlds.{Calls}
+use Rattle.pawk_code.specs.Programs.{Code}
+use Rattle.pawk_input.specs.Input.{Item}
+use Rattle.pawk_meaning.specs.Records.{End}
+use Rattle.pawk_meaning.specs.Runs.{Place, in_begin, at_record, in_end, Ending, status, fault_at, disallowed, Finish, records_from, behind_records}
 use Rattle.pawk_one.specs.declared.ending.Place.{Place as CodePlace}
 use Rattle.pawk_one.specs.declared.ending.Place.TheVariants as place
 use Rattle.pawk_one.specs.declared.ending.Ending.{Ending as CodeEnding}
@@ -33,6 +37,11 @@ finish_view world run ending = record {
   output = run.output.items;
   ending = ending_view ending;
 }
+
+-- all records from an end on, and what follows them
+abbrev pub run_and_end : {S : Type 0} → Calls S → Code → ℕ → List Item → End S → Finish S
+run_and_end calls code budget records e =
+    (let r = records_from calls code.expressions code budget None e records in behind_records calls code.expressions code budget r.left r)
 
 -- the variables that a run sets have these values in a record state
 abbrev pub AreSpecials : Specials → RecordState → Type 0

@@ -1,8 +1,8 @@
 //! Whole runs.
 
-ghost use Rattle.std.specs.Prelude.{◌≡◌, [], IfOk};
+ghost use Rattle.std.specs.Prelude.{◌≡◌, ◌≤◌, [], length, IfOk};
 ghost use Rattle.pawk_code.specs.ProgramViews.{code_view};
-ghost use Rattle.pawk_input.specs.Input.{files_of};
+ghost use Rattle.pawk_input.specs.Input.{IsReady, files_of, items};
 ghost use Rattle.pawk_store.specs.Slots.{rs_slot};
 ghost use Rattle.pawk_store.specs.StateViews.{state_of};
 ghost use Rattle.pawk_value.specs.Conversion.{text_of};
@@ -13,7 +13,7 @@ ghost use Rattle.pawk_meaning.specs.Runs.{behind_records, records_by_rs};
 ghost use Rattle.pawk_meaning.specs.Runs as spec;
 ghost use Rattle.pawk_part.specs.declared.left.Left.TheVariants.{Through};
 ghost use Rattle.pawk_part.specs.Ends.{end_view, left_view};
-ghost use Rattle.pawk_one.specs.Ends.{Finishes, finish_view};
+ghost use Rattle.pawk_one.specs.Ends.{Finishes, finish_view, run_and_end};
 
 use crate::ending::{Ending, Place};
 use crate::finish::Finish;
@@ -91,6 +91,26 @@ pub fn take_separator<W: World>(world: &W, run: &mut Run<'_>) -> Result<Vec<u8>,
     Ok(rs)
 }
 
+/// Runs all records, as this RS ends them, and then END.
+fn run_mended<'a, W: World>(
+    job: Job<'_>,
+    rs: &[u8],
+    input: &'a Input,
+    world: &mut W,
+    run: &mut Run<'a>,
+) -> Result<Ending, AllocError>
+    requires one_byte { length rs.now ≤ 1 }
+    requires ready { IsReady rs.now input.now }
+    ensures { IfOk result (λ ending.
+        run_and_end W.calls (code_view job.entry.code.now) job.entry.budget
+        (items rs.now (files_of input.now)) (end_view (W.state world.old) run.old Through)
+        ≡ finish_view (W.state world.new) run.new ending) }
+{
+    let left = run_records(job, input.records(rs), world, run)?;
+    let ending = run_behind_records(job, left, world, run)?;
+    Ok(ending)
+}
+
 /// Reads and runs all records, by RS as it is now, and then END.
 fn run_input<W: World>(
     job: Job<'_>,
@@ -111,8 +131,7 @@ fn run_input<W: World>(
         return Finish::of(&mut run, Ending::Fault(Fault::Rs, Place::Record(1)));
     }
     input.mend(rs.as_slice())?;
-    let left = run_records(job, input.records(rs.as_slice()), world, &mut run)?;
-    let ending = run_behind_records(job, left, world, &mut run)?;
+    let ending = run_mended(job, rs.as_slice(), input, world, &mut run)?;
     Finish::of(&mut run, ending)
 }
 

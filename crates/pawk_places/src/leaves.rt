@@ -31,7 +31,7 @@ use std::cmp::Ordering;
 
 /// Makes a leaf ready to be lent. The state stays.
 #[inline(always)]
-fn prepare_leaf(leaf: &Leaf, state: &mut RecordState<'_>) -> Result<(), AllocError>
+pub(crate) fn prepare_leaf(leaf: &Leaf, state: &mut RecordState<'_>) -> Result<(), AllocError>
     ensures same { state_of state.new ≡ state_of state.old }
     ensures more { state.old.line.found ≤ state.new.line.found }
     ensures ready { OnOk result (IsReady leaf.now state.new) }
@@ -45,7 +45,11 @@ fn prepare_leaf(leaf: &Leaf, state: &mut RecordState<'_>) -> Result<(), AllocErr
 
 /// The value of a leaf, which is lent.
 #[inline(always)]
-fn lend_leaf<'a, W: World>(leaf: &'a Leaf, world: &'a W, run: &'a Run<'_>) -> ValueRef<'a>
+pub(crate) fn lend_leaf<'a, W: World>(
+    leaf: &'a Leaf,
+    world: &'a W,
+    run: &'a Run<'_>,
+) -> ValueRef<'a>
     requires { IsReady leaf.now run.now.state }
     ensures { lent_value result ≡ meaning.leaf_value W.calls (leaf_view leaf.now)
         (moment (W.state world.now) run.now) }
@@ -374,6 +378,7 @@ pub fn place_in_leaf<W: World>(
     world: &W,
     run: &mut Run<'_>,
 ) -> Result<i64, Halt>
+    ensures same { moment (W.state world.now) run.new ≡ moment (W.state world.now) run.old }
     ensures left { run.new.left ≤ run.old.left }
     ensures outcome { Yields (λ number. number)
         (bind (as_text [] (value_of_leaf W.calls (leaf_view leaf.now))) (λ s.

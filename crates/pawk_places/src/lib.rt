@@ -4,6 +4,7 @@
 mod append;
 mod arrays;
 mod leaves;
+mod letters;
 mod locals;
 mod outputs;
 mod plain;
@@ -24,9 +25,10 @@ pub use leaves::{
     leaf_text, leaf_truth, leaf_value, lent_number, place_in, place_in_leaf, plain_number,
     related_numbers,
 };
+pub use letters::quick_letters;
 pub use outputs::{key_of_texts, print_alone, print_bytes, print_line, tick};
 pub use plain::{are_plain, print_plain};
-pub use quick::{plain_test, plain_value, quick_number, quick_numeric};
+pub use quick::{plain_test, plain_value, quick_field, quick_number, quick_numeric};
 pub use reading::{push_place_text, read_number, read_place};
 pub use run::{
     Parameter, Run, give_back, give_back_frame, give_back_value, parameters, take_buffer,

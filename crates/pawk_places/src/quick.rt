@@ -6,14 +6,15 @@ ghost use Rattle.std.specs.Prelude.{◌≡◌, ◌≤◌, ℕ, List, Ok, IfSome}
 ghost use Rattle.pawk_value.specs.Conversion.{num_of};
 ghost use Rattle.pawk_value.specs.Value.{Num, Val};
 ghost use Rattle.pawk_code.specs.ExpressionViews.{leaf_view, numeric_view, view};
-ghost use Rattle.pawk_code.specs.Expressions.{length_of};
+ghost use Rattle.pawk_code.specs.Expressions.{field, index_of, length_of, read, to_field};
 ghost use Rattle.pawk_meaning.specs.Meaning.{eval, function_of, leaf_value, number_of};
 ghost use Rattle.pawk_meaning.specs.Parts.{Hold, Part, as_number, as_truth, gives};
 ghost use Rattle.pawk_places.specs.Moments.{moment};
 
-use crate::leaves::{leaf_length, lent_number, plain_number, related_numbers};
+use crate::leaves::{leaf_length, lent_number, place_in_leaf, plain_number, related_numbers};
 use crate::run::Run;
-use pawk_code::expression::{Expr, Numeric, NumericFunction, Test};
+use pawk_builtins::field_index;
+use pawk_code::expression::{Expr, Numeric, NumericFunction, Place, Test};
 use pawk_code::leaf::Leaf;
 use pawk_value::arith;
 use pawk_world::World;
@@ -35,8 +36,8 @@ fn quick_leaf<W: World>(leaf: &Leaf, world: &W, run: &mut Run<'_>) -> Option<i64
     }
 }
 
-/// The number of an expression, where it is a leaf or made of leaves by `length` and at most so many levels
-/// of operations, and there is no fault; then no moment changes.
+/// The number of an expression, where it is a leaf, a field, or made of these by `length`, `index` and at most so many
+/// levels of operations, and there is no fault; then no moment changes.
 ///
 /// Where there is none nothing is said of the expression: it may have a number too. The levels bound what
 /// is evaluated in vain.
@@ -52,8 +53,33 @@ pub fn quick_number<W: World>(e: &Expr, levels: u32, world: &W, run: &mut Run<'_
     match e {
         Expr::Leaf(leaf) => quick_leaf(leaf, world, run),
         Expr::Numeric(n) => quick_numeric(n, levels, world, run),
+        Expr::Read(Place::Field(index)) => {
+            let field = quick_field(index, levels, world, run)?;
+            quick_leaf(&Leaf::Field(field), world, run)
+        }
         _ => None,
     }
+}
+
+/// The number of the field that an expression gives, where it is found so.
+#[cycle(quick)]
+pub fn quick_field<W: World>(
+    index: &Expr,
+    levels: u32,
+    world: &W,
+    run: &mut Run<'_>,
+) -> Option<usize>
+    ensures same { moment (W.state world.now) run.new ≡ moment (W.state world.now) run.old }
+    ensures left { run.new.left ≤ run.old.left }
+    ensures value { IfSome result (λ n. (eres : List (List ℕ))
+        → (enter : ℕ → List Hold → Part W.State Val)
+        → eval W.calls eres enter (read (to_field (view index.now)))
+        (moment (W.state world.now) run.old)
+        ≡ gives (leaf_value W.calls (field n) (moment (W.state world.now) run.old))
+        (moment (W.state world.now) run.old)) }
+{
+    let number = quick_number(index, levels, world, run)?;
+    field_index(Ok(number)).ok()
 }
 
 /// The same of what gives a number.
@@ -79,6 +105,7 @@ pub fn quick_numeric<W: World>(
             arith(*op, x, y).ok()
         }
         Numeric::Function(NumericFunction::Length(e)) => quick_length(e, world, run),
+        Numeric::Function(NumericFunction::Index(e, sought)) => quick_index(e, sought, world, run),
         _ => None,
     }
 }
@@ -96,6 +123,25 @@ fn quick_length<W: World>(e: &Expr, world: &W, run: &mut Run<'_>) -> Option<i64>
     match e {
         Expr::Leaf(leaf) => match leaf_length(leaf, world, run) {
             Ok(length) => Some(length),
+            Err(_) => None,
+        },
+        _ => None,
+    }
+}
+
+/// The place where the text of one expression first stands in that of another, where both are leaves.
+fn quick_index<W: World>(e: &Expr, sought: &Expr, world: &W, run: &mut Run<'_>) -> Option<i64>
+    ensures same { moment (W.state world.now) run.new ≡ moment (W.state world.now) run.old }
+    ensures left { run.new.left ≤ run.old.left }
+    ensures number { IfSome result (λ number. (eres : List (List ℕ))
+        → (enter : ℕ → List Hold → Part W.State Val)
+        → function_of W.calls eres enter (index_of (view e.now) (view sought.now))
+        (moment (W.state world.now) run.old)
+        ≡ gives number (moment (W.state world.now) run.old)) }
+{
+    match (e, sought) {
+        (Expr::Leaf(leaf), Expr::Leaf(other)) => match place_in_leaf(leaf, other, world, run) {
+            Ok(place) => Some(place),
             Err(_) => None,
         },
         _ => None,

@@ -18,7 +18,7 @@
 
 use pawk_record::Record;
 use pawk_rows::{decode, number, piece, push_decimal, push_encoded};
-use pawk_value::{Stop, ValueRef};
+use pawk_value::{Fault, Stop, ValueRef};
 use std::alloc::{AllocError, Global};
 use std::io;
 
@@ -137,21 +137,36 @@ fn texts_of(alloc: Global, row: &[u8]) -> Result<Vec<Vec<u8>>, AllocError> {
     Ok(texts)
 }
 
+/// Adds the name of a fault in brackets.
+fn tell_fault(fault: Fault, out: &mut Vec<u8>) -> Result<(), AllocError> {
+    out.extend_from_slice(b" [")?;
+    out.extend_from_slice(fault.name().as_bytes())?;
+    out.push(b']')?;
+    Ok(())
+}
+
+/// Does what a cell asks, or tells the fault.
+fn answer_cell<'a>(
+    alloc: Global,
+    record: &mut Record<'a>,
+    cell: &[u8],
+    text: &'a [u8],
+    out: &mut Vec<u8>,
+) -> Result<(), AllocError> {
+    match act(alloc, record, cell, text, out) {
+        Ok(()) => Ok(()),
+        Err(Stop::Fault(fault)) => tell_fault(fault, out),
+        Err(Stop::Memory) => Err(AllocError),
+    }
+}
+
 /// The answer to a row whose cells have these texts.
 fn answer(alloc: Global, row: &[u8], texts: &[Vec<u8>]) -> Result<Vec<u8>, AllocError> {
     let mut record = Record::new(alloc);
     let mut out = Vec::new(alloc);
     for (place, text) in texts.iter().enumerate() {
         let cell = piece(row, b'\t', place);
-        match act(alloc, &mut record, cell, text.as_slice(), &mut out) {
-            Ok(()) => {}
-            Err(Stop::Fault(fault)) => {
-                out.extend_from_slice(b" [")?;
-                out.extend_from_slice(fault.name().as_bytes())?;
-                out.push(b']')?;
-            }
-            Err(Stop::Memory) => return Err(AllocError),
-        }
+        answer_cell(alloc, &mut record, cell, text.as_slice(), &mut out)?;
     }
     Ok(out)
 }
@@ -160,10 +175,10 @@ fn main(rt: HostRuntime) -> io::Result<()> {
     for line in rt.lines(rt.alloc()) {
         let row = line?;
         let texts = texts_of(rt.alloc(), row.as_str().as_bytes())?;
-        let told = answer(rt.alloc(), row.as_str().as_bytes(), texts.as_slice())?;
+        let line = answer(rt.alloc(), row.as_str().as_bytes(), texts.as_slice())?;
         println!(rt;
             "{}",
-            str::from_utf8(told.as_slice()).unwrap_or("not a text")
+            str::from_utf8(line.as_slice()).unwrap_or("not a text")
         )?;
     }
     Ok(())

@@ -92,33 +92,53 @@ pub fn end_of<'t>(
     }
 }
 
-/// A range of records.
+/// The records for which an expression holds, in a box: where memory is refused behind it, one thing is dropped.
+fn when<'t>(globals: &Globals<'t>, alloc: Global, e: &'t Tree) -> Result<Box<Selector>, AllocError>
+    ensures { IfOk result (λ s. selector_view s.value ≡ code.matching
+        (resolved (spec.global_scope (globals_view globals.now)) (tree_view e.now))) }
+{
+    let e = global_expression(globals, alloc, e)?;
+    Ok(Box::new(alloc, Selector::When(e))?)
+}
+
+/// An expression outside of functions, in a box.
+fn boxed<'t>(globals: &Globals<'t>, alloc: Global, e: &'t Tree) -> Result<Box<Expr>, AllocError>
+    ensures { IfOk result (λ x. view x.value ≡
+        resolved (spec.global_scope (globals_view globals.now)) (tree_view e.now)) }
+{
+    let e = global_expression(globals, alloc, e)?;
+    Ok(Box::new(alloc, e)?)
+}
+
+/// A range of records, in a box.
 fn range<'t>(
     globals: &Globals<'t>,
     alloc: Global,
     e: &'t Tree,
     f: &'t Tree,
-) -> Result<Selector, AllocError>
-    ensures { IfOk result (λ s. selector_view s ≡ code.between
+) -> Result<Box<Selector>, AllocError>
+    ensures { IfOk result (λ s. selector_view s.value ≡ code.between
         (resolved (spec.global_scope (globals_view globals.now)) (tree_view e.now))
         (resolved (spec.global_scope (globals_view globals.now)) (tree_view f.now))) }
 {
-    let first = global_expression(globals, alloc, e)?;
-    let last = global_expression(globals, alloc, f)?;
-    Ok(Selector::Range(first, last))
+    let first = boxed(globals, alloc, e)?;
+    let last = boxed(globals, alloc, f)?;
+    let range = Selector::Range(Box::into_inner(first), Box::into_inner(last));
+    Ok(Box::new(alloc, range)?)
 }
 
 /// A rule on the records that are selected.
 fn rule<'t>(
     globals: &Globals<'t>,
     alloc: Global,
-    selector: Selector,
+    selector: Box<Selector>,
     a: &'t [TreeStatement],
 ) -> Result<Option<Rule>, AllocError>
-    ensures { IfOk result (λ o. map rule_view (option_to_list o) ≡
-        spec.rule (globals_view globals.now) (selector_view selector) (tree_seen a.now) ∷ []) }
+    ensures { IfOk result (λ o. map rule_view (option_to_list o) ≡ spec.rule
+        (globals_view globals.now) (selector_view selector.value) (tree_seen a.now) ∷ []) }
 {
     let body = global_body(globals, alloc, a)?;
+    let selector = Box::into_inner(selector);
     Ok(Some(Rule { selector, body }))
 }
 
@@ -132,15 +152,9 @@ pub fn rule_of<'t>(
         spec.rule_of (globals_view globals.now) (part item.now)) }
 {
     match item {
-        Item::Always(a) => rule(globals, alloc, Selector::Always, a),
-        Item::When(e, a) => {
-            let e = global_expression(globals, alloc, e)?;
-            rule(globals, alloc, Selector::When(e), a)
-        }
-        Item::Range(e, f, a) => {
-            let selector = range(globals, alloc, e, f)?;
-            rule(globals, alloc, selector, a)
-        }
+        Item::Always(a) => rule(globals, alloc, Box::new(alloc, Selector::Always)?, a),
+        Item::When(e, a) => rule(globals, alloc, when(globals, alloc, e)?, a),
+        Item::Range(e, f, a) => rule(globals, alloc, range(globals, alloc, e, f)?, a),
         Item::Begin(_) | Item::End(_) | Item::Function(_, _, _) => Ok(None),
     }
 }

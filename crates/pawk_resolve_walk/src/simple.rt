@@ -97,6 +97,19 @@ fn simple_option<'t>(
     }
 }
 
+/// The same in a box: where memory is refused behind it, one thing is dropped.
+fn boxed_option<'t>(
+    scope: &Scope<'_, 't>,
+    alloc: Global,
+    tree: &'t Option<Tree>,
+) -> Result<Box<Option<Simple>>, AllocError>
+    ensures { IfOk result (λ o. option_map simple_view o.value ≡
+        option_map (spec.simple_of (scope_view scope.now)) (option_view tree.now)) }
+{
+    let code = simple_option(scope, alloc, tree)?;
+    Ok(Box::new(alloc, code)?)
+}
+
 /// The head of `for (a; b; c)`.
 pub fn head<'t>(
     scope: &Scope<'_, 't>,
@@ -108,10 +121,14 @@ pub fn head<'t>(
     ensures { IfOk result (λ h. head_view h ≡ spec.head_of (scope_view scope.now)
         (option_view a.now) (option_view b.now) (option_view c.now)) }
 {
-    let first = simple_option(scope, alloc, a)?;
+    let first = boxed_option(scope, alloc, a)?;
+    let last = boxed_option(scope, alloc, c)?;
     let test = option(scope, alloc, b)?;
-    let last = simple_option(scope, alloc, c)?;
-    Ok(Head { first, test, last })
+    Ok(Head {
+        first: Box::into_inner(first),
+        test,
+        last: Box::into_inner(last),
+    })
 }
 
 /// `print` of these.

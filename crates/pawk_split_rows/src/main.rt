@@ -84,17 +84,22 @@ fn answer(alloc: Global, cache: &mut Cache, row: &[u8]) -> Result<String, Stop> 
     Ok(format!(in alloc; "{count}{text}")?)
 }
 
+/// Answers a line.
+fn answer_line(rt: &HostRuntime, cache: &mut Cache, line: io::Result<String>) -> io::Result<()> {
+    match answer(rt.alloc(), cache, line?.as_str().as_bytes()) {
+        Ok(line) => println!(rt; "{line}"),
+        Err(Stop::Fault(fault)) => {
+            let name = fault.name();
+            println!(rt; "fault {name}")
+        }
+        Err(Stop::Memory) => println!(rt; "refused: memory"),
+    }
+}
+
 fn main(rt: HostRuntime) -> io::Result<()> {
     let mut cache = Cache::with(rt.alloc(), 1)?;
-    for row in rt.lines(rt.alloc()) {
-        match answer(rt.alloc(), &mut cache, row?.as_str().as_bytes()) {
-            Ok(line) => println!(rt; "{line}")?,
-            Err(Stop::Fault(fault)) => {
-                let name = fault.name();
-                println!(rt; "fault {name}")?;
-            }
-            Err(Stop::Memory) => println!(rt; "refused: memory")?,
-        }
+    for line in rt.lines(rt.alloc()) {
+        answer_line(&rt, &mut cache, line)?;
     }
     Ok(())
 }

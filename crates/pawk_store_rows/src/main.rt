@@ -41,6 +41,15 @@ use pawk_store::Names;
 use std::alloc::{AllocError, Global};
 use std::io;
 
+/// The answer to the calls of a row with these names.
+fn answer_calls(alloc: Global, row: &[u8], names: Names<'_>) -> Result<Vec<u8>, AllocError> {
+    let mut calls = Calls::new(alloc, names)?;
+    for call in row.split(|byte| *byte == b'\t') {
+        calls.call(alloc, names, call)?;
+    }
+    Ok(calls.answers)
+}
+
 /// The answer to a row with these assignments.
 fn answer(alloc: Global, row: &[u8], assignments: &[Assignment]) -> Result<Vec<u8>, AllocError> {
     let scalars = names(alloc, b"FS OFS ORS RS SUBSEP CONVFMT OFMT n s")?;
@@ -50,11 +59,7 @@ fn answer(alloc: Global, row: &[u8], assignments: &[Assignment]) -> Result<Vec<u
         arrays: arrays.as_slice(),
         assignments,
     };
-    let mut calls = Calls::new(alloc, names)?;
-    for call in row.split(|byte| *byte == b'\t') {
-        calls.call(alloc, names, call)?;
-    }
-    Ok(calls.answers)
+    answer_calls(alloc, row, names)
 }
 
 fn main(rt: HostRuntime) -> io::Result<()> {

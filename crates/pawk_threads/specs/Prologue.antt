@@ -4,7 +4,11 @@ use Rattle.pawk_code.specs.Programs.{Code}
 use Rattle.pawk_input.specs.Input.{File}
 use Rattle.pawk_store.specs.Globals.{Globals, calls}
 use Rattle.pawk_meaning.specs.Records.{End, through}
-use Rattle.pawk_meaning.specs.Runs.{behind_begin, take_separator}
+use Rattle.pawk_meaning.specs.Runs.{behind_begin, behind_records, records_by_rs, take_separator}
+use Rattle.pawk_join.specs.MergeViews.{leaving_view}
+use Rattle.pawk_join.specs.MergeViews as merges
+use Rattle.pawk_join.specs.declared.merging.Merged.{Merged}
+use Rattle.pawk_gather.specs.Gathered.{behind_output}
 use Rattle.pawk_part.specs.Ends.{end_view}
 use Rattle.pawk_one.specs.Ends.{Answers}
 use Rattle.pawk_one.specs.declared.outcome.Outcome.{Outcome}
@@ -22,6 +26,13 @@ pub record IsTaken (rs : List ℕ) (e : End Globals) : Type 0 where
   pub unread : e.state.nr ≡ 0
   pub separator : separator_of e ≡ rs
   pub taken : take_separator rs e ≡ e
+
+-- the records behind BEGIN, which left e, end as what was merged into the globals says
+abbrev pub IsMerged : Code → ℕ → List ℕ → List File → End Globals → Prologue → Merged → Type 0
+IsMerged code budget rs files e prologue merged =
+    records_by_rs calls code.expressions code budget rs files e
+    ≡ behind_records calls code.expressions code budget (leaving_view merged.leaving)
+    (behind_output prologue.run.output.items (merges.end_view prologue.globals merged))
 
 -- Behind BEGIN the run went a way that is told, and ended so; or it has to be run again, one record after the other.
 abbrev pub Goes : Code → ℕ → List File → End Globals → Option (Outcome × Route) → Type 0

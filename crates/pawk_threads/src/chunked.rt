@@ -12,7 +12,7 @@ ghost use Rattle.pawk_admit.specs.Roles.{roles_view};
 ghost use Rattle.pawk_chunks.specs.Phases.{FaultsOrCreates};
 ghost use Rattle.pawk_crew.specs.Task.{IsChunked, IsCrew};
 ghost use Rattle.pawk_one.specs.Ends.{Answers};
-ghost use Rattle.pawk_threads.specs.Prologue.{IsTaken, end_of};
+ghost use Rattle.pawk_threads.specs.Prologue.{IsMerged, IsTaken, end_of};
 ghost use Rattle.pawk_threads.specs.Routes.{phase_behind};
 
 use crate::merging::{go_on_merged, lacks_memory};
@@ -24,11 +24,66 @@ use pawk_chunks::may_run;
 use pawk_crew::{Chunked, Gate, run_chunks};
 use pawk_gather::law::results_merge;
 use pawk_gather::merge_results;
+use pawk_join::Merged;
 use pawk_one::{Job, Outcome};
 use pawk_store::RecordState;
 use std::mem;
 use std::sync::Wait;
 use std::thread::Threads;
+
+/// Runs the records of an input in the chunks of a plan, and merges what they left into the globals; nothing
+/// where the chunks are not merged.
+fn merge_plan<'a, G: Gate + Sync, R: Threads + Wait>(
+    rt: &R,
+    job: Job<'_>,
+    prologue: &mut Prologue<'a>,
+    roles: &Roles,
+    source: Chunked<'_, 'a>,
+    workers: usize,
+    gate: &G,
+) -> Result<Option<Merged<'a>>, Refusal>
+    requires chunked { IsChunked source }
+    requires few { length source.plan.now ≤ most_chunks }
+    requires workers { IsCrew workers }
+    requires taken { IsTaken source.rs.now (end_of prologue.now) }
+    requires admissible { IsAdmissible (code_view job.code.now) }
+    requires roles { AreRoles (Occurs (code_view job.code.now)) (roles_view roles.now) }
+    ensures refused { IfErr result (λ e. e ≢ Refusal.Cutting) }
+    ensures went { IfOk result (λ o. MatchOption o
+        (FaultsOrCreates (phase_behind (code_view job.entry.code.now) (roles_view roles.now)
+        job.entry.budget (end_of prologue.old))
+        (items source.entry.rs.now (files_of source.entry.input.now)))
+        (λ merged. IsMerged (code_view job.entry.code.now) job.entry.budget
+        source.entry.rs.now (files_of source.entry.input.now)
+        (end_of prologue.old) prologue.new merged
+        × ¬ FaultsOrCreates (phase_behind (code_view job.entry.code.now) (roles_view roles.now)
+        job.entry.budget (end_of prologue.old))
+        (items source.entry.rs.now (files_of source.entry.input.now)))) }
+{
+    let alloc = prologue.run.alloc;
+    if !may_run(roles, &prologue.globals)? {
+        return Err(Refusal::Memory);
+    }
+    let opening = Opening {
+        job,
+        globals: &prologue.globals,
+        roles,
+        state: &prologue.run.state,
+    };
+    let results = run_chunks(rt, alloc, opening, source, workers, gate)?;
+    results_merge();
+    let state = mem::replace(&mut prologue.run.state, RecordState::new(alloc, 0)?);
+    match merge_results(alloc, &mut prologue.globals, state, results) {
+        Ok(merged) => Ok(Some(merged)),
+        Err(stop) => {
+            if lacks_memory(stop) {
+                Err(Refusal::Memory)
+            } else {
+                Ok(None)
+            }
+        }
+    }
+}
 
 /// Runs the records of an input in the chunks of a plan, and goes on behind them; nothing where the
 /// chunks are not merged.
@@ -60,27 +115,8 @@ pub(crate) fn run_plan<'a, G: Gate + Sync, R: Threads + Wait>(
         (items source.entry.rs.now (files_of source.entry.input.now)))) }
 {
     let mut prologue = prologue;
-    let alloc = prologue.run.alloc;
-    if !may_run(roles, &prologue.globals)? {
-        return Err(Refusal::Memory);
-    }
-    let opening = Opening {
-        job,
-        globals: &prologue.globals,
-        roles,
-        state: &prologue.run.state,
-    };
-    let results = run_chunks(rt, alloc, opening, source, workers, gate)?;
-    results_merge();
-    let state = mem::replace(&mut prologue.run.state, RecordState::new(alloc, 0)?);
-    match merge_results(alloc, &mut prologue.globals, state, results) {
-        Ok(merged) => Ok(Some(go_on_merged(job, prologue, merged)?)),
-        Err(stop) => {
-            if lacks_memory(stop) {
-                Err(Refusal::Memory)
-            } else {
-                Ok(None)
-            }
-        }
+    match merge_plan(rt, job, &mut prologue, roles, source, workers, gate)? {
+        Some(merged) => Ok(Some(go_on_merged(job, prologue, merged)?)),
+        None => Ok(None),
     }
 }

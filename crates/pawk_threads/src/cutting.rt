@@ -17,10 +17,10 @@ use std::sync::Wait;
 use std::thread::Threads;
 
 /// How many chunks there may be for each worker before the input is cut by a greater size.
-const CHUNKS_OF_WORKER: usize = 12;
+const CHUNKS_OF_WORKER: usize = 8;
 
 /// So many chunks there may always be.
-const FEW_CHUNKS: usize = 48;
+const FEW_CHUNKS: usize = 32;
 
 /// More there never are where a greater size gives fewer.
 const MANY_CHUNKS: usize = 256;
@@ -29,8 +29,8 @@ const MANY_CHUNKS: usize = 256;
 #[derive(Drop)]
 pub enum Cutting {
     /// A chunk ends before the first record that begins at least so many bytes past the chunk's begin,
-    /// or at the end of the file. The size is 1 or more. Where there are more such chunks than 12 for each
-    /// worker (but 48 at least, and 256 at most), the input is cut by a greater size: each chunk notes
+    /// or at the end of the file. The size is 1 or more. Where there are more such chunks than 8 for each
+    /// worker (but 32 at least, and 256 at most), the input is cut by a greater size: each chunk notes
     /// all keys that it meets, and the merge, which one thread does, goes through all of these.
     Size(u64),
     /// One more chunk begins at each of these places: a file, and an offset in it, both counted from 0.

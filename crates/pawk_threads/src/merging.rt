@@ -80,7 +80,7 @@ pub(crate) fn go_on_merged<'a>(
     let (mut globals, mut run) = (globals, run);
     let alloc = run.alloc;
     let before = mem::replace(&mut run.output, Vec::new(alloc));
-    let _before = mem::replace(&mut run.state, merged.state);
+    drop(mem::replace(&mut run.state, merged.state));
     let left = left_of(merged.leaving);
     let ending = run_behind_records(job, left, &mut globals, &mut run)?;
     let specials = run.state.specials(alloc)?;

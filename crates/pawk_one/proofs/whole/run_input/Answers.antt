@@ -1,4 +1,4 @@
-use Rattle.std.proofs.Common.{◌≡◌, ◌∙◌, ◌<◌, ◌≤◌, length, None, sym, ap, rules}
+use Rattle.std.proofs.Common.{◌≡◌, ◌∙◌, ◌<◌, ◌≤◌, length, None, sym, refl, rules}
 use Rattle.pawk_code.specs.ProgramViews.{code_view}
 use Rattle.pawk_input.specs.Input.{files_of, items}
 use Rattle.pawk_store.specs.Slots.{rs_slot}
@@ -9,7 +9,7 @@ use Rattle.pawk_part.specs.declared.left.Left.TheVariants.{Through}
 use Rattle.pawk_one.specs.declared.ending.Ending.TheVariants as ending
 use Rattle.pawk_one.specs.declared.ending.Place.TheVariants as place
 use Rattle.pawk_part.specs.Ends.{end_view}
-use Rattle.pawk_one.specs.Ends.{finish_view}
+use Rattle.pawk_one.specs.Ends.{finish_view, run_and_end}
 use Rattle.pawk_one.proofs.FinishLemmas.{finishes, rs_faults, rs_goes}
 use Rattle.pawk_one.proofs.whole.run_input.Goals as goal
 
@@ -36,9 +36,8 @@ returns-clause-ends g c =
     let text = text_of (g.W.World.calls.look rs_slot world) in
     let short : length rs ≤ 1 = search rules in
     let files = files_of c.args.input.now in
-    let behind = end_view (g.W.World.state c.run_records.new.world) c.run_records.new.run c.in_ok-left.left in
-    let finish = finish_view (g.W.World.state c.run_behind_records.new.world) c.run_behind_records.new.run c.in_ok-ending.ending in
-    let walk = c.records.ensures.walk ∙ (λ i. items (c.as_slice-2.ensures.value i) (c.mend.ensures.same i)) in
-    let ran : records_from g.W.World.calls code.expressions code budget None (end_view world run Through) (items rs files) ≡ behind = ap (records_from g.W.World.calls code.expressions code budget None (end_view world run Through)) (sym walk) ∙ c.in_ok-left.ensures in
-    let told = rs_goes g.W.World.calls code.expressions code budget text rs files (end_view world c.args.run Through) (end_view world run Through) behind finish c.in_ok-rs.ensures.text short c.in_ok-rs.ensures.taken ran c.in_ok-ending.ensures in
-    finishes _ (g.W.World.state c.run_behind_records.new.world) c.run_behind_records.new.run c.in_ok-ending.ending c.of-2.result told c.of-2.ensures.output c.of-2.ensures.ending c.of-2.ensures.specials
+    let taken = end_view world run Through in
+    let finish = finish_view (g.W.World.state c.run_mended.new.world) c.run_mended.new.run c.in_ok-ending.ending in
+    let ends : run_and_end g.W.World.calls code budget (items rs files) taken ≡ finish = (λ i. run_and_end g.W.World.calls code budget (items (sym c.as_slice-2.ensures.value i) (sym c.mend.ensures.same i)) taken) ∙ c.in_ok-ending.ensures in
+    let told = rs_goes g.W.World.calls code.expressions code budget text rs files (end_view world c.args.run Through) taken (records_from g.W.World.calls code.expressions code budget None taken (items rs files)) finish c.in_ok-rs.ensures.text short c.in_ok-rs.ensures.taken refl ends in
+    finishes _ (g.W.World.state c.run_mended.new.world) c.run_mended.new.run c.in_ok-ending.ending c.of-2.result told c.of-2.ensures.output c.of-2.ensures.ending c.of-2.ensures.specials

@@ -21,7 +21,7 @@ returns c =
     let left = left_view c.left_of-left.result in
     let e : End Globals = record {
       world = c.args.prologue.globals;
-      state = state_of c.replace-before-2.new.dest;
+      state = state_of c.replace.new.dest;
       output = c.replace-before.new.dest.items;
       left = left;
     } in
@@ -29,7 +29,7 @@ returns c =
     let x : End Globals = behind_output written (merges.end_view c.args.prologue.globals c.args.merged) in
     let same : x ≡ record e { output = out } = λ i. record {
       world = c.args.prologue.globals;
-      state = state_of (sym c.replace-before-2.ensures.after i);
+      state = state_of (sym c.replace.ensures.after i);
       output = out;
       left = sym c.left_of-left.ensures i;
     } in
