@@ -36,8 +36,8 @@ fn quick_leaf<W: World>(leaf: &Leaf, world: &W, run: &mut Run<'_>) -> Option<i64
     }
 }
 
-/// The number of an expression, where it is a leaf, a field, or made of these by `length`, `index` and at most so many
-/// levels of operations, and there is no fault; then no moment changes.
+/// The number of an expression, where it is a leaf, a field whose index has such a number, `length` or `index` of leaves,
+/// or made of these by at most so many levels of operations, and there is no fault; then no moment changes.
 ///
 /// Where there is none nothing is said of the expression: it may have a number too. The levels bound what
 /// is evaluated in vain.

@@ -102,7 +102,11 @@ fn when<'t>(globals: &Globals<'t>, alloc: Global, e: &'t Tree) -> Result<Box<Sel
 }
 
 /// An expression outside of functions, in a box.
-fn boxed<'t>(globals: &Globals<'t>, alloc: Global, e: &'t Tree) -> Result<Box<Expr>, AllocError>
+fn boxed_expression<'t>(
+    globals: &Globals<'t>,
+    alloc: Global,
+    e: &'t Tree,
+) -> Result<Box<Expr>, AllocError>
     ensures { IfOk result (λ x. view x.value ≡
         resolved (spec.global_scope (globals_view globals.now)) (tree_view e.now)) }
 {
@@ -121,8 +125,8 @@ fn range<'t>(
         (resolved (spec.global_scope (globals_view globals.now)) (tree_view e.now))
         (resolved (spec.global_scope (globals_view globals.now)) (tree_view f.now))) }
 {
-    let first = boxed(globals, alloc, e)?;
-    let last = boxed(globals, alloc, f)?;
+    let first = boxed_expression(globals, alloc, e)?;
+    let last = boxed_expression(globals, alloc, f)?;
     let range = Selector::Range(Box::into_inner(first), Box::into_inner(last));
     Ok(Box::new(alloc, range)?)
 }
