@@ -3,6 +3,7 @@
 #   make            prove and build build/pawk
 #   make demo       build it and run it on three lines: the last line is 6
 #   make test       the whole gate, and then what stands beside it (tests/run)
+#   make wrong      the wrong bodies that the gate leaves out (tests/wrong)
 #   make bench      compare its user time with that of mawk and gawk, its elapsed time by workers, the times of
 #                   expressions, of fields and of keys, and 24 programs beside mawk, gawk and original-awk
 #   make install    put it at $(PREFIX)/bin/pawk (PREFIX is /usr/local)
@@ -12,7 +13,7 @@ PREFIX = /usr/local
 BENCH_DATA = bench/files
 MAKEFLAGS += --no-print-directory
 
-.PHONY: all build fetch demo test bench install clean toolchain
+.PHONY: all build fetch demo test wrong bench install clean toolchain
 
 all: build
 
@@ -42,8 +43,11 @@ test: toolchain
 	@$(MAKE) fetch
 	tests/run
 
+wrong: toolchain
+	tests/wrong
+
 bench: build
-	@test -e $(BENCH_DATA)/ten.txt || bench/data $(BENCH_DATA)
+	@test -e $(BENCH_DATA)/wide.txt || bench/data $(BENCH_DATA)
 	@test -e $(BENCH_DATA)/log.txt || bench/log $(BENCH_DATA)
 	@test -e $(BENCH_DATA)/suite/values.txt || bench/records $(BENCH_DATA)/suite
 	bench/run $(BENCH_DATA)

@@ -144,24 +144,26 @@ fn is_plain(matches: &ArgMatches<'_>, id: &str) -> bool {
     }
 }
 
-/// Where the program's text stands, if the words tell, and the files.
-fn operands<'a>(
+/// Where the program's text stands, if the words tell.
+fn program_source<'a>(matches: &ArgMatches<'a>) -> Option<Source<'a>> {
+    match matches.get_str("program-file") {
+        Some(name) => Some(Source::File(name)),
+        None => Some(Source::Words(matches.get_str("program")?)),
+    }
+}
+
+/// The files: all operands where the program's text stands in a file, else those behind the text.
+fn file_names<'a>(
     alloc: Global,
     matches: &ArgMatches<'a>,
-) -> Result<Option<(Source<'a>, Vec<&'a str>)>, AllocError> {
-    let mut files = Vec::new(alloc);
-    let source = match (matches.get_str("program-file"), matches.get_str("program")) {
-        (Some(name), first) => {
-            if let Some(first) = first {
-                files.push(first)?;
-            }
-            Source::File(name)
-        }
-        (None, Some(text)) => Source::Words(text),
-        (None, None) => return Ok(None),
-    };
-    files.extend_from_slice(matches.get_strs("file").unwrap_or(&[]))?;
-    Ok(Some((source, files)))
+    program: Source<'a>,
+) -> Result<Vec<&'a str>, AllocError> {
+    let mut names = Vec::new(alloc);
+    if let (Source::File(_), Some(first)) = (program, matches.get_str("program")) {
+        names.push(first)?;
+    }
+    names.extend_from_slice(matches.get_strs("file").unwrap_or(&[]))?;
+    Ok(names)
 }
 
 /// Whether the values of all options that are numbers are written in digits alone.
@@ -169,23 +171,21 @@ fn are_plain(matches: &ArgMatches<'_>) -> bool {
     is_plain(matches, "workers") && is_plain(matches, "chunk") && is_plain(matches, "steps")
 }
 
-/// Reads the words, of which the first is the program's name.
-///
-/// `Line` comes where the words are at fault or ask for help, `Memory` where memory was refused.
-pub(crate) fn read_words<'a>(alloc: Global, words: &'a [String]) -> Result<Request<'a>, Stop> {
-    let mut command = definition(alloc)?;
-    let matches = command.try_get_matches_from_mut(words)?;
-    let Some((program, files)) = operands(alloc, &matches)? else {
-        let error = command.error(ErrorKind::MissingRequiredArgument, "no program")?;
-        return Err(Stop::Line(error));
-    };
-    if !are_plain(&matches) {
-        let error = command.error(
-            ErrorKind::ValueValidation,
-            "a number is written in digits alone",
-        )?;
-        return Err(Stop::Line(error));
+/// What is told of words at fault; want of memory where it cannot be told.
+fn fault(command: &mut Command<'_>, kind: ErrorKind, text: &str) -> Stop {
+    match command.error(kind, text) {
+        Ok(error) => Stop::Line(error),
+        Err(AllocError) => Stop::Memory,
     }
+}
+
+/// What the words ask for that were read so.
+fn request_of<'a>(
+    alloc: Global,
+    matches: &ArgMatches<'a>,
+    program: Source<'a>,
+) -> Result<Request<'a>, AllocError> {
+    let files = file_names(alloc, matches, program)?;
     Ok(Request {
         program,
         assignments: Vec::from_slice(alloc, matches.get_strs("assignment").unwrap_or(&[]))?,
@@ -199,4 +199,22 @@ pub(crate) fn read_words<'a>(alloc: Global, words: &'a [String]) -> Result<Reque
         chunk: matches.get_one::<u64>("chunk").unwrap_or(CHUNK).max(1),
         why: matches.get_flag("why"),
     })
+}
+
+/// Reads the words, of which the first is the program's name.
+///
+/// `Line` comes where the words are at fault or ask for help, `Memory` where memory was refused.
+pub(crate) fn read_words<'a>(alloc: Global, words: &'a [String]) -> Result<Request<'a>, Stop> {
+    let mut command = definition(alloc)?;
+    let matches = command.try_get_matches_from_mut(words)?;
+    let Some(program) = program_source(&matches) else {
+        let kind = ErrorKind::MissingRequiredArgument;
+        return Err(fault(&mut command, kind, "no program"));
+    };
+    if !are_plain(&matches) {
+        let kind = ErrorKind::ValueValidation;
+        let text = "a number is written in digits alone";
+        return Err(fault(&mut command, kind, text));
+    }
+    Ok(request_of(alloc, &matches, program)?)
 }

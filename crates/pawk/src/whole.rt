@@ -64,6 +64,14 @@ fn read_settings(
     }
 }
 
+/// The code of a program's text, and the settings of its run.
+fn prepare(alloc: Global, request: &Request<'_>, text: &[u8]) -> Result<(Code, Settings), Stop> {
+    let program = read_program(alloc, text)?;
+    let settings = read_settings(alloc, request, &program)?;
+    let code = resolve(alloc, &program)?;
+    Ok((code, settings))
+}
+
 /// Whether a program's text may name the record separator.
 fn may_separate(text: &[u8]) -> bool {
     text.windows(2).any(|pair| pair == b"RS".as_slice())
@@ -143,9 +151,7 @@ where
     O: Write,
 {
     let alloc = rt.alloc();
-    let program = read_program(alloc, text)?;
-    let settings = read_settings(alloc, request, &program)?;
-    let code = resolve(alloc, &program)?;
+    let (code, settings) = prepare(alloc, request, text)?;
     let mut input = open_input(rt, request, readers(request, text), &code, input)?;
     let job = Job {
         code: &code,

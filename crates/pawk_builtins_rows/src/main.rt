@@ -21,6 +21,8 @@
 //! What is told stands behind a space, bytes behind a colon. A fault tells its name in brackets, and the row goes on.
 #![tactic(auto)]
 
+mod verbs;
+
 use pawk_builtins::{
     Expression, Matchers, Values, format_values, index, match_place, push_letters, substring,
     suffix,
@@ -34,6 +36,7 @@ use pawk_value::{Fault, Held, Stop};
 use std::alloc::{AllocError, Global};
 use std::io;
 use std::ops::Range;
+use verbs::Verb;
 
 /// The piece of a cell with that number, counted from 0.
 fn part(cell: &[u8], number: usize) -> &[u8] {
@@ -45,10 +48,19 @@ fn signed(piece: &[u8]) -> i64 {
     str::from_utf8(piece).unwrap_or("").parse().unwrap_or(0)
 }
 
+/// Adds a number that is not negative.
+fn tell_count(count: usize, out: &mut Vec<u8>) -> Result<(), AllocError> {
+    out.push(b' ')?;
+    push_decimal(count as u64, out)
+}
+
 /// Adds a number.
-fn tell_number(alloc: Global, number: i64, out: &mut Vec<u8>) -> Result<(), AllocError> {
-    let text = format!(in alloc; " {number}")?;
-    out.extend_from_slice(text.as_str().as_bytes())
+fn tell_number(number: i64, out: &mut Vec<u8>) -> Result<(), AllocError> {
+    out.push(b' ')?;
+    if number < 0 {
+        out.push(b'-')?;
+    }
+    push_decimal(number.unsigned_abs(), out)
 }
 
 /// Adds bytes.
@@ -59,12 +71,53 @@ fn tell_bytes(bytes: &[u8], out: &mut Vec<u8>) -> Result<(), AllocError> {
 
 /// Adds pieces of a text.
 fn tell_pieces(text: &[u8], ranges: &[Range<usize>], out: &mut Vec<u8>) -> Result<(), AllocError> {
-    out.push(b' ')?;
-    push_decimal(ranges.len() as u64, out)?;
+    tell_count(ranges.len(), out)?;
     for range in ranges {
         tell_bytes(text.get(range.start..range.end).unwrap_or(b""), out)?;
     }
     Ok(())
+}
+
+/// A call of a row.
+#[derive(Clone, Copy)]
+struct Call<'c> {
+    /// The expressions between slashes.
+    eres: &'c [Vec<u8>],
+    /// The number of the cell.
+    number: usize,
+    /// The cell.
+    cell: &'c [u8],
+    /// The bytes that its pieces write.
+    texts: &'c [Vec<u8>],
+}
+
+impl<'c> Call<'c> {
+    /// The name of the call.
+    fn name(self) -> &'c [u8] {
+        part(self.cell, 0)
+    }
+
+    /// The bytes that the piece with that number writes.
+    fn text(self, number: usize) -> &'c [u8] {
+        match self.texts.get(number) {
+            Some(text) => text.as_slice(),
+            None => b"",
+        }
+    }
+
+    /// The number that the piece with that number writes.
+    fn number_at(self, number: usize) -> i64 {
+        signed(part(self.cell, number))
+    }
+
+    /// The expression of the call that has the pattern.
+    fn expression(self, pattern: &'c Pattern) -> Expression<'c> {
+        Expression {
+            eres: self.eres,
+            pattern,
+            text: self.text(1),
+        }
+    }
 }
 
 /// The pattern of a call: of the cell of this number, if its name says nothing else.
@@ -87,33 +140,35 @@ fn push_value(values: &mut Values, piece: &[u8], bytes: &[u8]) -> Result<(), All
     }
 }
 
-/// The format of a cell: one that does not change, or one that is a value.
-fn format_of(alloc: Global, cell: &[u8], text: &[u8]) -> Result<Format, AllocError> {
-    if part(cell, 0) == b"template".as_slice() {
-        return Ok(Format::Fixed(FixedFormat::read(alloc, text)?));
+/// The format of a call: one that does not change, or one that is a value.
+fn format_of(alloc: Global, verb: Verb, text: &[u8]) -> Result<Format, AllocError> {
+    match verb {
+        Verb::Template => Ok(Format::Fixed(FixedFormat::read(alloc, text)?)),
+        _ => Ok(Format::Value(Box::new(alloc, Expr::Leaf(Leaf::Number(0)))?)),
     }
-    Ok(Format::Value(Box::new(alloc, Expr::Leaf(Leaf::Number(0)))?))
 }
 
-/// The values of a cell behind its format.
-fn values_of(alloc: Global, cell: &[u8]) -> Result<Values, AllocError> {
+/// The values of a call behind its format.
+fn values_of(alloc: Global, call: Call<'_>) -> Result<Values, AllocError> {
     let mut values = Values::new(alloc);
     for number in 2..5 {
-        let bytes = decode(alloc, part(cell, number))?;
-        let behind = bytes.get(1..).unwrap_or(b"");
-        push_value(&mut values, part(cell, number), behind)?;
+        let behind = call.text(number).get(1..).unwrap_or(b"");
+        push_value(&mut values, part(call.cell, number), behind)?;
     }
     Ok(values)
 }
 
+/// What a format makes of values.
+fn format_call(alloc: Global, verb: Verb, call: Call<'_>) -> Result<Vec<u8>, Stop> {
+    let values = values_of(alloc, call)?;
+    let format = format_of(alloc, verb, call.text(1))?;
+    format_values(alloc, &format, call.text(1), &values)
+}
+
 /// Tells what a format makes of values.
-fn tell_format(alloc: Global, cell: &[u8], out: &mut Vec<u8>) -> Result<(), Stop> {
-    let text = decode(alloc, part(cell, 1))?;
-    let values = values_of(alloc, cell)?;
-    let format = format_of(alloc, cell, text.as_slice())?;
-    let line = format_values(alloc, &format, text.as_slice(), &values)?;
-    tell_bytes(line.as_slice(), out)?;
-    Ok(())
+fn tell_format(alloc: Global, verb: Verb, call: Call<'_>, out: &mut Vec<u8>) -> Result<(), Stop> {
+    let line = format_call(alloc, verb, call)?;
+    Ok(tell_bytes(line.as_slice(), out)?)
 }
 
 /// Tells a text with its letters changed.
@@ -128,53 +183,28 @@ fn tell_letters(
     tell_bytes(letters.as_slice(), out)
 }
 
-/// Does a call that takes no expression.
-fn act_on_text(alloc: Global, cell: &[u8], out: &mut Vec<u8>) -> Result<(), AllocError> {
-    let text = decode(alloc, part(cell, 1))?;
-    tell_text_call(alloc, cell, text.as_slice(), out)
-}
-
 /// Tells what a call without an expression makes of a text.
 fn tell_text_call(
     alloc: Global,
-    cell: &[u8],
-    text: &[u8],
+    verb: Verb,
+    call: Call<'_>,
     out: &mut Vec<u8>,
 ) -> Result<(), AllocError> {
-    match part(cell, 0) {
-        b"index" => {
-            let sought = decode(alloc, part(cell, 2))?;
-            out.push(b' ')?;
-            push_decimal(index(text, sought.as_slice()) as u64, out)
-        }
-        b"part" => tell_bytes(
-            substring(text, signed(part(cell, 2)), signed(part(cell, 3))),
-            out,
-        ),
-        b"rest" => tell_bytes(suffix(text, signed(part(cell, 2))), out),
-        b"lower" => tell_letters(alloc, Case::Lower, text, out),
+    let text = call.text(1);
+    match verb {
+        Verb::Index => tell_count(index(text, call.text(2)), out),
+        Verb::Part => tell_bytes(substring(text, call.number_at(2), call.number_at(3)), out),
+        Verb::Rest => tell_bytes(suffix(text, call.number_at(2)), out),
+        Verb::Lower => tell_letters(alloc, Case::Lower, text, out),
         _ => tell_letters(alloc, Case::Upper, text, out),
     }
 }
 
-/// A call that takes an expression.
-#[derive(Clone, Copy)]
-struct Call<'c> {
-    /// The expressions between slashes.
-    eres: &'c [Vec<u8>],
-    /// The number of the cell.
-    number: usize,
-    /// The cell.
-    cell: &'c [u8],
-}
-
-/// The expression of a call that has the pattern, with its text.
-fn expression_of<'c>(call: Call<'c>, pattern: &'c Pattern, text: &'c [u8]) -> Expression<'c> {
-    Expression {
-        eres: call.eres,
-        pattern,
-        text,
-    }
+/// Where the expression of a call matches first.
+fn match_call(alloc: Global, matchers: &mut Matchers, call: Call<'_>) -> Result<(i64, i64), Stop> {
+    let pattern = pattern_of(alloc, call.name(), call.number)?;
+    let found = matchers.find(call.expression(&pattern), call.text(2))?;
+    Ok(match_place(found))
 }
 
 /// Tells where an expression matches first.
@@ -184,15 +214,9 @@ fn tell_match(
     call: Call<'_>,
     out: &mut Vec<u8>,
 ) -> Result<(), Stop> {
-    let pattern = pattern_of(alloc, part(call.cell, 0), call.number)?;
-    let ere = decode(alloc, part(call.cell, 1))?;
-    let text = decode(alloc, part(call.cell, 2))?;
-    let expression = expression_of(call, &pattern, ere.as_slice());
-    let found = matchers.find(expression, text.as_slice())?;
-    let (start, length) = match_place(found);
-    tell_number(alloc, start, out)?;
-    tell_number(alloc, length, out)?;
-    Ok(())
+    let (start, length) = match_call(alloc, matchers, call)?;
+    tell_number(start, out)?;
+    Ok(tell_number(length, out)?)
 }
 
 /// Which matches a call replaces.
@@ -203,6 +227,24 @@ fn count_of(name: &[u8]) -> Count {
     }
 }
 
+/// How many matches a call replaces, and the new text.
+fn replace_call(
+    alloc: Global,
+    matchers: &mut Matchers,
+    call: Call<'_>,
+) -> Result<(usize, Vec<u8>), Stop> {
+    let pattern = pattern_of(alloc, call.name(), call.number)?;
+    let mut new = Vec::new(alloc);
+    let count = matchers.replace(
+        count_of(call.name()),
+        call.expression(&pattern),
+        call.text(2),
+        call.text(3),
+        &mut new,
+    )?;
+    Ok((count, new))
+}
+
 /// Tells a text with matches replaced.
 fn tell_replaced(
     alloc: Global,
@@ -210,22 +252,8 @@ fn tell_replaced(
     call: Call<'_>,
     out: &mut Vec<u8>,
 ) -> Result<(), Stop> {
-    let name = part(call.cell, 0);
-    let pattern = pattern_of(alloc, name, call.number)?;
-    let ere = decode(alloc, part(call.cell, 1))?;
-    let replacement = decode(alloc, part(call.cell, 2))?;
-    let text = decode(alloc, part(call.cell, 3))?;
-    let expression = expression_of(call, &pattern, ere.as_slice());
-    let mut new = Vec::new(alloc);
-    let count = matchers.replace(
-        count_of(name),
-        expression,
-        replacement.as_slice(),
-        text.as_slice(),
-        &mut new,
-    )?;
-    out.push(b' ')?;
-    push_decimal(count as u64, out)?;
+    let (count, new) = replace_call(alloc, matchers, call)?;
+    tell_count(count, out)?;
     if count > 0 {
         tell_bytes(new.as_slice(), out)?;
     }
@@ -234,37 +262,33 @@ fn tell_replaced(
 
 /// Tells the pieces of a text.
 fn tell_split(
-    alloc: Global,
     matchers: &mut Matchers,
+    verb: Verb,
     call: Call<'_>,
     out: &mut Vec<u8>,
 ) -> Result<(), Stop> {
-    let separator = decode(alloc, part(call.cell, 1))?;
-    let text = decode(alloc, part(call.cell, 2))?;
-    let ranges = if part(call.cell, 0) == b"between".as_slice() {
-        matchers.split_between(call.eres, call.number, text.as_slice())?
-    } else {
-        matchers.split_by(separator.as_slice(), text.as_slice())?
+    let text = call.text(2);
+    let ranges = match verb {
+        Verb::Between => matchers.split_between(call.eres, call.number, text)?,
+        _ => matchers.split_by(call.text(1), text)?,
     };
-    tell_pieces(text.as_slice(), ranges.as_slice(), out)?;
-    Ok(())
+    Ok(tell_pieces(text, ranges.as_slice(), out)?)
 }
 
-/// Does what a cell asks.
+/// Does what a call asks.
 fn act(
     alloc: Global,
     matchers: &mut Matchers,
     call: Call<'_>,
     out: &mut Vec<u8>,
 ) -> Result<(), Stop> {
-    match part(call.cell, 0) {
-        b"index" | b"part" | b"rest" | b"lower" | b"upper" => {
-            Ok(act_on_text(alloc, call.cell, out)?)
-        }
-        b"format" | b"template" => tell_format(alloc, call.cell, out),
-        b"pieces" | b"between" => tell_split(alloc, matchers, call, out),
-        b"match" | b"matchv" | b"match0" => tell_match(alloc, matchers, call, out),
-        _ => tell_replaced(alloc, matchers, call, out),
+    let verb = Verb::of(call.name());
+    match verb {
+        Verb::Format | Verb::Template => tell_format(alloc, verb, call, out),
+        Verb::Pieces | Verb::Between => tell_split(matchers, verb, call, out),
+        Verb::Match => tell_match(alloc, matchers, call, out),
+        Verb::Replace => tell_replaced(alloc, matchers, call, out),
+        _ => Ok(tell_text_call(alloc, verb, call, out)?),
     }
 }
 
@@ -276,8 +300,8 @@ fn tell_fault(fault: Fault, out: &mut Vec<u8>) -> Result<(), AllocError> {
     Ok(())
 }
 
-/// Does what a cell asks, or tells the fault.
-fn answer_cell(
+/// Does what a call asks, or tells the fault.
+fn answer_call(
     alloc: Global,
     matchers: &mut Matchers,
     call: Call<'_>,
@@ -290,6 +314,15 @@ fn answer_cell(
     }
 }
 
+/// The bytes that the pieces of a cell write.
+fn texts_of(alloc: Global, cell: &[u8]) -> Result<Vec<Vec<u8>>, AllocError> {
+    let mut texts = Vec::new(alloc);
+    for piece in cell.split(|byte| *byte == b'|') {
+        texts.push(decode(alloc, piece)?)?;
+    }
+    Ok(texts)
+}
+
 /// The expressions of a row's cells.
 fn expressions_of(alloc: Global, row: &[u8]) -> Result<Vec<Vec<u8>>, AllocError> {
     let mut eres = Vec::new(alloc);
@@ -299,30 +332,60 @@ fn expressions_of(alloc: Global, row: &[u8]) -> Result<Vec<Vec<u8>>, AllocError>
     Ok(eres)
 }
 
-/// The answer to a row.
-fn answer(alloc: Global, row: &[u8]) -> Result<Vec<u8>, AllocError> {
+/// Answers the cell of a row with that number.
+fn answer_cell(
+    alloc: Global,
+    matchers: &mut Matchers,
+    eres: &[Vec<u8>],
+    row: &[u8],
+    number: usize,
+    out: &mut Vec<u8>,
+) -> Result<(), AllocError> {
+    let cell = cell(row, number);
+    let texts = texts_of(alloc, cell)?;
+    let call = Call {
+        eres,
+        number,
+        cell,
+        texts: texts.as_slice(),
+    };
+    answer_call(alloc, matchers, call, out)
+}
+
+/// Answers the cells of a row.
+fn answer_cells(
+    alloc: Global,
+    matchers: &mut Matchers,
+    eres: &[Vec<u8>],
+    row: &[u8],
+    out: &mut Vec<u8>,
+) -> Result<(), AllocError> {
+    for number in 0..eres.len() {
+        answer_cell(alloc, matchers, eres, row, number, out)?;
+    }
+    Ok(())
+}
+
+/// Adds the answer to a row.
+fn push_answer(alloc: Global, row: &[u8], out: &mut Vec<u8>) -> Result<(), AllocError> {
     let eres = expressions_of(alloc, row)?;
     let mut matchers = Matchers::new(alloc, eres.len())?;
-    let mut out = Vec::new(alloc);
-    for number in 0..eres.len() {
-        let call = Call {
-            eres: eres.as_slice(),
-            number,
-            cell: cell(row, number),
-        };
-        answer_cell(alloc, &mut matchers, call, &mut out)?;
-    }
-    Ok(out)
+    answer_cells(alloc, &mut matchers, eres.as_slice(), row, out)
+}
+
+/// Prints the answer to a row.
+fn print_answer(rt: &HostRuntime, row: &[u8]) -> io::Result<()> {
+    let mut out = Vec::new(rt.alloc());
+    push_answer(rt.alloc(), row, &mut out)?;
+    println!(rt;
+        "{}",
+        str::from_utf8(out.as_slice()).unwrap_or("not a text")
+    )
 }
 
 fn main(rt: HostRuntime) -> io::Result<()> {
-    for row in rt.lines(rt.alloc()) {
-        let row = row?;
-        let line = answer(rt.alloc(), row.as_str().as_bytes())?;
-        println!(rt;
-            "{}",
-            str::from_utf8(line.as_slice()).unwrap_or("not a text")
-        )?;
+    for line in rt.lines(rt.alloc()) {
+        print_answer(&rt, line?.as_str().as_bytes())?;
     }
     Ok(())
 }

@@ -16,9 +16,10 @@
 //! answers are the same.
 #![tactic(auto)]
 
-ghost use Rattle.std.specs.Prelude.{◌≡◌, ◌≤◌, length};
+ghost use Rattle.pawk_ere.specs.Kept.{IsOfItsText};
+ghost use Rattle.std.specs.Prelude.{◌≡◌, ◌≤◌, length, IfOk};
 
-use pawk_ere::{Cache, Ere, EreRefusal, Matcher};
+use pawk_ere::{Cache, Ere, EreRefusal, Loan, Matcher};
 use pawk_rows::{number, piece, push_decimal, push_parts};
 use std::alloc::{AllocError, Global};
 use std::io;
@@ -49,6 +50,15 @@ const PLACES: [usize; 3] = [0, 1, 3];
 struct Caches {
     small: Cache,
     large: Cache,
+}
+
+impl Caches {
+    /// Empty caches of one expression and of 1,024.
+    fn new(alloc: Global) -> Result<Caches, AllocError> {
+        let small = Cache::with(alloc, 1)?;
+        let large = Cache::with(alloc, 1024)?;
+        Ok(Caches { small, large })
+    }
 }
 
 /// A search: the expression, the text, and the byte where the search begins.
@@ -110,12 +120,19 @@ fn find_cached(
     }
 }
 
-/// What a matcher finds that a cache lends, asked for again after a want of memory.
+/// The matcher that a cache lends, asked for again after a want of memory.
+fn lend(cache: &mut Cache, pattern: &[u8]) -> Result<Loan, EreRefusal>
+    ensures { IfOk result IsOfItsText }
+{
+    match cache.lend(pattern) {
+        Err(EreRefusal::Memory) => cache.lend(pattern),
+        answer => answer,
+    }
+}
+
+/// What a matcher finds that a cache lends.
 fn find_lent(cache: &mut Cache, asked: Question<'_>) -> Result<Option<(usize, usize)>, EreRefusal> {
-    let mut loan = match cache.lend(asked.pattern) {
-        Err(EreRefusal::Memory) => cache.lend(asked.pattern)?,
-        answer => answer?,
-    };
+    let mut loan = lend(cache, asked.pattern)?;
     let found = find(&mut loan.matcher, asked);
     if asked.from == 0 {
         cache.take_back(loan);
@@ -296,13 +313,15 @@ fn answer_line(rt: &HostRuntime, caches: &mut Caches, line: io::Result<String>) 
     )
 }
 
-fn main(rt: HostRuntime) -> io::Result<()> {
-    let mut caches = Caches {
-        small: Cache::with(rt.alloc(), 1)?,
-        large: Cache::with(rt.alloc(), 1024)?,
-    };
+/// Answers each line.
+fn answer_lines(rt: &HostRuntime, caches: &mut Caches) -> io::Result<()> {
     for line in rt.lines(rt.alloc()) {
-        answer_line(&rt, &mut caches, line)?;
+        answer_line(rt, caches, line)?;
     }
     Ok(())
+}
+
+fn main(rt: HostRuntime) -> io::Result<()> {
+    let mut caches = Caches::new(rt.alloc())?;
+    answer_lines(&rt, &mut caches)
 }

@@ -1,5 +1,6 @@
 //! Rows about fields.
 
+use crate::verbs::Verb;
 use pawk_input::FieldSeparator;
 use pawk_rows::{cell, decode, number, push_decimal, push_encoded};
 use std::alloc::{AllocError, Global};
@@ -83,25 +84,27 @@ fn separator_of(alloc: Global, row: &[u8]) -> Result<Option<FieldSeparator>, All
 }
 
 /// Adds the answer to a row on the fields between a separator.
-fn push_separated(alloc: Global, row: &[u8], out: &mut Vec<u8>) -> Result<(), AllocError> {
+pub fn push_separated(
+    alloc: Global,
+    verb: Verb,
+    row: &[u8],
+    out: &mut Vec<u8>,
+) -> Result<(), AllocError> {
     let record = decode(alloc, cell(row, 3))?;
-    match separator_of(alloc, row)? {
-        None => out.extend_from_slice(b"no such separator"),
-        Some(separator) => match cell(row, 0) {
-            b"split" => push_ranges(alloc, record.as_slice(), separator, out),
-            _ => push_pieces(record.as_slice(), separator, out),
-        },
+    match (separator_of(alloc, row)?, verb) {
+        (None, _) => out.extend_from_slice(b"no such separator"),
+        (Some(separator), Verb::Split) => push_ranges(alloc, record.as_slice(), separator, out),
+        (Some(separator), _) => push_pieces(record.as_slice(), separator, out),
     }
 }
 
-/// Adds the answer to a row on fields.
-pub fn push_answer(alloc: Global, row: &[u8], out: &mut Vec<u8>) -> Result<(), AllocError> {
-    match cell(row, 0) {
-        b"fields" => push_fields(decode(alloc, cell(row, 1))?.as_slice(), out),
-        b"field" => {
-            let record = decode(alloc, cell(row, 2))?;
-            push_numbered(record.as_slice(), number(cell(row, 1)) as usize, out)
-        }
-        _ => push_separated(alloc, row, out),
-    }
+/// Adds the answer to a row on the fields of a record.
+pub fn push_of_record(alloc: Global, row: &[u8], out: &mut Vec<u8>) -> Result<(), AllocError> {
+    push_fields(decode(alloc, cell(row, 1))?.as_slice(), out)
+}
+
+/// Adds the answer to a row on the field of a number.
+pub fn push_of_number(alloc: Global, row: &[u8], out: &mut Vec<u8>) -> Result<(), AllocError> {
+    let record = decode(alloc, cell(row, 2))?;
+    push_numbered(record.as_slice(), number(cell(row, 1)) as usize, out)
 }

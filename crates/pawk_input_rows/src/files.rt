@@ -4,16 +4,17 @@ ghost use Rattle.std.specs.Prelude.{◌≤◌, length, IfOk, IfSome};
 ghost use Rattle.pawk_input.specs.Input.{IsReady};
 
 use crate::plans;
+use crate::verbs::Verb;
 use pawk_input::{Blocks, Input, Records, count_block, count_blocks};
 use pawk_rows::{cell, decode, number, push_decimal, push_encoded};
 use std::alloc::{AllocError, Global};
 
 /// The number of the cell where a row's files begin. The separator stands before them.
-fn first_file(verb: &[u8]) -> usize {
+fn first_file(verb: Verb) -> usize {
     match verb {
-        b"files" => 1,
-        b"records" => 2,
-        b"counted" | b"begins" => 4,
+        Verb::Files => 1,
+        Verb::Records => 2,
+        Verb::Counted | Verb::Begins => 4,
         _ => 3,
     }
 }
@@ -39,22 +40,14 @@ fn blocks_of(alloc: Global, word: &[u8]) -> Result<Blocks, AllocError> {
 }
 
 /// The files of a row, from a cell on: the cells of names and bytes by turns.
-fn files_of(alloc: Global, row: &[u8], first: usize) -> Result<Vec<(&[u8], &[u8])>, AllocError> {
-    let mut files = Vec::new(alloc);
-    let mut name = None;
-    for word in row.split(|byte| *byte == b'\t').skip(first) {
-        match name.take() {
-            None => name = Some(word),
-            Some(name) => files.push((name, word))?,
-        }
-    }
-    Ok(files)
+fn files_of(alloc: Global, row: &[u8], first: usize) -> Result<Vec<&[u8]>, AllocError> {
+    row.split(|byte| *byte == b'\t').skip(first).collect(alloc)
 }
 
-/// Whether a file of a row lies in blocks.
-fn has_blocks(files: &[(&[u8], &[u8])]) -> bool {
-    for file in files {
-        if file.1.contains(&b'|') {
+/// Whether a file lies in blocks.
+fn has_blocks(files: &[&[u8]]) -> bool {
+    for file in 0..files.len() / 2 {
+        if files[2 * file + 1].contains(&b'|') {
             return true;
         }
     }
@@ -62,33 +55,27 @@ fn has_blocks(files: &[(&[u8], &[u8])]) -> bool {
 }
 
 /// The names and bytes of files.
-fn in_vectors(
-    alloc: Global,
-    files: &[(&[u8], &[u8])],
-) -> Result<Vec<(Vec<u8>, Vec<u8>)>, AllocError> {
+fn in_vectors(alloc: Global, files: &[&[u8]]) -> Result<Vec<(Vec<u8>, Vec<u8>)>, AllocError> {
     let mut vectors = Vec::new(alloc);
-    for file in files {
-        let name = decode(alloc, file.0)?;
-        vectors.push((name, decode(alloc, file.1)?))?;
+    for file in 0..files.len() / 2 {
+        let name = decode(alloc, files[2 * file])?;
+        vectors.push((name, decode(alloc, files[2 * file + 1])?))?;
     }
     Ok(vectors)
 }
 
 /// The names of files, and their bytes in blocks.
-fn in_blocks(
-    alloc: Global,
-    files: &[(&[u8], &[u8])],
-) -> Result<Vec<(Vec<u8>, Blocks)>, AllocError> {
+fn in_blocks(alloc: Global, files: &[&[u8]]) -> Result<Vec<(Vec<u8>, Blocks)>, AllocError> {
     let mut blocks = Vec::new(alloc);
-    for file in files {
-        let name = decode(alloc, file.0)?;
-        blocks.push((name, blocks_of(alloc, file.1)?))?;
+    for file in 0..files.len() / 2 {
+        let name = decode(alloc, files[2 * file])?;
+        blocks.push((name, blocks_of(alloc, files[2 * file + 1])?))?;
     }
     Ok(blocks)
 }
 
 /// The input of files that are ready for a separator: whole vectors where none lies in blocks.
-fn input_of(alloc: Global, files: &[(&[u8], &[u8])], rs: &[u8]) -> Result<Option<Input>, AllocError>
+fn input_of(alloc: Global, files: &[&[u8]], rs: &[u8]) -> Result<Option<Input>, AllocError>
     requires one_byte { length rs.now ≤ 1 }
     ensures { IfOk result (λ found. IfSome found (λ input. IsReady rs.now input)) }
 {
@@ -176,6 +163,7 @@ fn push_counts(
 /// Adds the answer to a row on files.
 fn push_on(
     alloc: Global,
+    verb: Verb,
     row: &[u8],
     rs: &[u8],
     input: &Input,
@@ -185,29 +173,34 @@ fn push_on(
     requires ready { IsReady rs.now input.now }
 {
     let asked = number(cell(row, 1));
-    match cell(row, 0) {
-        b"files" => push_files(input, out),
-        b"records" => push_records(input.records(rs), out),
-        b"begins" => push_begins(row, rs, input, out),
-        b"counts" => push_counts(alloc, rs, input, asked as usize, out),
-        b"cuts" => plans::push_at_cuts(alloc, cell(row, 1), rs, input, out),
-        b"size" => plans::push_by_size(alloc, rs, input, asked, out),
-        b"chunked" => plans::push_chunked(alloc, rs, input, asked, out),
-        b"counted" => plans::push_counted(alloc, row, rs, input, out),
+    match verb {
+        Verb::Files => push_files(input, out),
+        Verb::Records => push_records(input.records(rs), out),
+        Verb::Begins => push_begins(row, rs, input, out),
+        Verb::Counts => push_counts(alloc, rs, input, asked as usize, out),
+        Verb::Cuts => plans::push_at_cuts(alloc, cell(row, 1), rs, input, out),
+        Verb::Size => plans::push_by_size(alloc, rs, input, asked, out),
+        Verb::Chunked => plans::push_chunked(alloc, rs, input, asked, out),
+        Verb::Counted => plans::push_counted(alloc, row, rs, input, out),
         _ => out.extend_from_slice(b"no such row"),
     }
 }
 
 /// Adds the answer to a row on files.
-pub fn push_answer(alloc: Global, row: &[u8], out: &mut Vec<u8>) -> Result<(), AllocError> {
-    let first = first_file(cell(row, 0));
+pub fn push_answer(
+    alloc: Global,
+    verb: Verb,
+    row: &[u8],
+    out: &mut Vec<u8>,
+) -> Result<(), AllocError> {
+    let first = first_file(verb);
     let rs = separator(alloc, row, first)?;
     if rs.len() > 1 {
         return out.extend_from_slice(b"no such separator");
     }
     let rs = rs.as_slice();
     match input_of(alloc, &files_of(alloc, row, first)?, rs)? {
-        Some(input) => push_on(alloc, row, rs, &input, out),
+        Some(input) => push_on(alloc, verb, row, rs, &input, out),
         None => out.extend_from_slice(b"too large"),
     }
 }

@@ -26,36 +26,39 @@
 mod fields;
 mod files;
 mod plans;
+mod verbs;
 
 use pawk_rows::cell;
 use std::alloc::{AllocError, Global};
 use std::io;
+use verbs::Verb;
 
 /// Adds the answer to a row.
 fn push_answer(alloc: Global, row: &[u8], out: &mut Vec<u8>) -> Result<(), AllocError> {
-    match cell(row, 0) {
-        b"split" | b"pieces" | b"fields" | b"field" => fields::push_answer(alloc, row, out),
-        b"many" => plans::push_many(alloc, row, out),
-        b"refusals" => plans::push_refusals(alloc, out),
-        _ => files::push_answer(alloc, row, out),
+    let verb = Verb::of(cell(row, 0));
+    match verb {
+        Verb::Fields => fields::push_of_record(alloc, row, out),
+        Verb::Field => fields::push_of_number(alloc, row, out),
+        Verb::Split | Verb::Pieces => fields::push_separated(alloc, verb, row, out),
+        Verb::Many => plans::push_many(alloc, row, out),
+        Verb::Refusals => plans::push_refusals(alloc, out),
+        _ => files::push_answer(alloc, verb, row, out),
     }
 }
 
-/// The answer to a row.
-fn answer(alloc: Global, row: &[u8]) -> Result<Vec<u8>, AllocError> {
-    let mut out = Vec::new(alloc);
-    push_answer(alloc, row, &mut out)?;
-    Ok(out)
+/// Prints the answer to a row.
+fn print_answer(rt: &HostRuntime, row: &[u8]) -> io::Result<()> {
+    let mut out = Vec::new(rt.alloc());
+    push_answer(rt.alloc(), row, &mut out)?;
+    println!(rt;
+        "{}",
+        str::from_utf8(out.as_slice()).unwrap_or("not a text")
+    )
 }
 
 fn main(rt: HostRuntime) -> io::Result<()> {
     for line in rt.lines(rt.alloc()) {
-        let row = line?;
-        let answer = answer(rt.alloc(), row.as_str().as_bytes())?;
-        println!(rt;
-            "{}",
-            str::from_utf8(answer.as_slice()).unwrap_or("not a text")
-        )?;
+        print_answer(&rt, line?.as_str().as_bytes())?;
     }
     Ok(())
 }

@@ -12,4 +12,4 @@ pub use finish::Finish;
 pub use outcome::{Outcome, opening_run, run_one};
 pub use output::Output;
 pub use pawk_part::{Job, Left, actions, record, run_records};
-pub use whole::{run_begin, run_behind_begin, run_behind_records, run_program, take_separator};
+pub use whole::{make_ready, run_begin, run_behind_begin, run_behind_records, run_program};

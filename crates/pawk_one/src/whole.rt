@@ -1,6 +1,6 @@
 //! Whole runs.
 
-ghost use Rattle.std.specs.Prelude.{◌≡◌, ◌≤◌, [], length, IfOk};
+ghost use Rattle.std.specs.Prelude.{◌≡◌, ◌<◌, ◌≤◌, [], length, IfOk, MatchOption};
 ghost use Rattle.pawk_code.specs.ProgramViews.{code_view};
 ghost use Rattle.pawk_input.specs.Input.{IsReady, files_of, items};
 ghost use Rattle.pawk_store.specs.Slots.{rs_slot};
@@ -78,7 +78,7 @@ pub fn run_behind_records<W: World>(
 /// Takes RS as it is now, and gives its bytes.
 ///
 /// POSIX.1-2017, awk, "Variables and Special Variables" (RS).
-pub fn take_separator<W: World>(world: &W, run: &mut Run<'_>) -> Result<Vec<u8>, AllocError>
+fn take_separator<W: World>(world: &W, run: &mut Run<'_>) -> Result<Vec<u8>, AllocError>
     ensures text { IfOk result (λ rs.
         rs.items ≡ text_of (W.calls.look rs_slot (W.state world.now))) }
     ensures taken { IfOk result (λ rs. spec.take_separator rs.items
@@ -91,24 +91,51 @@ pub fn take_separator<W: World>(world: &W, run: &mut Run<'_>) -> Result<Vec<u8>,
     Ok(rs)
 }
 
-/// Runs all records, as this RS ends them, and then END.
+/// Takes RS as it is now and makes the input ready for it, and gives its bytes; nothing where they are
+/// several. The input's names and bytes stay as they are.
+///
+/// POSIX.1-2017, awk, "Variables and Special Variables" (RS).
+pub fn make_ready<W: World>(
+    world: &W,
+    input: &mut Input,
+    run: &mut Run<'_>,
+) -> Result<Option<Vec<u8>>, AllocError>
+    ensures taken { IfOk result (λ _. spec.take_separator
+        (text_of (W.calls.look rs_slot (W.state world.now)))
+        (end_view (W.state world.now) run.old Through)
+        ≡ end_view (W.state world.now) run.new Through) }
+    ensures ready { IfOk result (λ found. MatchOption found
+        (1 < length (text_of (W.calls.look rs_slot (W.state world.now))))
+        (λ rs. (rs.items ≡ text_of (W.calls.look rs_slot (W.state world.now)))
+        × (length rs.items ≤ 1) × IsReady rs.items input.new)) }
+    ensures same { files_of input.new ≡ files_of input.old }
+{
+    let rs = take_separator(world, run)?;
+    if rs.len() > 1 {
+        return Ok(None);
+    }
+    input.mend(rs.as_slice())?;
+    Ok(Some(rs))
+}
+
+/// Runs all records, as this RS ends them, and then END. The output is taken out of the run.
 fn run_mended<'a, W: World>(
     job: Job<'_>,
     rs: &[u8],
     input: &'a Input,
     world: &mut W,
     run: &mut Run<'a>,
-) -> Result<Ending, AllocError>
+) -> Result<Finish, AllocError>
     requires one_byte { length rs.now ≤ 1 }
     requires ready { IsReady rs.now input.now }
-    ensures { IfOk result (λ ending.
-        run_and_end W.calls (code_view job.entry.code.now) job.entry.budget
-        (items rs.now (files_of input.now)) (end_view (W.state world.old) run.old Through)
-        ≡ finish_view (W.state world.new) run.new ending) }
+    ensures { IfOk result (Finishes (run_and_end W.calls
+        (code_view job.entry.code.now) job.entry.budget
+        (items rs.now (files_of input.now)) (end_view (W.state world.old) run.old Through))
+        (W.state world.new)) }
 {
     let left = run_records(job, input.records(rs), world, run)?;
     let ending = run_behind_records(job, left, world, run)?;
-    Ok(ending)
+    Finish::of(run, ending)
 }
 
 /// Reads and runs all records, by RS as it is now, and then END.
@@ -126,13 +153,10 @@ fn run_input<W: World>(
     ensures same { files_of input.new ≡ files_of input.old }
 {
     let mut run = run;
-    let rs = take_separator(world, &mut run)?;
-    if rs.len() > 1 {
-        return Finish::of(&mut run, Ending::Fault(Fault::Rs, Place::Record(1)));
+    match make_ready(world, input, &mut run)? {
+        Some(rs) => run_mended(job, rs.as_slice(), input, world, &mut run),
+        None => Finish::of(&mut run, Ending::Fault(Fault::Rs, Place::Record(1))),
     }
-    input.mend(rs.as_slice())?;
-    let ending = run_mended(job, rs.as_slice(), input, world, &mut run)?;
-    Finish::of(&mut run, ending)
 }
 
 /// Runs the actions of BEGIN. The output goes behind what is there.

@@ -1,5 +1,6 @@
 -- What the functions that make statements ensure.
-use Rattle.std.specs.Prelude.{List, Option, Some, None}
+use Rattle.std.specs.Prelude.{List, Option, Some, None, Box}
+use Rattle.std.specs.declared.alloc.Global.{Global}
 use Rattle.pawk_token.specs.Bytes.{Text}
 use Rattle.pawk_syntax_tree.specs.Tree.{Tree}
 use Rattle.pawk_syntax_tree.specs.declared.tree.Name.{Name}
@@ -13,12 +14,12 @@ use Rattle.pawk_syntax_build.specs.Views.{stmt_views}
 abbrev pub body_of : Body → List Stmt
 body_of b = stmt_views b.list.items
 
-abbrev pub option_of : Option Phrase → Option Tree
+abbrev pub option_of : Option (Box Phrase Global) → Option Tree
 option_of None = None
-option_of (Some p) = Some (tree_of p)
+option_of (Some p) = Some (tree_of p.value)
 
 abbrev pub stmt_of : Line → Stmt
-stmt_of l = stmt_view l.statement
+stmt_of l = stmt_view l.statement.value
 
 abbrev pub names_of : Name × Name → Text × Text
 names_of p = (p.0.text.items, p.1.text.items)

@@ -17,8 +17,8 @@ pub struct Body {
 /// One statement and its height.
 #[derive(Drop)]
 pub struct Line {
-    pub statement: Statement,
+    pub statement: Box<Statement>,
     pub height: usize,
-    ghost known: { height ≡ height_in statement },
+    ghost known: { height ≡ height_in statement.value },
     ghost small: { height ≤ 201 },
 }

@@ -7,15 +7,24 @@ ghost use Rattle.pawk_syntax_program.specs.Statement.{stmts, stmt_view, option_v
 ghost use Rattle.pawk_syntax_program.specs.StatementParse as spec;
 ghost use Rattle.pawk_syntax_parse.specs.Reads.{input, Gives, tree_of, trees_of};
 ghost use Rattle.pawk_syntax_build.specs.Views.{stmt_views};
-ghost use Rattle.pawk_syntax_build.specs.Reads.{body_of, option_of};
+ghost use Rattle.pawk_syntax_build.specs.Reads.{body_of, option_of, stmt_of};
 
-use crate::body::Body;
+use crate::body::{Body, Line};
 use pawk_syntax_parse::cursor::Cursor;
 use pawk_syntax_parse::phrase::{Phrase, Phrases};
 use pawk_syntax_program::statement::{Leave, Statement};
 use pawk_syntax_tree::tree::{Expr, Name};
 use pawk_token::refusal::SyntaxRefusal;
 use std::alloc::{AllocError, Global};
+
+/// A list of one statement.
+fn list_of(alloc: Global, statement: Statement) -> Result<Vec<Statement>, AllocError>
+    ensures { IfOk result (λ list. list.items ≡ statement ∷ []) }
+{
+    let mut list = Vec::new(alloc);
+    list.push(statement)?;
+    Ok(list)
+}
 
 /// A statement of this height, if that is not too high.
 #[tactic(auto, using(crate::proofs::Building::low_is, crate::proofs::Building::low_none, crate::proofs::Building::single_height))]
@@ -29,9 +38,8 @@ pub fn low(
     ensures { Gives body_of (spec.low_stmt (stmt_view statement) (input ts.now)) result
         (input ts.now) }
 {
+    let list = list_of(alloc, statement)?;
     ts.low(height)?;
-    let mut list = Vec::new(alloc);
-    list.push(statement)?;
     Ok(Body {
         list,
         highest: height,
@@ -45,11 +53,21 @@ pub fn single(alloc: Global, statement: Statement, height: usize) -> Result<Body
     requires small { height ≤ 200 }
     ensures { IfOk result (λ b. body_of b ≡ stmt_view statement ∷ []) }
 {
-    let mut list = Vec::new(alloc);
-    list.push(statement)?;
     Ok(Body {
-        list,
+        list: list_of(alloc, statement)?,
         highest: height,
+    })
+}
+
+/// A statement of this height, not yet in a list.
+pub fn line(alloc: Global, statement: Statement, height: usize) -> Result<Line, AllocError>
+    requires known { height ≡ height_of (stmt_view statement) }
+    requires small { height ≤ 201 }
+    ensures { IfOk result (λ l. stmt_of l ≡ stmt_view statement) }
+{
+    Ok(Line {
+        statement: Box::new(alloc, statement)?,
+        height,
     })
 }
 
@@ -177,14 +195,17 @@ pub fn clear(array: Name) -> Statement
 }
 
 /// An expression that may be missing, and its height, or 0.
-pub fn split(phrase: Option<Phrase>) -> (Option<Expr>, usize)
+pub fn split(phrase: Option<Box<Phrase>>) -> (Option<Expr>, usize)
     ensures seen { option_view result.0 ≡ option_of phrase }
     ensures height { result.1 ≡ option_height (option_of phrase) }
     ensures low { result.1 ≤ 200 }
 {
     match phrase {
         None => (None, 0),
-        Some(phrase) => (Some(phrase.expr), phrase.height),
+        Some(phrase) => {
+            let phrase = Box::into_inner(phrase);
+            (Some(phrase.expr), phrase.height)
+        }
     }
 }
 
@@ -238,7 +259,11 @@ pub fn low_do(alloc: Global, ts: &Cursor<'_>, a: Body, e: Phrase) -> Result<Body
 pub fn low_count(
     alloc: Global,
     ts: &Cursor<'_>,
-    head: (Option<Phrase>, Option<Phrase>, Option<Phrase>),
+    head: (
+        Option<Box<Phrase>>,
+        Option<Box<Phrase>>,
+        Option<Box<Phrase>>,
+    ),
     body: Body,
 ) -> Result<Body, SyntaxRefusal>
     ensures { Gives body_of (spec.low_stmt (stmt.loop (option_of head.0) (option_of head.1)

@@ -1,8 +1,11 @@
 -- What the functions that read items ensure.
-use Rattle.std.specs.Prelude.{Bool, List, map, Vec}
+use Rattle.std.specs.Prelude.{Bool, List, map, Vec, Box}
 use Rattle.std.specs.declared.alloc.Global.{Global}
 use Rattle.pawk_token.specs.Bytes.{Text}
+use Rattle.pawk_syntax_tree.specs.Tree.{Tree}
 use Rattle.pawk_syntax_tree.specs.declared.tree.Name.{Name}
+use Rattle.pawk_syntax_parse.specs.declared.phrase.Phrase.{Phrase}
+use Rattle.pawk_syntax_parse.specs.Reads.{tree_of}
 use Rattle.pawk_syntax_program.specs.declared.item.Item.{Item}
 use Rattle.pawk_syntax_program.specs.Statement.{Stmts, stmts}
 use Rattle.pawk_syntax_program.specs.Item.{Part as Shape, part, texts}
@@ -12,6 +15,10 @@ use Rattle.pawk_syntax_item.specs.declared.part.Part.{Part}
 
 abbrev pub action_of : Body → Stmts
 action_of b = stmts (body_of b)
+
+-- the tree of a phrase in a box
+abbrev pub tree_in : Box Phrase Global → Tree
+tree_in p = tree_of p.value
 
 abbrev pub part_of : Part → Shape × Bool
 part_of p = (part p.item, p.closes)

@@ -4,10 +4,11 @@ ghost use Rattle.std.specs.Prelude.{◌≡◌, ◌≤◌, ◌∷◌, ◌++◌, �
 ghost use Rattle.pawk_syntax_program.specs.Item as shape;
 ghost use Rattle.pawk_syntax_program.specs.Item.{part};
 ghost use Rattle.pawk_syntax_program.specs.ItemParse as spec;
+ghost use Rattle.pawk_syntax_program.specs.StatementParse as statement_spec;
 ghost use Rattle.pawk_syntax_parse.specs.Reads.{input, Gives, nothing, tree_of};
 ghost use Rattle.pawk_syntax_build.specs.Reads.{body_of};
 ghost use Rattle.pawk_syntax_item.specs.Heights.{height_in};
-ghost use Rattle.pawk_syntax_item.specs.Reads.{action_of, part_of, names_of, items_of};
+ghost use Rattle.pawk_syntax_item.specs.Reads.{action_of, part_of, names_of, items_of, tree_in};
 
 use crate::part::Part;
 use pawk_syntax_build::body::Body;
@@ -103,38 +104,54 @@ fn range(
     low(ts, Item::Range(p.expr, q.expr, body.list), height, closes)
 }
 
+/// An expression whose value counts, in a box.
+fn boxed_whole(alloc: Global, ts: &mut Cursor<'_>) -> Result<Box<Phrase>, SyntaxRefusal>
+    ensures { Gives tree_in (statement_spec.whole (input ts.old)) result (input ts.new) }
+{
+    let phrase = whole(alloc, ts)?;
+    Ok(Box::new(alloc, phrase)?)
+}
+
 /// A rule whose pattern was read.
 #[tactic(auto, unfolding(pawk_syntax_program::specs::ItemParse::action_or_none, pawk_syntax_program::specs::ItemParse::with_action))]
-fn matching(alloc: Global, ts: &mut Cursor<'_>, p: Phrase) -> Result<Part, SyntaxRefusal>
-    ensures { Gives part_of (spec.action_or_none (shape.matching (tree_of p)) (input ts.old))
+fn matching(alloc: Global, ts: &mut Cursor<'_>, p: Box<Phrase>) -> Result<Part, SyntaxRefusal>
+    ensures { Gives part_of (spec.action_or_none (shape.matching (tree_in p)) (input ts.old))
         result (input ts.new) }
 {
     if ts.sees(Mark::LeftBrace) {
         let body = action(alloc, ts)?;
-        return when(ts, p, body, true);
+        return when(ts, Box::into_inner(p), body, true);
     }
-    when(ts, p, print_record(alloc)?, false)
+    let body = print_record(alloc)?;
+    when(ts, Box::into_inner(p), body, false)
 }
 
 /// A rule whose range was read.
 #[tactic(auto, unfolding(pawk_syntax_program::specs::ItemParse::action_or_none, pawk_syntax_program::specs::ItemParse::with_action))]
-fn between(alloc: Global, ts: &mut Cursor<'_>, p: Phrase, q: Phrase) -> Result<Part, SyntaxRefusal>
-    ensures { Gives part_of (spec.action_or_none (shape.between (tree_of p) (tree_of q))
-        (input ts.old)) result (input ts.new) }
+fn between(
+    alloc: Global,
+    ts: &mut Cursor<'_>,
+    p: Box<Phrase>,
+    q: Box<Phrase>,
+) -> Result<Part, SyntaxRefusal>
+    ensures { Gives part_of (spec.action_or_none
+        (shape.between (tree_in p) (tree_in q)) (input ts.old)) result (input ts.new) }
 {
     if ts.sees(Mark::LeftBrace) {
         let body = action(alloc, ts)?;
-        return range(ts, p, q, body, true);
+        return range(ts, Box::into_inner(p), Box::into_inner(q), body, true);
     }
-    range(ts, p, q, print_record(alloc)?, false)
+    let body = print_record(alloc)?;
+    range(ts, Box::into_inner(p), Box::into_inner(q), body, false)
 }
 
 /// A rule with a range, after the comma.
-fn range_from(alloc: Global, ts: &mut Cursor<'_>, p: Phrase) -> Result<Part, SyntaxRefusal>
-    ensures { Gives part_of (spec.range_from (tree_of p) (input ts.old)) result (input ts.new) }
+fn range_from(alloc: Global, ts: &mut Cursor<'_>, p: Box<Phrase>) -> Result<Part, SyntaxRefusal>
+    ensures { Gives part_of (spec.range_from (tree_in p) (input ts.old)) result
+        (input ts.new) }
 {
     ts.skip_lines();
-    let q = whole(alloc, ts)?;
+    let q = boxed_whole(alloc, ts)?;
     between(alloc, ts, p, q)
 }
 
@@ -142,7 +159,7 @@ fn range_from(alloc: Global, ts: &mut Cursor<'_>, p: Phrase) -> Result<Part, Syn
 fn pattern(alloc: Global, ts: &mut Cursor<'_>) -> Result<Part, SyntaxRefusal>
     ensures { Gives part_of (spec.pattern (input ts.old)) result (input ts.new) }
 {
-    let p = whole(alloc, ts)?;
+    let p = boxed_whole(alloc, ts)?;
     if ts.eat(Mark::Comma) {
         return range_from(alloc, ts, p);
     }
@@ -300,8 +317,8 @@ fn items(alloc: Global, ts: &mut Cursor<'_>) -> Result<Vec<Item>, SyntaxRefusal>
             return Ok(all);
         }
         let part = item(alloc, ts)?;
-        separated(ts, part.closes)?;
         all.push(part.item)?;
+        separated(ts, part.closes)?;
     }
     Err(ts.refuse(true))
 }

@@ -1,6 +1,6 @@
 //! The making of trees, one function for each variant.
 
-ghost use Rattle.std.specs.Prelude.{◌≡◌, ◌∷◌, ◌++◌, [], length, IfOk, Option, map};
+ghost use Rattle.std.specs.Prelude.{◌≡◌, ◌≤◌, ◌∷◌, ◌++◌, [], length, IfOk, Option, map};
 ghost use Rattle.pawk_syntax_tree.specs.Tree as tree;
 ghost use Rattle.pawk_syntax_tree.specs.Tree.{view, views, trees};
 ghost use Rattle.pawk_syntax_tree.specs.Parse as spec;
@@ -181,11 +181,10 @@ fn binary_expr(alloc: Global, op: Double, a: Expr, b: Expr) -> Result<Expr, Allo
     Ok(Expr::Binary(op, Box::new(alloc, a)?, Box::new(alloc, b)?))
 }
 
-fn choice_expr(alloc: Global, c: Expr, a: Expr, b: Expr) -> Result<Expr, AllocError>
-    ensures { IfOk result (λ e. view e ≡ tree.choice (view c) (view a) (view b)) }
+fn choice_expr(c: Box<Expr>, a: Box<Expr>, b: Box<Expr>) -> Expr
+    ensures { view result ≡ tree.choice (view c.value) (view a.value) (view b.value) }
 {
-    let condition = Box::new(alloc, c)?;
-    Ok(Expr::Choice(condition, Box::new(alloc, a)?, Box::new(alloc, b)?))
+    Expr::Choice(c, a, b)
 }
 
 fn element_expr(name: Name, keys: Vec<Expr>) -> Expr
@@ -238,20 +237,48 @@ pub fn binary(
     low(ts, expr, height)
 }
 
-/// `c ? a : b`
-pub fn choice(
+/// An operator between two phrases.
+pub fn infix(
+    alloc: Global,
+    ts: &Cursor<'_>,
+    op: Double,
+    left: Phrase,
+    right: Phrase,
+) -> Result<Phrase, SyntaxRefusal>
+    ensures { Gives tree_of (spec.low (tree.binary op (tree.value (tree_of left))
+        (tree.right_side op (tree_of right))) (input ts.now)) result (input ts.now) }
+{
+    let left = value(alloc, left)?;
+    let right = right_side(alloc, op, right)?;
+    binary(alloc, ts, op, left, right)
+}
+
+/// What a phrase is where its value counts, in a box, and its height.
+fn boxed_value(alloc: Global, phrase: Phrase) -> Result<(Box<Expr>, usize), AllocError>
+    ensures value { IfOk result (λ boxed. view boxed.0.value ≡ tree.value (tree_of phrase)) }
+    ensures height { IfOk result (λ boxed. boxed.1 ≡ heights.height_of boxed.0.value) }
+    ensures low { IfOk result (λ boxed. boxed.1 ≤ 200) }
+{
+    let phrase = value(alloc, phrase)?;
+    Ok((Box::new(alloc, phrase.expr)?, phrase.height))
+}
+
+/// A choice between two phrases by a third: `c ? a : b`
+pub fn choosing(
     alloc: Global,
     ts: &Cursor<'_>,
     c: Phrase,
     a: Phrase,
     b: Phrase,
 ) -> Result<Phrase, SyntaxRefusal>
-    ensures { Gives tree_of (spec.low (tree.choice (tree_of c) (tree_of a) (tree_of b))
-        (input ts.now)) result (input ts.now) }
+    ensures { Gives tree_of (spec.low (tree.choice (tree.value (tree_of c))
+        (tree.value (tree_of a)) (tree.value (tree_of b))) (input ts.now)) result (input ts.now) }
 {
-    let height = c.height.max(a.height.max(b.height)) + 1;
-    let expr = choice_expr(alloc, c.expr, a.expr, b.expr)?;
-    low(ts, expr, height)
+    let (c, of_c) = boxed_value(alloc, c)?;
+    let (a, of_a) = boxed_value(alloc, a)?;
+    let (b, of_b) = boxed_value(alloc, b)?;
+    let height = of_c.max(of_a.max(of_b)) + 1;
+    low(ts, choice_expr(c, a, b), height)
 }
 
 /// No expressions.
@@ -301,6 +328,21 @@ pub fn member(ts: &Cursor<'_>, keys: Phrases, name: Name) -> Result<Phrase, Synt
     let height = keys.highest + 1;
     let expr = member_expr(keys.list, name);
     low(ts, expr, height)
+}
+
+/// A phrase as the one key of `in`.
+pub fn membership(
+    alloc: Global,
+    ts: &Cursor<'_>,
+    key: Phrase,
+    name: Name,
+) -> Result<Phrase, SyntaxRefusal>
+    ensures { Gives tree_of (spec.low (tree.member (tree.more (tree.value (tree_of key)) tree.none)
+        name.text.items) (input ts.now)) result (input ts.now) }
+{
+    let key = value(alloc, key)?;
+    let keys = push(no_phrases(alloc), key)?;
+    member(ts, keys, name)
 }
 
 /// `f(a, b)`

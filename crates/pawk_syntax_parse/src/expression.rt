@@ -418,7 +418,51 @@ impl<F: Fn(Global, &mut Cursor<'_>, usize, bool, u8) -> Result<Phrase, SyntaxRef
         }
     }
 
+    /// What the operator of a row does with an operand, in a box, on its left.
     #[tactic(auto, unfolding(pawk_syntax_tree::specs::Parse::turn))]
+    fn turn_boxed(
+        &self,
+        ts: &mut Cursor<'_>,
+        compares: bool,
+        row: Row,
+        left: Box<Phrase>,
+    ) -> Result<Phrase, SyntaxRefusal>
+        requires { Nests self.now.depth (F.pre self.now.expr) (F.post self.now.expr) }
+        ensures { Gives tree_of (spec.turn (spec.expr self.now.depth) compares row
+            (tree_of left.value) (input ts.old)) result (input ts.new) }
+    {
+        match row.turn {
+            Turn::Infix(op) => {
+                ts.pass();
+                ts.after_op(op);
+                let right = self.expr(ts, compares, row.right)?;
+                build::infix(self.alloc, ts, op, Box::into_inner(left), right)
+            }
+            Turn::Beside => {
+                let right = self.expr(ts, compares, row.right)?;
+                let left = Box::into_inner(left);
+                build::infix(self.alloc, ts, Double::Concatenate, left, right)
+            }
+            Turn::Membership => {
+                ts.pass();
+                let name = expect_name(self.alloc, ts, compares)?;
+                build::membership(self.alloc, ts, Box::into_inner(left), name)
+            }
+            Turn::Choosing => {
+                ts.pass();
+                let yes = self.expr(ts, compares, OF_EXPR)?;
+                ts.expect(Mark::Colon, compares)?;
+                let no = self.expr(ts, compares, OF_EXPR)?;
+                build::choosing(self.alloc, ts, Box::into_inner(left), yes, no)
+            }
+            Turn::Postfix(op) => {
+                ts.pass();
+                build::unary(self.alloc, ts, op, Box::into_inner(left))
+            }
+        }
+    }
+
+    /// What the operator of a row does with an operand on its left.
     fn turn(
         &self,
         ts: &mut Cursor<'_>,
@@ -430,43 +474,8 @@ impl<F: Fn(Global, &mut Cursor<'_>, usize, bool, u8) -> Result<Phrase, SyntaxRef
         ensures { Gives tree_of (spec.turn (spec.expr self.now.depth) compares row (tree_of left)
             (input ts.old)) result (input ts.new) }
     {
-        match row.turn {
-            Turn::Infix(op) => {
-                ts.pass();
-                ts.after_op(op);
-                let right = self.expr(ts, compares, row.right)?;
-                let left = build::value(self.alloc, left)?;
-                let right = build::right_side(self.alloc, op, right)?;
-                build::binary(self.alloc, ts, op, left, right)
-            }
-            Turn::Beside => {
-                let right = self.expr(ts, compares, row.right)?;
-                let left = build::value(self.alloc, left)?;
-                let right = build::value(self.alloc, right)?;
-                build::binary(self.alloc, ts, Double::Concatenate, left, right)
-            }
-            Turn::Membership => {
-                ts.pass();
-                let name = expect_name(self.alloc, ts, compares)?;
-                let key = build::value(self.alloc, left)?;
-                let keys = build::push(build::no_phrases(self.alloc), key)?;
-                build::member(ts, keys, name)
-            }
-            Turn::Choosing => {
-                ts.pass();
-                let yes = self.expr(ts, compares, OF_EXPR)?;
-                ts.expect(Mark::Colon, compares)?;
-                let no = self.expr(ts, compares, OF_EXPR)?;
-                let left = build::value(self.alloc, left)?;
-                let yes = build::value(self.alloc, yes)?;
-                let no = build::value(self.alloc, no)?;
-                build::choice(self.alloc, ts, left, yes, no)
-            }
-            Turn::Postfix(op) => {
-                ts.pass();
-                build::unary(self.alloc, ts, op, left)
-            }
-        }
+        let left = Box::new(self.alloc, left)?;
+        self.turn_boxed(ts, compares, row, left)
     }
 
     /// Operators of the level `least` or tighter, after an operand with its level.

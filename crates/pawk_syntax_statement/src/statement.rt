@@ -1,7 +1,7 @@
 //! Statements. Each function takes the reader of nested statements as a parameter, so that each is
 //! proved by itself.
 
-ghost use Rattle.std.specs.Prelude.{◌≡◌, ◌+◌, ◌≤◌, ◌∷◌, ◌++◌, [], length, drop, Option};
+ghost use Rattle.std.specs.Prelude.{◌≡◌, ◌+◌, ◌≤◌, ◌∷◌, ◌++◌, [], length, drop, IfOk, Option};
 ghost use Rattle.pawk_token.specs.declared.token.Mark.{Mark};
 ghost use Rattle.pawk_syntax_program.specs.Statement as stmt;
 ghost use Rattle.pawk_syntax_program.specs.StatementParse as spec;
@@ -21,7 +21,7 @@ use pawk_syntax_tree::levels::OF_EXPR;
 use pawk_syntax_tree::tree::Name;
 use pawk_token::refusal::SyntaxRefusal;
 use pawk_token::token::{Mark, Value};
-use std::alloc::Global;
+use std::alloc::{AllocError, Global};
 
 /// An expression whose value counts.
 #[tactic(auto, unfolding(pawk_syntax_program::specs::StatementParse::whole))]
@@ -56,18 +56,20 @@ fn end(ts: &mut Cursor<'_>, compares: bool) -> Result<(), SyntaxRefusal>
     }
 }
 
+/// An expression, in a box, that is missing where this says so.
 #[tactic(auto, unfolding(pawk_syntax_program::specs::StatementParse::maybe))]
 fn maybe(
     alloc: Global,
     ts: &mut Cursor<'_>,
     none_here: bool,
-) -> Result<Option<Phrase>, SyntaxRefusal>
+) -> Result<Option<Box<Phrase>>, SyntaxRefusal>
     ensures { Gives option_of (spec.maybe none_here (input ts.old)) result (input ts.new) }
 {
     if none_here {
         return Ok(None);
     }
-    Ok(Some(whole(alloc, ts)?))
+    let phrase = whole(alloc, ts)?;
+    Ok(Some(Box::new(alloc, phrase)?))
 }
 
 #[tactic(auto, unfolding(pawk_syntax_program::specs::StatementParse::deleted))]
@@ -76,16 +78,12 @@ fn deleted(alloc: Global, ts: &mut Cursor<'_>) -> Result<Line, SyntaxRefusal>
 {
     let array = expect_name(alloc, ts, true)?;
     if !ts.eat(Mark::LeftBracket) {
-        let statement = build::clear(array);
-        return Ok(Line {
-            statement,
-            height: 1,
-        });
+        return Ok(build::line(alloc, build::clear(array), 1)?);
     }
     let keys = list_up_to(alloc, ts, Mark::RightBracket)?;
     let height = keys.highest + 1;
     let statement = build::delete(array, keys.list);
-    Ok(Line { statement, height })
+    Ok(build::line(alloc, statement, height)?)
 }
 
 #[tactic(auto, unfolding(pawk_syntax_program::specs::StatementParse::print_on))]
@@ -99,19 +97,52 @@ fn print_on(alloc: Global, ts: &mut Cursor<'_>) -> Result<Line, SyntaxRefusal>
     };
     let height = list.highest + 1;
     let statement = build::print(list.list);
-    Ok(Line { statement, height })
+    Ok(build::line(alloc, statement, height)?)
 }
 
-fn leave(ts: &mut Cursor<'_>, word: Leave) -> Line
-    ensures value { stmt_of result ≡ stmt.go_out word }
+fn leave(alloc: Global, ts: &mut Cursor<'_>, word: Leave) -> Result<Line, AllocError>
+    ensures value { IfOk result (λ l. stmt_of l ≡ stmt.go_out word) }
     ensures rest { input ts.new ≡ drop 1 (input ts.old) }
 {
     let statement = build::leave(word, ts.place());
     ts.pass();
-    Line {
-        statement,
-        height: 1,
-    }
+    build::line(alloc, statement, 1)
+}
+
+/// The value behind `exit` or `return`, in a box, which may be missing.
+fn operand(alloc: Global, ts: &mut Cursor<'_>) -> Result<Option<Box<Phrase>>, SyntaxRefusal>
+    ensures { Gives option_of (spec.maybe (spec.ends (input ts.old)) (input ts.old)) result
+        (input ts.new) }
+{
+    let none_here = ends(ts);
+    maybe(alloc, ts, none_here)
+}
+
+fn printf_on(alloc: Global, ts: &mut Cursor<'_>) -> Result<Line, SyntaxRefusal>
+    ensures { Gives stmt_of (spec.simple_by Mark.Printf (input ts.old)) result (input ts.new) }
+{
+    ts.pass();
+    let list = printed(alloc, ts)?;
+    let height = list.highest + 1;
+    let statement = build::printf(list.list);
+    Ok(build::line(alloc, statement, height)?)
+}
+
+fn exit(alloc: Global, ts: &mut Cursor<'_>) -> Result<Line, SyntaxRefusal>
+    ensures { Gives stmt_of (spec.simple_by Mark.Exit (input ts.old)) result (input ts.new) }
+{
+    ts.pass();
+    let (e, height) = build::split(operand(alloc, ts)?);
+    Ok(build::line(alloc, build::exit(e), height + 1)?)
+}
+
+fn give_back(alloc: Global, ts: &mut Cursor<'_>) -> Result<Line, SyntaxRefusal>
+    ensures { Gives stmt_of (spec.simple_by Mark.Return (input ts.old)) result (input ts.new) }
+{
+    let start = ts.place();
+    ts.pass();
+    let (e, height) = build::split(operand(alloc, ts)?);
+    Ok(build::line(alloc, build::give_back(e, start), height + 1)?)
 }
 
 fn simple_by(alloc: Global, ts: &mut Cursor<'_>, sign: Mark) -> Result<Line, SyntaxRefusal>
@@ -122,38 +153,13 @@ fn simple_by(alloc: Global, ts: &mut Cursor<'_>, sign: Mark) -> Result<Line, Syn
             ts.pass();
             print_on(alloc, ts)
         }
-        Mark::Printf => {
-            ts.pass();
-            let list = printed(alloc, ts)?;
-            let height = list.highest + 1;
-            let statement = build::printf(list.list);
-            Ok(Line { statement, height })
-        }
-        Mark::Next => Ok(leave(ts, Leave::Next)),
-        Mark::NextFile => Ok(leave(ts, Leave::NextFile)),
-        Mark::Break => Ok(leave(ts, Leave::Break)),
-        Mark::Continue => Ok(leave(ts, Leave::Continue)),
-        Mark::Exit => {
-            ts.pass();
-            let none_here = ends(ts);
-            let (e, height) = build::split(maybe(alloc, ts, none_here)?);
-            let statement = build::exit(e);
-            Ok(Line {
-                statement,
-                height: height + 1,
-            })
-        }
-        Mark::Return => {
-            let start = ts.place();
-            ts.pass();
-            let none_here = ends(ts);
-            let (e, height) = build::split(maybe(alloc, ts, none_here)?);
-            let statement = build::give_back(e, start);
-            Ok(Line {
-                statement,
-                height: height + 1,
-            })
-        }
+        Mark::Printf => printf_on(alloc, ts),
+        Mark::Next => Ok(leave(alloc, ts, Leave::Next)?),
+        Mark::NextFile => Ok(leave(alloc, ts, Leave::NextFile)?),
+        Mark::Break => Ok(leave(alloc, ts, Leave::Break)?),
+        Mark::Continue => Ok(leave(alloc, ts, Leave::Continue)?),
+        Mark::Exit => exit(alloc, ts),
+        Mark::Return => give_back(alloc, ts),
         Mark::Delete => {
             ts.pass();
             deleted(alloc, ts)
@@ -168,7 +174,7 @@ fn evaluated(alloc: Global, ts: &mut Cursor<'_>) -> Result<Line, SyntaxRefusal>
     let e = whole(alloc, ts)?;
     let height = e.height;
     let statement = build::expression(e.expr);
-    Ok(Line { statement, height })
+    Ok(build::line(alloc, statement, height)?)
 }
 
 #[tactic(auto, unfolding(pawk_syntax_program::specs::StatementParse::simple))]
@@ -349,7 +355,7 @@ impl<F: Fn(Global, &mut Cursor<'_>, usize) -> Result<Body, SyntaxRefusal>> State
     {
         let line = simple(self.alloc, ts)?;
         end(ts, compares)?;
-        build::low(self.alloc, ts, line.statement, line.height)
+        build::low(self.alloc, ts, Box::into_inner(line.statement), line.height)
     }
 
     fn by_mark(&self, ts: &mut Cursor<'_>, sign: Mark) -> Result<Body, SyntaxRefusal>

@@ -11,7 +11,9 @@ use Rattle.pawk_join.specs.declared.merging.Merged.{Merged}
 use Rattle.pawk_gather.specs.Gathered.{behind_output}
 use Rattle.pawk_part.specs.Ends.{end_view}
 use Rattle.pawk_one.specs.Ends.{Answers}
+use Rattle.pawk_one.specs.declared.ending.Ending.{Ending}
 use Rattle.pawk_one.specs.declared.outcome.Outcome.{Outcome}
+use Rattle.pawk_store.specs.declared.specials.Specials.{Specials}
 use Rattle.pawk_threads.specs.Routes.{IsRoute, separator_of}
 use Rattle.pawk_threads.specs.declared.prologue.Prologue.{Prologue}
 use Rattle.pawk_threads.specs.declared.report.Route.{Route}
@@ -33,6 +35,10 @@ IsMerged code budget rs files e prologue merged =
     records_by_rs calls code.expressions code budget rs files e
     ≡ behind_records calls code.expressions code budget (leaving_view merged.leaving)
     (behind_output prologue.run.output.items (merges.end_view prologue.globals merged))
+
+abbrev pub outcome_of : List ℕ → Globals → Specials → Ending → Outcome
+outcome_of output globals specials ending =
+    record { output = output; globals = globals; specials = specials; ending = ending }
 
 -- Behind BEGIN the run went a way that is told, and ended so; or it has to be run again, one record after the other.
 abbrev pub Goes : Code → ℕ → List File → End Globals → Option (Outcome × Route) → Type 0

@@ -11,10 +11,13 @@ ghost use Rattle.pawk_join.specs.MergeViews as merges;
 ghost use Rattle.pawk_part.specs.Ends.{left_view};
 ghost use Rattle.pawk_one.specs.Ends.{Answers};
 ghost use Rattle.pawk_gather.specs.Gathered.{behind_output};
+ghost use Rattle.pawk_threads.specs.Prologue.{outcome_of};
 
 use crate::prologue::Prologue;
 use pawk_join::{JoinStop, Leaving, Merged};
-use pawk_one::{Job, Left, Outcome, Output, run_behind_records};
+use pawk_one::{Ending, Job, Left, Outcome, Output, run_behind_records};
+use pawk_places::Run;
+use pawk_store::{Globals, Specials};
 use std::alloc::{AllocError, Global};
 use std::mem;
 
@@ -60,6 +63,30 @@ fn output_of(
     Ok(Output::of(parts))
 }
 
+/// Goes on behind records that were merged into the globals, and gives what is shown beside these.
+fn end_merged<'a>(
+    job: Job<'_>,
+    globals: &mut Globals,
+    run: &mut Run<'a>,
+    merged: Merged<'a>,
+) -> Result<(Output, Specials, Ending), AllocError>
+    ensures { IfOk result (λ shown. Answers (behind_records calls
+        (code_view job.entry.code.now).expressions (code_view job.entry.code.now)
+        job.entry.budget (leaving_view merged.entry.leaving)
+        (behind_output run.old.output.items (merges.end_view globals.old merged.entry)))
+        (outcome_of shown.0 globals.new shown.1 shown.2)) }
+{
+    let alloc = run.alloc;
+    let before = mem::replace(&mut run.output, Vec::new(alloc));
+    run.state = merged.state;
+    let left = left_of(merged.leaving);
+    let ending = run_behind_records(job, left, globals, run)?;
+    let specials = run.state.specials(alloc)?;
+    let behind = mem::replace(&mut run.output, Vec::new(alloc));
+    let output = output_of(alloc, before, merged.outputs, behind)?;
+    Ok((output, specials, ending))
+}
+
 /// Goes on behind records that were merged into the globals.
 pub(crate) fn go_on_merged<'a>(
     job: Job<'_>,
@@ -78,14 +105,7 @@ pub(crate) fn go_on_merged<'a>(
         left: _,
     } = prologue;
     let (mut globals, mut run) = (globals, run);
-    let alloc = run.alloc;
-    let before = mem::replace(&mut run.output, Vec::new(alloc));
-    drop(mem::replace(&mut run.state, merged.state));
-    let left = left_of(merged.leaving);
-    let ending = run_behind_records(job, left, &mut globals, &mut run)?;
-    let specials = run.state.specials(alloc)?;
-    let behind = mem::replace(&mut run.output, Vec::new(alloc));
-    let output = output_of(alloc, before, merged.outputs, behind)?;
+    let (output, specials, ending) = end_merged(job, &mut globals, &mut run, merged)?;
     Ok(Outcome {
         output,
         globals,

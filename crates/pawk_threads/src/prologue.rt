@@ -1,18 +1,20 @@
 //! A run behind BEGIN.
 
-ghost use Rattle.std.specs.Prelude.{◌≡◌, ◌↔◌, IfOk, IsTrue};
+ghost use Rattle.std.specs.Prelude.{◌≡◌, ◌↔◌, ◌<◌, ◌≤◌, length, IfOk, IsTrue, MatchOption};
 ghost use Rattle.pawk_code.specs.ProgramViews.{code_view};
-ghost use Rattle.pawk_input.specs.Input.{files_of};
+ghost use Rattle.pawk_input.specs.Input.{IsReady, files_of};
 ghost use Rattle.pawk_store.specs.Globals.{calls};
 ghost use Rattle.pawk_store.specs.Openings.{pairs_of};
 ghost use Rattle.pawk_meaning.specs.Runs as spec;
 ghost use Rattle.pawk_part.specs.Ends.{left_view};
 ghost use Rattle.pawk_one.specs.Ends.{Answers};
 ghost use Rattle.pawk_threads.specs.Prologue.{end_of};
-ghost use Rattle.pawk_threads.specs.Routes.{HasRecords, begin_end};
+ghost use Rattle.pawk_threads.specs.Routes.{HasRecords, begin_end, separator_of};
 
 use pawk_input::Input;
-use pawk_one::{Finish, Job, Left, Outcome, Output, opening_run, run_begin, run_behind_begin};
+use pawk_one::{
+    Finish, Job, Left, Outcome, Output, make_ready, opening_run, run_begin, run_behind_begin,
+};
 use pawk_places::Run;
 use pawk_settings::Assignment;
 use pawk_store::Globals;
@@ -24,6 +26,23 @@ pub(crate) struct Prologue<'a> {
     pub globals: Globals,
     pub run: Run<'a>,
     pub left: Left,
+}
+
+impl<'a> Prologue<'a> {
+    /// Takes RS as BEGIN left it and makes the input ready for it, and gives its bytes; nothing where they
+    /// are several. The input's names and bytes stay as they are.
+    pub(crate) fn make_ready(&mut self, input: &mut Input) -> Result<Option<Vec<u8>>, AllocError>
+        ensures taken { IfOk result (λ _. spec.take_separator
+            (separator_of (end_of self.old)) (end_of self.old) ≡ end_of self.new) }
+        ensures ready { IfOk result (λ found. MatchOption found
+            (1 < length (separator_of (end_of self.old)))
+            (λ rs. (rs.items ≡ separator_of (end_of self.old))
+            × (length rs.items ≤ 1) × IsReady rs.items input.new)) }
+        ensures same { files_of input.new ≡ files_of input.old }
+    {
+        let found = make_ready(&self.globals, input, &mut self.run)?;
+        Ok(found)
+    }
 }
 
 /// Runs BEGIN, with these assignments made before.

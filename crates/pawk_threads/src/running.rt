@@ -20,7 +20,7 @@ use crate::report::{Refusal, Report, Route};
 use pawk_admit::{Reason, Roles, admit};
 use pawk_crew::{Chunked, Gate};
 use pawk_input::Input;
-use pawk_one::{Job, Outcome, run_one, take_separator};
+use pawk_one::{Job, Outcome, run_one};
 use pawk_settings::Assignment;
 use std::alloc::Global;
 use std::sync::Wait;
@@ -61,15 +61,11 @@ fn run_admitted<G: Gate + Sync, R: Threads + Wait>(
         (end_of prologue.entry) (files_of input.old) way.entry.cutting.now }
     ensures same { files_of input.new ≡ files_of input.old }
 {
-    let Prologue { globals, run, left } = prologue;
-    let mut run = run;
-    let rs = take_separator(&globals, &mut run)?;
-    let prologue = Prologue { globals, run, left };
-    if rs.len() > 1 {
+    let mut prologue = prologue;
+    let Some(rs) = prologue.make_ready(input)? else {
         let outcome = go_on(job, prologue, input)?;
         return Ok(Some((outcome, Route::Redo)));
-    }
-    input.mend(rs.as_slice())?;
+    };
     let plan = plan_of(rt, prologue.run.alloc, input, rs.as_slice(), way, gate)?;
     let source = Chunked {
         input,

@@ -4,6 +4,7 @@ use Rattle.pawk_meaning.specs.Records.{End}
 use Rattle.pawk_meaning.specs.Runs.{behind_records, records_from}
 use Rattle.pawk_part.specs.declared.left.Left.TheVariants.{Through}
 use Rattle.pawk_part.specs.Ends.{end_view}
+use Rattle.pawk_one.proofs.FinishLemmas.{finishes}
 use Rattle.pawk_one.proofs.whole.run_mended.Goals as goal
 
 pub returns : goal.returns
@@ -12,4 +13,5 @@ returns g c =
     let budget = c.args.job.budget in
     let begin = end_view (g.W.World.state c.args.world.now) c.args.run.now Through in
     let ran = ap (records_from g.W.World.calls code.expressions code budget None begin) (sym c.records.ensures.walk) ∙ c.in_ok-left.ensures in
-    ap (λ (r : End g.W.World.State). behind_records g.W.World.calls code.expressions code budget r.left r) ran ∙ c.in_ok-ending.ensures
+    let told = ap (λ (r : End g.W.World.State). behind_records g.W.World.calls code.expressions code budget r.left r) ran ∙ c.in_ok-ending.ensures in
+    finishes _ (g.W.World.state c.run_behind_records.new.world) c.run_behind_records.new.run c.in_ok-ending.ending c.of.result told c.of.ensures.output c.of.ensures.ending c.of.ensures.specials

@@ -8,6 +8,6 @@ use Rattle.pawk_syntax_item.proofs.item.pattern.Goals as goal
 pub returns : goal.returns
 unfolding pattern after
 returns c =
-    let unseen : sees m.Comma (input c.whole.new.ts) ≡ false = sym c.if-eat.ensures.seen in
-    let here : input c.eat.new.self ≡ input c.whole.new.ts = rw unseen at c.if-eat.ensures.after in
+    let unseen : sees m.Comma (input c.boxed_whole.new.ts) ≡ false = sym c.if-eat.ensures.seen in
+    let here : input c.eat.new.self ≡ input c.boxed_whole.new.ts = rw unseen at c.if-eat.ensures.after in
     rw (c.in_ok-p.ensures, unseen) (rw here at c.matching.ensures)

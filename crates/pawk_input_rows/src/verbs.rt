@@ -1,0 +1,51 @@
+//! The words that rows begin with.
+
+/// What a row asks for.
+#[derive(Clone, Copy)]
+pub enum Verb {
+    Files,
+    Records,
+    Chunked,
+    Size,
+    Cuts,
+    Many,
+    Counts,
+    Counted,
+    Begins,
+    Split,
+    Pieces,
+    Fields,
+    Field,
+    Refusals,
+    Unknown,
+}
+
+/// Each word, with what it asks for.
+static WORDS: [(&[u8], Verb); 14] = [
+    (b"files", Verb::Files),
+    (b"records", Verb::Records),
+    (b"chunked", Verb::Chunked),
+    (b"size", Verb::Size),
+    (b"cuts", Verb::Cuts),
+    (b"many", Verb::Many),
+    (b"counts", Verb::Counts),
+    (b"counted", Verb::Counted),
+    (b"begins", Verb::Begins),
+    (b"split", Verb::Split),
+    (b"pieces", Verb::Pieces),
+    (b"fields", Verb::Fields),
+    (b"field", Verb::Field),
+    (b"refusals", Verb::Refusals),
+];
+
+impl Verb {
+    /// What a row asks for that begins with a word.
+    pub fn of(word: &[u8]) -> Verb {
+        for (text, verb) in &WORDS {
+            if *text == word {
+                return *verb;
+            }
+        }
+        Verb::Unknown
+    }
+}
