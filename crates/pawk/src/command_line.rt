@@ -201,20 +201,27 @@ fn request_of<'a>(
     })
 }
 
+/// Reads the words by the definition of the command.
+fn read_by<'a>(
+    alloc: Global,
+    command: &mut Command<'a>,
+    words: &'a [String],
+) -> Result<Request<'a>, Stop> {
+    let matches = command.try_get_matches_from_mut(words)?;
+    match program_source(&matches) {
+        Some(program) if are_plain(&matches) => Ok(request_of(alloc, &matches, program)?),
+        Some(_) => {
+            let text = "a number is written in digits alone";
+            Err(fault(command, ErrorKind::ValueValidation, text))
+        }
+        None => Err(fault(command, ErrorKind::MissingRequiredArgument, "no program")),
+    }
+}
+
 /// Reads the words, of which the first is the program's name.
 ///
 /// `Line` comes where the words are at fault or ask for help, `Memory` where memory was refused.
 pub(crate) fn read_words<'a>(alloc: Global, words: &'a [String]) -> Result<Request<'a>, Stop> {
     let mut command = definition(alloc)?;
-    let matches = command.try_get_matches_from_mut(words)?;
-    let Some(program) = program_source(&matches) else {
-        let kind = ErrorKind::MissingRequiredArgument;
-        return Err(fault(&mut command, kind, "no program"));
-    };
-    if !are_plain(&matches) {
-        let kind = ErrorKind::ValueValidation;
-        let text = "a number is written in digits alone";
-        return Err(fault(&mut command, kind, text));
-    }
-    Ok(request_of(alloc, &matches, program)?)
+    read_by(alloc, &mut command, words)
 }

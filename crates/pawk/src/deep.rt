@@ -6,15 +6,11 @@ use crate::reports::Stop;
 use pawk_input::Input;
 use pawk_one::{Ending, Job, Output};
 use pawk_settings::Assignment;
-use pawk_threads::{Cutting, Open, Route, Way, run};
+use pawk_threads::{Cutting, Open, Route, STACK_BYTES, Way, run};
 use std::alloc::Global;
 use std::sync::Wait;
 use std::thread;
 use std::thread::{Builder, Scope, Threads};
-
-/// How many bytes a run's stack may have: as much as 200 calls inside each other can need whose
-/// statements and expressions are nested as deep as they may be. Only what is used takes memory.
-const STACK_BYTES: usize = 268_435_456;
 
 /// How the input is divided: the size of a chunk in bytes, and how many workers there are at most.
 #[derive(Clone, Copy)]

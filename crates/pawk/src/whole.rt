@@ -72,20 +72,59 @@ fn prepare(alloc: Global, request: &Request<'_>, text: &[u8]) -> Result<(Code, S
     Ok((code, settings))
 }
 
-/// Whether a program's text may name the record separator.
-fn may_separate(text: &[u8]) -> bool {
-    text.windows(2).any(|pair| pair == b"RS".as_slice())
+/// Whether a byte may stand in a name.
+fn is_in_name(byte: &u8) -> bool {
+    byte.is_ascii_alphanumeric() || *byte == b'_'
 }
 
-/// How many threads may read a file: those of the run, and one where the record separator may be another
-/// than a byte, since records that are paragraphs are brought to one piece again.
+/// Whether a program's text that goes on so has ended a statement, but for blanks.
+fn ends_statement(rest: &[u8]) -> bool {
+    match rest.iter().find(|byte| **byte != b' ' && **byte != b'\t') {
+        Some(byte) => b";}\n".contains(byte),
+        None => true,
+    }
+}
+
+/// Whether a program's text assigns one byte to the name behind which it goes on so.
+fn assigns_one_byte(rest: &[u8]) -> bool {
+    let Some(value) = rest.trim_ascii_start().strip_prefix(b"=".as_slice()) else {
+        return false;
+    };
+    match value.trim_ascii_start() {
+        [b'"', b'\\', b'n' | b't' | b'\\' | b'"', b'"', rest @ ..] => ends_statement(rest),
+        [b'"', b'"' | b'\\' | b'\n', ..] => false,
+        [b'"', _, b'"', rest @ ..] => ends_statement(rest),
+        _ => false,
+    }
+}
+
+/// Whether RS stands in a program's text behind what is before, and something else than one byte may be assigned to it there.
+fn may_be_empty(before: &[u8], rest: &[u8]) -> bool {
+    match rest.strip_prefix(b"RS".as_slice()) {
+        Some(rest) => {
+            !before.last().is_some_and(is_in_name)
+                && !rest.first().is_some_and(is_in_name)
+                && !assigns_one_byte(rest)
+        }
+        None => false,
+    }
+}
+
+/// Whether a program's text may make RS empty.
+fn may_make_paragraphs(text: &[u8]) -> bool {
+    for place in 0..text.len() {
+        let (before, rest) = text.split_at(place);
+        if may_be_empty(before, rest) {
+            return true;
+        }
+    }
+    false
+}
+
+/// How many threads may read a file: those of the run, and one where the record separator may be empty,
+/// since records that are paragraphs are brought to one piece again.
 fn readers(request: &Request<'_>, text: &[u8]) -> usize {
-    if may_separate(text)
-        || request
-            .assignments
-            .iter()
-            .any(|text| text.starts_with("RS="))
-    {
+    if may_make_paragraphs(text) || request.assignments.iter().any(|text| *text == "RS=") {
         1
     } else {
         usize::from(request.workers)
@@ -114,17 +153,11 @@ where
     read_files(rt, &request.files, readers)
 }
 
-/// How the input is divided. A program with functions has one worker, which is the run's own thread:
-/// the stack of no other is deep enough for calls inside each other.
-fn division(request: &Request<'_>, code: &Code) -> Division {
-    let workers = if code.functions.is_empty() {
-        usize::from(request.workers)
-    } else {
-        1
-    };
+/// How the input is divided.
+fn division(request: &Request<'_>) -> Division {
     Division {
         chunk: request.chunk,
-        workers,
+        workers: usize::from(request.workers),
     }
 }
 
@@ -157,7 +190,7 @@ where
         code: &code,
         budget: settings.budget(),
     };
-    let division = division(request, &code);
+    let division = division(request);
     let shown = run_deep(rt, alloc, job, settings.assignments(), &mut input, division)?;
     if write_parts(output, shown.output).is_err() {
         return Err(Stop::Write);

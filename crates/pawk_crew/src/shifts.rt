@@ -5,6 +5,7 @@ ghost use Rattle.pawk_board.specs.Views.{fresh};
 ghost use Rattle.pawk_crew.specs.Shifts.{Worked};
 ghost use Rattle.pawk_crew.specs.Task.{IsTask};
 
+use crate::limits::STACK_BYTES;
 use crate::task::Task;
 use crate::worker::work;
 use pawk_board::BoardSeat;
@@ -38,6 +39,14 @@ impl<'p, 'a> Labour<Shift<'a>> for Task<'p, 'a> {
     ghost IsReady = { IsTask };
 
     ghost first = { λ t. fresh t.board.now.id };
+
+    /// A program with functions may call them inside each other, for which the system's stack is not deep enough.
+    fn stack_bytes(&self) -> Option<usize> {
+        if self.opening.job.code.functions.is_empty() {
+            return None;
+        }
+        Some(STACK_BYTES)
+    }
 
     fn labour<G: Gate>(&self, alloc: Global, mut seat: BoardSeat, gate: &G) -> Shift<'a> {
         let results = work(alloc, self, &mut seat, gate);

@@ -4,6 +4,7 @@ ghost use Rattle.std.specs.Prelude.{◌≡◌, All, IfOk, vec_len};
 ghost use Rattle.pawk_board.specs.Views.{SeatView};
 
 use crate::gate::Gate;
+use core::thread::Stack;
 use pawk_board::BoardSeat;
 use std::alloc::{AllocError, Global};
 use std::sync::Wait;
@@ -32,11 +33,24 @@ pub trait Labour<S>: Promise<S> {
 
     ghost first: { Self → SeatView };
 
+    /// How many bytes the stack of a thread has at least that does this, where the system's own is not enough.
+    fn stack_bytes(&self) -> Option<usize> {
+        None
+    }
+
     /// Works at a seat that has done nothing, and hands back what came of it.
     fn labour<G: Gate>(&self, alloc: Global, seat: BoardSeat, gate: &G) -> S
         requires ready { Self.IsReady self.now }
         requires seat { seat ≡ Self.first self.now }
         ensures { Self.kept_by self.now result };
+}
+
+/// A stack of at least so many bytes, and the system's own where none are asked for.
+fn stack_of(bytes: Option<usize>) -> Stack {
+    match bytes {
+        Some(bytes) => Stack::new().stack_size(bytes),
+        None => Stack::new(),
+    }
 }
 
 /// Starts a thread of the scope for each seat, and joins them all.
@@ -57,7 +71,8 @@ fn in_scope<'s, E, S: Send + Drop + 's, L: Labour<S> + Copy + Sync, G: Gate + Sy
     let mut shifts = Vec::with_capacity(alloc, count)?;
     let mut handles = Vec::with_capacity(alloc, count)?;
     for seat in seats {
-        let started = scope.spawn_with(*task, move || task.labour(alloc, seat, gate));
+        let stack = stack_of(task.stack_bytes());
+        let started = stack.spawn_scoped_with(scope, *task, move || task.labour(alloc, seat, gate));
         match started {
             Ok(handle) => handles.push_reserved(handle),
             Err(_) => break,

@@ -70,11 +70,11 @@ impl Write for Narrow {
     }
 }
 
-/// What a run answered, and what the writer took.
-#[derive(Drop)]
+/// What a run answered, and whether the writer took what is wanted.
+#[derive(Clone, Copy)]
 struct Answer {
     answer: Result<(Ending, Report), StreamRefusal>,
-    taken: Vec<u8>,
+    is_taken: bool,
 }
 
 /// How much a reader and a writer do, and whether the writer then fails, or takes nothing.
@@ -92,13 +92,15 @@ const ENOUGH: Limits = Limits {
     fails: true,
 };
 
-/// Runs a text with assignments and a budget over the lines 1, 2 and 3, each of which is a chunk.
+/// Runs a text with assignments and a budget over the lines 1, 2 and 3, each of which is a chunk; the writer is wanted to
+/// take this output.
 fn run_lines<R: AllocGlobal + Threads + Wait>(
     rt: &R,
     text: &[u8],
     assigns: &[(Vec<u8>, Vec<u8>)],
     budget: u64,
     limits: Limits,
+    output: &[u8],
 ) -> Answer {
     let alloc = rt.alloc();
     let cutting = Cutting::Size(1);
@@ -122,12 +124,12 @@ fn run_lines<R: AllocGlobal + Threads + Wait>(
     let answer = run_streams(rt, alloc, &request, &mut source, &mut sink, &Open);
     Answer {
         answer,
-        taken: sink.inner.taken,
+        is_taken: sink.inner.taken.as_slice() == output,
     }
 }
 
 /// The refusal, or none where the run ended with status 0.
-fn refusal_in(answer: &Answer) -> Result<Option<StreamRefusal>, Fail> {
+fn refusal_in(answer: Answer) -> Result<Option<StreamRefusal>, Fail> {
     match answer.answer {
         Ok((Ending::Status(0), _)) => Ok(None),
         Ok(_) => Err(Fail::from("another ending")),
@@ -147,9 +149,9 @@ fn a_read_fails(rt: HostRuntime) -> Result<(), Fail> {
     ];
     for (reads, wanted, output) in rows {
         let limits = Limits { reads, ..ENOUGH };
-        let answer = run_lines(&rt, SUM, &[], 1, limits);
-        assert!(rt; refusal_in(&answer)? == wanted, "{reads} reads");
-        assert!(rt; answer.taken.as_slice() == output, "{reads} reads");
+        let answer = run_lines(&rt, SUM, &[], 1, limits, output);
+        assert!(rt; refusal_in(answer)? == wanted, "{reads} reads");
+        assert!(rt; answer.is_taken, "{reads} reads");
     }
     Ok(())
 }
@@ -169,9 +171,9 @@ fn a_write_fails(rt: HostRuntime) -> Result<(), Fail> {
             fails,
             ..ENOUGH
         };
-        let answer = run_lines(&rt, SUM, &[], 1, limits);
-        assert!(rt; refusal_in(&answer)? == wanted, "room {room}");
-        assert!(rt; answer.taken.as_slice() == output, "room {room}");
+        let answer = run_lines(&rt, SUM, &[], 1, limits, output);
+        assert!(rt; refusal_in(answer)? == wanted, "room {room}");
+        assert!(rt; answer.is_taken, "room {room}");
     }
     Ok(())
 }
@@ -188,15 +190,15 @@ fn a_write_fails_behind_others(rt: HostRuntime) -> Result<(), Fail> {
     ];
     for (room, wanted, output) in rows {
         let limits = Limits { room, ..ENOUGH };
-        let answer = run_lines(&rt, text, &[], 1, limits);
-        assert!(rt; refusal_in(&answer)? == wanted, "room {room}");
-        assert!(rt; answer.taken.as_slice() == output, "room {room}");
+        let answer = run_lines(&rt, text, &[], 1, limits, output);
+        assert!(rt; refusal_in(answer)? == wanted, "room {room}");
+        assert!(rt; answer.is_taken, "room {room}");
     }
     Ok(())
 }
 
 /// The numbers of a refusal: its own, and that of the program's cause or of the setting, else 0.
-fn numbers_in(answer: &Answer) -> Result<(u8, u8), Fail> {
+fn numbers_in(answer: Answer) -> Result<(u8, u8), Fail> {
     match refusal_in(answer)? {
         Some(refusal) => Ok(match refusal {
             StreamRefusal::Program(why) => (refusal.number(), why.number()),
@@ -220,9 +222,9 @@ fn refuses_before_it_reads(rt: HostRuntime) -> Result<(), Fail> {
         (SUM, 1_000_000_000_001, (5, 4)),
     ];
     for (text, budget, wanted) in rows {
-        let answer = run_lines(&rt, text, &[], budget, limits);
-        assert!(rt; numbers_in(&answer)? == wanted);
-        assert!(rt; answer.taken.is_empty());
+        let answer = run_lines(&rt, text, &[], budget, limits, b"");
+        assert!(rt; numbers_in(answer)? == wanted);
+        assert!(rt; answer.is_taken);
     }
     Ok(())
 }
@@ -252,9 +254,9 @@ fn refuses_an_assignment(rt: HostRuntime) -> Result<(), Fail> {
     ];
     for (name, value, wanted) in rows {
         let assigns = assignment(rt.alloc(), name, value)?;
-        let answer = run_lines(&rt, SUM, assigns.as_slice(), 1, limits);
-        assert!(rt; refusal_in(&answer)? == Some(StreamRefusal::Settings(wanted)));
-        assert!(rt; answer.taken.is_empty());
+        let answer = run_lines(&rt, SUM, assigns.as_slice(), 1, limits, b"");
+        assert!(rt; refusal_in(answer)? == Some(StreamRefusal::Settings(wanted)));
+        assert!(rt; answer.is_taken);
     }
     Ok(())
 }
@@ -264,9 +266,9 @@ fn refuses_an_assignment(rt: HostRuntime) -> Result<(), Fail> {
 fn assigns_before_it_runs(rt: HostRuntime) -> Result<(), Fail> {
     let assigns = assignment(rt.alloc(), b"n", b"4")?;
     let text = b"BEGIN { print n } { n += $1 } END { print n }";
-    let answer = run_lines(&rt, text, assigns.as_slice(), 1, ENOUGH);
-    assert!(rt; refusal_in(&answer)? == None);
-    assert!(rt; answer.taken.as_slice() == b"4\n10\n".as_slice());
+    let answer = run_lines(&rt, text, assigns.as_slice(), 1, ENOUGH, b"4\n10\n");
+    assert!(rt; refusal_in(answer)? == None);
+    assert!(rt; answer.is_taken);
     Ok(())
 }
 
@@ -274,10 +276,10 @@ fn assigns_before_it_runs(rt: HostRuntime) -> Result<(), Fail> {
 #[test]
 fn reads_nothing_without_records(rt: HostRuntime) -> Result<(), Fail> {
     let limits = Limits { reads: 0, ..ENOUGH };
-    let answer = run_lines(&rt, b"BEGIN { print 6 }", &[], 1, limits);
-    assert!(rt; refusal_in(&answer)? == None);
-    assert!(rt; answer.taken.as_slice() == b"6\n".as_slice());
-    if let Ok((_, report)) = &answer.answer {
+    let answer = run_lines(&rt, b"BEGIN { print 6 }", &[], 1, limits, b"6\n");
+    assert!(rt; refusal_in(answer)? == None);
+    assert!(rt; answer.is_taken);
+    if let Ok((_, report)) = answer.answer {
         assert!(rt; report.route == Route::NoMain);
     }
     Ok(())

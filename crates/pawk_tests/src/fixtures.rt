@@ -1,5 +1,6 @@
 //! What several tests need.
 
+ghost use Rattle.std.specs.Prelude.{◌≤◌};
 ghost use Rattle.pawk_crew.specs.Task.{IsCrew};
 ghost use Rattle.pawk_threads.specs.Cuttings.{IsSized};
 
@@ -93,19 +94,52 @@ fn is_ending(ending: Ending, fault: Option<(Fault, u64)>) -> bool {
     }
 }
 
-/// Whether the run gave this output and ended so, and went this way.
-pub(crate) fn is_outcome(
-    answer: &Result<(Outcome, Route), Refusal>,
-    output: &[u8],
-    fault: Option<(Fault, u64)>,
-    route: Route,
-) -> bool {
+/// What a run shows: its output, the fault in which it ends and the record of this number, if it does, and the way it went.
+#[derive(Clone, Copy)]
+pub(crate) struct Shown<'t> {
+    pub(crate) output: &'t [u8],
+    pub(crate) fault: Option<(Fault, u64)>,
+    pub(crate) route: Route,
+}
+
+/// What a run shows that ends with status 0 and went in chunks.
+pub(crate) fn chunks_show(output: &[u8]) -> Shown<'_> {
+    Shown {
+        output,
+        fault: None,
+        route: Route::Parallel,
+    }
+}
+
+/// Whether a run showed this.
+pub(crate) fn is_shown(answer: &Result<(Outcome, Route), Refusal>, shown: Shown<'_>) -> bool {
     match answer {
-        Ok((outcome, way)) => {
-            are_text(outcome.output.parts(), output)
-                && is_ending(outcome.ending, fault)
-                && *way == route
+        Ok((outcome, route)) => {
+            are_text(outcome.output.parts(), shown.output)
+                && is_ending(outcome.ending, shown.fault)
+                && *route == shown.route
         }
         Err(_) => false,
     }
+}
+
+/// Whether a program's text shows this over these bytes, cut into chunks of this size.
+pub(crate) fn shows<R, G>(
+    rt: &R,
+    text: &[u8],
+    bytes: &[u8],
+    size: u64,
+    workers: usize,
+    gate: &G,
+    shown: Shown<'_>,
+) -> Result<bool, Fail>
+where
+    R: AllocGlobal + Threads + Wait,
+    G: Gate + Sync,
+    requires sized { 1 ≤ size }
+    requires workers { IsCrew workers }
+{
+    let cutting = Cutting::Size(size);
+    let answer = run_text(rt, text, bytes, &cutting, workers, gate)?;
+    Ok(is_shown(&answer, shown))
 }

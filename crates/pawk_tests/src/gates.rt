@@ -7,11 +7,11 @@ ghost use Rattle.pawk_input.specs.Input.{IsReady, files_of};
 ghost use Rattle.pawk_input.specs.Plan.{IsPlanOf};
 ghost use Rattle.pawk_crew.specs.Task.{IsChunked, IsTask};
 
-use crate::fixtures::{SUM, code_of, is_outcome, one_file, run_text};
+use crate::fixtures::{SUM, Shown, chunks_show, code_of, one_file, shows};
 use pawk_admit::admit;
 use pawk_board::{Board, BoardSeat};
 use pawk_input::{Input, Plan};
-use pawk_par::{ChunkResult, Chunked, Cutting, Gate, Job, Left, Open, Opening, Route, Task, work};
+use pawk_par::{ChunkResult, Chunked, Gate, Job, Left, Open, Opening, Route, Task, work};
 use pawk_store::{Globals, RecordState};
 use pawk_value::Fault;
 use std::alloc::{AllocError, Global};
@@ -103,23 +103,30 @@ fn seen_by(gate: &Holding<'_>) -> (u64, u64, u64, u64) {
 fn two_workers_run_at_once(rt: HostRuntime) -> Result<(), Fail> {
     for (held, awaited) in [(0, 1), (1, 0)] {
         let gate = Holding::new(&rt, held, awaited, Until::Entered);
-        let answer = run_text(&rt, SUM, b"1\n2\n", &Cutting::Size(1), 2, &gate)?;
+        let is_shown = shows(&rt, SUM, b"1\n2\n", 1, 2, &gate, chunks_show(b"3\n"))?;
         assert!(rt; seen_by(&gate) == (0, 2, 3, 3), "chunk {held} was held");
-        assert!(rt; is_outcome(&answer, b"3\n", None, Route::Parallel));
+        assert!(rt; is_shown);
     }
     Ok(())
 }
 
-/// The sum of these lines ends in a fault at the third.
-const FAULT_AT_THREE: Option<(Fault, u64)> = Some((Fault::Numeral, 3));
+/// Lines whose sum ends in a fault at the third.
+const FAULTY: &[u8] = b"1\n2\n12.5\n4\n";
+
+/// What the sum of them shows.
+const FAULT_AT_THREE: Shown<'static> = Shown {
+    output: b"",
+    fault: Some((Fault::Numeral, 3)),
+    route: Route::Redo,
+};
 
 // One worker: the chunk past the fault is skipped without the gate.
 #[test]
 fn skips_past_a_fault(rt: HostRuntime) -> Result<(), Fail> {
     let gate = Holding::new(&rt, 99, 99, Until::Left);
-    let answer = run_text(&rt, SUM, b"1\n2\n12.5\n4\n", &Cutting::Size(1), 1, &gate)?;
+    let is_shown = shows(&rt, SUM, FAULTY, 1, 1, &gate, FAULT_AT_THREE)?;
     assert!(rt; seen_by(&gate) == (0, 3, 7, 7));
-    assert!(rt; is_outcome(&answer, b"", FAULT_AT_THREE, Route::Redo));
+    assert!(rt; is_shown);
     Ok(())
 }
 
@@ -127,19 +134,18 @@ fn skips_past_a_fault(rt: HostRuntime) -> Result<(), Fail> {
 #[test]
 fn a_chunk_past_a_fault_is_dropped(rt: HostRuntime) -> Result<(), Fail> {
     let gate = Holding::new(&rt, 2, 3, Until::Left);
-    let answer = run_text(&rt, SUM, b"1\n2\n12.5\n4\n", &Cutting::Size(1), 2, &gate)?;
+    let is_shown = shows(&rt, SUM, FAULTY, 1, 2, &gate, FAULT_AT_THREE)?;
     assert!(rt; seen_by(&gate) == (0, 4, 15, 15));
-    assert!(rt; is_outcome(&answer, b"", FAULT_AT_THREE, Route::Redo));
+    assert!(rt; is_shown);
     Ok(())
 }
 
 // As many workers as there are chunks, and one where there is none.
 #[test]
 fn no_more_workers_than_chunks(rt: HostRuntime) -> Result<(), Fail> {
-    for bytes in [b"".as_slice(), b"1\n".as_slice()] {
-        let answer = run_text(&rt, SUM, bytes, &Cutting::Size(1), 64, &Open)?;
-        let output: &[u8] = if bytes.is_empty() { b"\n" } else { b"1\n" };
-        assert!(rt; is_outcome(&answer, output, None, Route::Parallel));
+    let rows: [(&[u8], &[u8]); 2] = [(b"", b"\n"), (b"1\n", b"1\n")];
+    for (bytes, output) in rows {
+        assert!(rt; shows(&rt, SUM, bytes, 1, 64, &Open, chunks_show(output))?);
     }
     Ok(())
 }

@@ -1,7 +1,8 @@
 //! Whole outcomes, and cuts by hand.
 
-use crate::fixtures::{SUM, code_of, is_outcome, run_code, run_text};
+use crate::fixtures::{SUM, Shown, chunks_show, code_of, is_shown, run_code, run_text, shows};
 use pawk_admit::Reason;
+use pawk_code::program::Code;
 use pawk_par::{Cutting, Open, Outcome, Refusal, Route, Way};
 use pawk_store::{Content, Named, Names};
 use pawk_value::ValueRef;
@@ -20,8 +21,8 @@ const SHOWN: &[u8] = b"6 3 3 1 0 -1 %.6g %.6g | | |\n|\n|\x1c|\n";
 
 #[test]
 fn shows_every_variable(rt: HostRuntime) -> Result<(), Fail> {
-    let answer = run_text(&rt, SHOWING, b"1\n2\n3\n", &Cutting::Size(1), 2, &Open)?;
-    assert!(rt; is_outcome(&answer, SHOWN, None, Route::Parallel));
+    let shown = chunks_show(SHOWN);
+    assert!(rt; shows(&rt, SHOWING, b"1\n2\n3\n", 1, 2, &Open, shown)?);
     Ok(())
 }
 
@@ -74,7 +75,7 @@ fn leaves_every_global(rt: HostRuntime) -> Result<(), Fail> {
         workers: 2,
     };
     let answer = run_code(&rt, &code, b"1\n2\n3\n", way, &Open)?;
-    assert!(rt; is_outcome(&answer, b"", None, Route::Parallel));
+    assert!(rt; is_shown(&answer, chunks_show(b"")));
     if let Ok((outcome, _)) = &answer {
         for (name, wanted) in rows {
             assert!(rt; has(outcome, code.scalars.as_slice(), name, wanted));
@@ -117,6 +118,21 @@ const LISTING: [(&[u8], Wanted); 14] = [
     (b"n", Wanted::Number(6)),
 ];
 
+/// Whether the listing of the globals that a run left is the one that is wanted.
+fn lists_all(alloc: Global, code: &Code, outcome: &Outcome) -> Result<bool, AllocError> {
+    let names = Names {
+        scalars: code.scalars.as_slice(),
+        arrays: code.arrays.as_slice(),
+        assignments: &[],
+    };
+    let listing = outcome.globals.list(alloc, names, &outcome.specials)?;
+    let mut rows = LISTING.iter().enumerate();
+    Ok(
+        listing.len() == LISTING.len()
+            && rows.all(|(place, (name, wanted))| lists(listing.as_slice(), place, name, *wanted)),
+    )
+}
+
 #[test]
 fn lists_every_global(rt: HostRuntime) -> Result<(), Fail> {
     let code = code_of(rt.alloc(), SUM)?;
@@ -126,18 +142,9 @@ fn lists_every_global(rt: HostRuntime) -> Result<(), Fail> {
         workers: 2,
     };
     let answer = run_code(&rt, &code, b"1\n2\n3\n", way, &Open)?;
-    assert!(rt; is_outcome(&answer, b"6\n", None, Route::Parallel));
+    assert!(rt; is_shown(&answer, chunks_show(b"6\n")));
     if let Ok((outcome, _)) = &answer {
-        let names = Names {
-            scalars: code.scalars.as_slice(),
-            arrays: code.arrays.as_slice(),
-            assignments: &[],
-        };
-        let listing = outcome.globals.list(rt.alloc(), names, &outcome.specials)?;
-        assert!(rt; listing.len() == LISTING.len());
-        for (place, (name, wanted)) in LISTING.iter().enumerate() {
-            assert!(rt; lists(listing.as_slice(), place, name, *wanted));
-        }
+        assert!(rt; lists_all(rt.alloc(), &code, outcome)?);
     }
     Ok(())
 }
@@ -150,7 +157,7 @@ fn is_cut<R: AllocGlobal + Threads + Wait>(
     let cutting = Cutting::At(Vec::from_slice(rt.alloc(), cuts)?);
     let answer = run_text(rt, SUM, b"1\n2\n3\n", &cutting, 2, &Open)?;
     Ok(match &answer {
-        Ok(_) => Some(is_outcome(&answer, b"6\n", None, Route::Parallel)),
+        Ok(_) => Some(is_shown(&answer, chunks_show(b"6\n"))),
         Err(Refusal::Cutting) => Some(false),
         Err(_) => None,
     })
@@ -186,25 +193,25 @@ fn ones(alloc: Global, count: u32) -> Result<Vec<u8>, AllocError> {
 fn counts_many_lines(rt: HostRuntime) -> Result<(), Fail> {
     let lines = ones(rt.alloc(), 32_769)?;
     let text = b"{ n += $1 } END { print n, NR }";
-    let answer = run_text(&rt, text, lines.as_slice(), &Cutting::Size(4096), 2, &Open)?;
-    assert!(rt; is_outcome(&answer, b"32769 32769\n", None, Route::Parallel));
+    let shown = chunks_show(b"32769 32769\n");
+    assert!(rt; shows(&rt, text, lines.as_slice(), 4096, 2, &Open, shown)?);
     Ok(())
 }
 
 // The way of a program without records, and of one that may not run in chunks, since it has a range.
 #[test]
 fn other_ways(rt: HostRuntime) -> Result<(), Fail> {
-    let lines = b"1\n2\n";
-    let none = run_text(
-        &rt,
-        b"BEGIN { print 7 }",
-        lines,
-        &Cutting::Size(1),
-        2,
-        &Open,
-    )?;
-    assert!(rt; is_outcome(&none, b"7\n", None, Route::NoMain));
-    let range = run_text(&rt, b"/1/, /2/", lines, &Cutting::Size(1), 2, &Open)?;
-    assert!(rt; is_outcome(&range, b"1\n2\n", None, Route::NotAdmitted(Reason::Range)));
+    let rows: [(&[u8], &[u8], Route); 2] = [
+        (b"BEGIN { print 7 }", b"7\n", Route::NoMain),
+        (b"/1/, /2/", b"1\n2\n", Route::NotAdmitted(Reason::Range)),
+    ];
+    for (text, output, route) in rows {
+        let shown = Shown {
+            output,
+            fault: None,
+            route,
+        };
+        assert!(rt; shows(&rt, text, b"1\n2\n", 1, 2, &Open, shown)?);
+    }
     Ok(())
 }

@@ -36,6 +36,7 @@ IsMerged code budget rs files e prologue merged =
     ≡ behind_records calls code.expressions code budget (leaving_view merged.leaving)
     (behind_output prologue.run.output.items (merges.end_view prologue.globals merged))
 
+-- An outcome: what was written, the globals and the specials that were left, and how the run ended.
 abbrev pub outcome_of : List ℕ → Globals → Specials → Ending → Outcome
 outcome_of output globals specials ending =
     record { output = output; globals = globals; specials = specials; ending = ending }
