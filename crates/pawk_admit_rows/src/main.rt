@@ -8,7 +8,7 @@
 
 use pawk_admit::{Reason, Role, admit};
 use pawk_resolve_program::program::resolve;
-use pawk_rows::{decode, push_decimal, push_encoded};
+use pawk_rows::{answer_lines, decode, push_decimal, push_encoded};
 use pawk_syntax::parse;
 use std::alloc::{AllocError, Global};
 use std::io;
@@ -79,13 +79,5 @@ fn answer(alloc: Global, row: &[u8]) -> Result<Vec<u8>, AllocError> {
 }
 
 fn main(rt: HostRuntime) -> io::Result<()> {
-    for line in rt.lines(rt.alloc()) {
-        let row = line?;
-        let answer = answer(rt.alloc(), row.as_str().as_bytes())?;
-        println!(rt;
-            "{}",
-            str::from_utf8(answer.as_slice()).unwrap_or("not a text")
-        )?;
-    }
-    Ok(())
+    answer_lines(&rt, answer)
 }

@@ -25,6 +25,7 @@ mod calls;
 mod ranges;
 
 use calls::Calls;
+use pawk_rows::answer_lines;
 use std::alloc::{AllocError, Global};
 use std::io;
 
@@ -38,13 +39,5 @@ fn answer(alloc: Global, row: &[u8]) -> Result<Vec<u8>, AllocError> {
 }
 
 fn main(rt: HostRuntime) -> io::Result<()> {
-    for line in rt.lines(rt.alloc()) {
-        let row = line?;
-        let answer = answer(rt.alloc(), row.as_str().as_bytes())?;
-        println!(rt;
-            "{}",
-            str::from_utf8(answer.as_slice()).unwrap_or("not a text")
-        )?;
-    }
-    Ok(())
+    answer_lines(&rt, answer)
 }

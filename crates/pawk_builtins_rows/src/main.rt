@@ -31,7 +31,7 @@ use pawk_code::expression::{Expr, Format, Pattern};
 use pawk_code::format::FixedFormat;
 use pawk_code::leaf::Leaf;
 use pawk_code::word::{Case, Count};
-use pawk_rows::{cell, decode, piece, push_decimal, push_encoded};
+use pawk_rows::{answer_lines, cell, decode, piece, push_decimal, push_encoded};
 use pawk_value::{Fault, Held, Stop};
 use std::alloc::{AllocError, Global};
 use std::io;
@@ -373,19 +373,13 @@ fn push_answer(alloc: Global, row: &[u8], out: &mut Vec<u8>) -> Result<(), Alloc
     answer_cells(alloc, &mut matchers, eres.as_slice(), row, out)
 }
 
-/// Prints the answer to a row.
-fn print_answer(rt: &HostRuntime, row: &[u8]) -> io::Result<()> {
-    let mut out = Vec::new(rt.alloc());
-    push_answer(rt.alloc(), row, &mut out)?;
-    println!(rt;
-        "{}",
-        str::from_utf8(out.as_slice()).unwrap_or("not a text")
-    )
+/// The answer to a row.
+fn answer(alloc: Global, row: &[u8]) -> Result<Vec<u8>, AllocError> {
+    let mut out = Vec::new(alloc);
+    push_answer(alloc, row, &mut out)?;
+    Ok(out)
 }
 
 fn main(rt: HostRuntime) -> io::Result<()> {
-    for line in rt.lines(rt.alloc()) {
-        print_answer(&rt, line?.as_str().as_bytes())?;
-    }
-    Ok(())
+    answer_lines(&rt, answer)
 }

@@ -20,7 +20,7 @@ ghost use Rattle.pawk_ere.specs.Kept.{IsOfItsText};
 ghost use Rattle.std.specs.Prelude.{◌≡◌, ◌≤◌, length, IfOk};
 
 use pawk_ere::{Cache, Ere, EreRefusal, Loan, Matcher};
-use pawk_rows::{number, piece, push_decimal, push_parts};
+use pawk_rows::{answer_lines, number, piece, push_decimal, push_parts};
 use std::alloc::{AllocError, Global};
 use std::io;
 
@@ -303,25 +303,7 @@ fn answer(alloc: Global, caches: &mut Caches, row: &[u8]) -> Result<Vec<u8>, All
     Ok(out)
 }
 
-/// Answers a line.
-fn answer_line(rt: &HostRuntime, caches: &mut Caches, line: io::Result<String>) -> io::Result<()> {
-    let row = line?;
-    let answer = answer(rt.alloc(), caches, row.as_str().as_bytes())?;
-    println!(rt;
-        "{}",
-        str::from_utf8(answer.as_slice()).unwrap_or("not a text")
-    )
-}
-
-/// Answers each line.
-fn answer_lines(rt: &HostRuntime, caches: &mut Caches) -> io::Result<()> {
-    for line in rt.lines(rt.alloc()) {
-        answer_line(rt, caches, line)?;
-    }
-    Ok(())
-}
-
 fn main(rt: HostRuntime) -> io::Result<()> {
     let mut caches = Caches::new(rt.alloc())?;
-    answer_lines(&rt, &mut caches)
+    answer_lines(&rt, |alloc, row| answer(alloc, &mut caches, row))
 }

@@ -28,7 +28,7 @@ mod files;
 mod plans;
 mod verbs;
 
-use pawk_rows::cell;
+use pawk_rows::{answer_lines, cell};
 use std::alloc::{AllocError, Global};
 use std::io;
 use verbs::Verb;
@@ -46,19 +46,13 @@ fn push_answer(alloc: Global, row: &[u8], out: &mut Vec<u8>) -> Result<(), Alloc
     }
 }
 
-/// Prints the answer to a row.
-fn print_answer(rt: &HostRuntime, row: &[u8]) -> io::Result<()> {
-    let mut out = Vec::new(rt.alloc());
-    push_answer(rt.alloc(), row, &mut out)?;
-    println!(rt;
-        "{}",
-        str::from_utf8(out.as_slice()).unwrap_or("not a text")
-    )
+/// The answer to a row.
+fn answer(alloc: Global, row: &[u8]) -> Result<Vec<u8>, AllocError> {
+    let mut out = Vec::new(alloc);
+    push_answer(alloc, row, &mut out)?;
+    Ok(out)
 }
 
 fn main(rt: HostRuntime) -> io::Result<()> {
-    for line in rt.lines(rt.alloc()) {
-        print_answer(&rt, line?.as_str().as_bytes())?;
-    }
-    Ok(())
+    answer_lines(&rt, answer)
 }

@@ -15,9 +15,9 @@ use pawk_lex::refusal::SyntaxRefusal;
 use pawk_lex::token::{Mark, Token, Value};
 use pawk_lex::token_list::TokenList;
 use pawk_lex::vocabulary::{is_run_variable, is_variable};
-use pawk_rows::{cell, decode, push_decimal, push_encoded};
+use pawk_rows::{answer_lines, cell, decode, push_decimal, push_encoded};
 use std::alloc::{AllocError, Global};
-use std::io::{self, BufRead, BufReader};
+use std::io;
 
 /// How many bytes the text of a row `size` has at least.
 const SIZE: usize = 10_000_000;
@@ -200,14 +200,5 @@ fn answer(alloc: Global, row: &[u8]) -> Result<Vec<u8>, AllocError> {
 }
 
 fn main(rt: HostRuntime) -> io::Result<()> {
-    let alloc = rt.alloc();
-    for line in BufReader::new(alloc, rt.reader())?.lines(alloc) {
-        let row = line?;
-        let answer = answer(alloc, row.as_str().as_bytes())?;
-        println!(rt;
-            "{}",
-            str::from_utf8(answer.as_slice()).unwrap_or("not a text")
-        )?;
-    }
-    Ok(())
+    answer_lines(&rt, answer)
 }

@@ -17,7 +17,7 @@
 #![tactic(auto)]
 
 use pawk_record::Record;
-use pawk_rows::{decode, number, piece, push_decimal, push_encoded};
+use pawk_rows::{answer_lines, decode, number, piece, push_decimal, push_encoded};
 use pawk_value::{Fault, Stop, ValueRef};
 use std::alloc::{AllocError, Global};
 use std::io;
@@ -161,7 +161,7 @@ fn answer_cell<'a>(
 }
 
 /// The answer to a row whose cells have these texts.
-fn answer(alloc: Global, row: &[u8], texts: &[Vec<u8>]) -> Result<Vec<u8>, AllocError> {
+fn answer_cells(alloc: Global, row: &[u8], texts: &[Vec<u8>]) -> Result<Vec<u8>, AllocError> {
     let mut record = Record::new(alloc);
     let mut out = Vec::new(alloc);
     for (place, text) in texts.iter().enumerate() {
@@ -171,15 +171,12 @@ fn answer(alloc: Global, row: &[u8], texts: &[Vec<u8>]) -> Result<Vec<u8>, Alloc
     Ok(out)
 }
 
+/// The answer to a row.
+fn answer(alloc: Global, row: &[u8]) -> Result<Vec<u8>, AllocError> {
+    let texts = texts_of(alloc, row)?;
+    answer_cells(alloc, row, texts.as_slice())
+}
+
 fn main(rt: HostRuntime) -> io::Result<()> {
-    for line in rt.lines(rt.alloc()) {
-        let row = line?;
-        let texts = texts_of(rt.alloc(), row.as_str().as_bytes())?;
-        let line = answer(rt.alloc(), row.as_str().as_bytes(), texts.as_slice())?;
-        println!(rt;
-            "{}",
-            str::from_utf8(line.as_slice()).unwrap_or("not a text")
-        )?;
-    }
-    Ok(())
+    answer_lines(&rt, answer)
 }

@@ -8,7 +8,7 @@
 
 mod program;
 
-use pawk_rows::{cell, number, push_decimal, push_encoded};
+use pawk_rows::{answer_lines, cell, number, push_decimal, push_encoded};
 use pawk_settings::{Settings, SettingsRefusal};
 use program::items;
 use std::alloc::{AllocError, Global};
@@ -75,13 +75,5 @@ fn answer(alloc: Global, row: &[u8]) -> Result<Vec<u8>, AllocError> {
 }
 
 fn main(rt: HostRuntime) -> io::Result<()> {
-    for line in rt.lines(rt.alloc()) {
-        let row = line?;
-        let answer = answer(rt.alloc(), row.as_str().as_bytes())?;
-        println!(rt;
-            "{}",
-            str::from_utf8(answer.as_slice()).unwrap_or("not a text")
-        )?;
-    }
-    Ok(())
+    answer_lines(&rt, answer)
 }

@@ -7,99 +7,160 @@
 //! is `differ`.
 #![tactic(auto)]
 
+ghost use Rattle.std.specs.Prelude.{◌≤◌};
+
 use pawk_ere::Cache;
-use pawk_rows::{cell, decode};
+use pawk_rows::{answer_lines, cell, decode, push_decimal};
 use pawk_split::{FieldWalk, count_fields_by, field_by, split_fields, split_fields_with};
 use pawk_value::Stop;
 use std::alloc::{AllocError, Global};
 use std::io;
 use std::ops::Range;
 
-/// The ranges of a list, each behind a space.
-fn ranges_text(alloc: Global, ranges: &[Range<usize>]) -> Result<String, AllocError> {
-    let mut text = String::new(alloc);
-    for range in ranges {
-        let start = range.start;
-        let end = range.end;
-        text.push_str(format!(in alloc; " {start}..{end}")?.as_str())?;
-    }
-    Ok(text)
+/// What a row asks: FS, the record, and whether it is in paragraph mode.
+#[derive(Clone, Copy)]
+struct Question<'q> {
+    fs: &'q [u8],
+    record: &'q [u8],
+    paragraph: bool,
 }
 
-/// The ranges that a walk hands out, each behind a space.
-fn walked_text(
+/// Adds the ranges of a list, each behind a space.
+fn push_ranges(ranges: &[Range<usize>], out: &mut Vec<u8>) -> Result<(), AllocError> {
+    for range in ranges {
+        out.extend_from_slice(b" ")?;
+        push_decimal(range.start as u64, out)?;
+        out.extend_from_slice(b"..")?;
+        push_decimal(range.end as u64, out)?;
+    }
+    Ok(())
+}
+
+/// The ranges that a walk hands out.
+fn walked_ranges(
     alloc: Global,
     cache: &mut Cache,
-    fs: &[u8],
-    paragraph: bool,
-    text: &[u8],
-) -> Result<String, Stop> {
-    let mut walk = FieldWalk::by(text, fs, paragraph)?;
+    question: Question<'_>,
+) -> Result<Vec<Range<usize>>, Stop> {
+    let mut walk = FieldWalk::by(question.record, question.fs, question.paragraph)?;
     let mut ranges = Vec::new(alloc);
     while let Some(range) = walk.next_range(cache)? {
         ranges.push(range)?;
     }
-    Ok(ranges_text(alloc, ranges.as_slice())?)
+    Ok(ranges)
 }
 
-/// The ranges of the fields from the first one on until there is none, each asked for by itself, behind a space. A text has
-/// no more fields than bytes, and one.
-fn singles_text(
+/// The range of the field of this number, counted from 1, if there is one.
+fn single_range(
+    cache: &mut Cache,
+    question: Question<'_>,
+    number: usize,
+) -> Result<Option<Range<usize>>, Stop>
+    requires { 1 ≤ number }
+{
+    let Question {
+        fs,
+        record,
+        paragraph,
+    } = question;
+    field_by(cache, record, fs, paragraph, number)
+}
+
+/// The ranges of the fields from the first one on until there is none, each asked for by itself. A text has no more fields
+/// than bytes, and one.
+fn single_ranges(
     alloc: Global,
     cache: &mut Cache,
-    fs: &[u8],
-    paragraph: bool,
-    text: &[u8],
-) -> Result<String, Stop> {
+    question: Question<'_>,
+) -> Result<Vec<Range<usize>>, Stop> {
     let mut ranges = Vec::new(alloc);
-    for k in 1..=text.len() {
-        match field_by(cache, text, fs, paragraph, k)? {
+    for number in 1..=question.record.len() {
+        match single_range(cache, question, number)? {
             Some(range) => ranges.push(range)?,
             None => break,
         }
     }
-    if let Some(range) = field_by(cache, text, fs, paragraph, ranges.len() + 1)? {
+    if let Some(range) = single_range(cache, question, ranges.len() + 1)? {
         ranges.push(range)?;
     }
-    Ok(ranges_text(alloc, ranges.as_slice())?)
+    Ok(ranges)
 }
 
-/// The answer to a row, or why there is none.
-fn answer(alloc: Global, cache: &mut Cache, row: &[u8]) -> Result<String, Stop> {
+/// Whether these are the ranges that each other call finds.
+fn all_find(
+    alloc: Global,
+    cache: &mut Cache,
+    question: Question<'_>,
+    ranges: &[Range<usize>],
+) -> Result<bool, Stop> {
+    let again = split_fields(alloc, question.record, question.fs, question.paragraph)?;
+    if again.as_slice() != ranges {
+        return Ok(false);
+    }
+    let walked = walked_ranges(alloc, cache, question)?;
+    if walked.as_slice() != ranges {
+        return Ok(false);
+    }
+    let singles = single_ranges(alloc, cache, question)?;
+    Ok(singles.as_slice() == ranges)
+}
+
+/// Adds how many fields there are, and their ranges.
+fn push_fields(
+    alloc: Global,
+    cache: &mut Cache,
+    question: Question<'_>,
+    out: &mut Vec<u8>,
+) -> Result<(), Stop> {
+    let Question {
+        fs,
+        record,
+        paragraph,
+    } = question;
+    let count = count_fields_by(cache, record, fs, paragraph)?;
+    let ranges = split_fields_with(alloc, cache, record, fs, paragraph)?;
+    if !all_find(alloc, cache, question, ranges.as_slice())? {
+        return Ok(out.extend_from_slice(b"differ")?);
+    }
+    push_decimal(count as u64, out)?;
+    Ok(push_ranges(ranges.as_slice(), out)?)
+}
+
+/// Adds what a row asks for, or why it is not there.
+fn push_answer(
+    alloc: Global,
+    cache: &mut Cache,
+    question: Question<'_>,
+    out: &mut Vec<u8>,
+) -> Result<(), AllocError> {
+    match push_fields(alloc, cache, question, out) {
+        Ok(()) => Ok(()),
+        Err(Stop::Fault(fault)) => {
+            out.extend_from_slice(b"fault ")?;
+            out.extend_from_slice(fault.name().as_bytes())
+        }
+        Err(Stop::Memory) => {
+            out.clear();
+            out.extend_from_slice(b"refused: memory")
+        }
+    }
+}
+
+/// The answer to a row.
+fn answer(alloc: Global, cache: &mut Cache, row: &[u8]) -> Result<Vec<u8>, AllocError> {
     let fs = decode(alloc, cell(row, 0))?;
     let record = decode(alloc, cell(row, 1))?;
-    let paragraph = cell(row, 2) == b"1".as_slice();
-    let count = count_fields_by(cache, record.as_slice(), fs.as_slice(), paragraph)?;
-    let ranges = split_fields_with(alloc, cache, record.as_slice(), fs.as_slice(), paragraph)?;
-    let again = split_fields(alloc, record.as_slice(), fs.as_slice(), paragraph)?;
-    let text = ranges_text(alloc, ranges.as_slice())?;
-    let walked = walked_text(alloc, cache, fs.as_slice(), paragraph, record.as_slice())?;
-    let singles = singles_text(alloc, cache, fs.as_slice(), paragraph, record.as_slice())?;
-    if text.as_str() != ranges_text(alloc, again.as_slice())?.as_str()
-        || text.as_str() != walked.as_str()
-        || text.as_str() != singles.as_str()
-    {
-        return Ok(String::from_str(alloc, "differ")?);
-    }
-    Ok(format!(in alloc; "{count}{text}")?)
-}
-
-/// Answers a line.
-fn answer_line(rt: &HostRuntime, cache: &mut Cache, line: io::Result<String>) -> io::Result<()> {
-    match answer(rt.alloc(), cache, line?.as_str().as_bytes()) {
-        Ok(line) => println!(rt; "{line}"),
-        Err(Stop::Fault(fault)) => {
-            let name = fault.name();
-            println!(rt; "fault {name}")
-        }
-        Err(Stop::Memory) => println!(rt; "refused: memory"),
-    }
+    let question = Question {
+        fs: fs.as_slice(),
+        record: record.as_slice(),
+        paragraph: cell(row, 2) == b"1".as_slice(),
+    };
+    let mut out = Vec::new(alloc);
+    push_answer(alloc, cache, question, &mut out)?;
+    Ok(out)
 }
 
 fn main(rt: HostRuntime) -> io::Result<()> {
     let mut cache = Cache::with(rt.alloc(), 1)?;
-    for line in rt.lines(rt.alloc()) {
-        answer_line(&rt, &mut cache, line)?;
-    }
-    Ok(())
+    answer_lines(&rt, |alloc, row| answer(alloc, &mut cache, row))
 }

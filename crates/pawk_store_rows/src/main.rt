@@ -36,6 +36,7 @@ mod values;
 
 use calls::Calls;
 use openings::{assignments, names};
+use pawk_rows::answer_lines;
 use pawk_settings::Assignment;
 use pawk_store::Names;
 use std::alloc::{AllocError, Global};
@@ -51,7 +52,11 @@ fn answer_calls(alloc: Global, row: &[u8], names: Names<'_>) -> Result<Vec<u8>, 
 }
 
 /// The answer to a row with these assignments.
-fn answer(alloc: Global, row: &[u8], assignments: &[Assignment]) -> Result<Vec<u8>, AllocError> {
+fn answer_with(
+    alloc: Global,
+    row: &[u8],
+    assignments: &[Assignment],
+) -> Result<Vec<u8>, AllocError> {
     let scalars = names(alloc, b"FS OFS ORS RS SUBSEP CONVFMT OFMT n s")?;
     let arrays = names(alloc, b"a b")?;
     let names = Names {
@@ -62,15 +67,12 @@ fn answer(alloc: Global, row: &[u8], assignments: &[Assignment]) -> Result<Vec<u
     answer_calls(alloc, row, names)
 }
 
+/// The answer to a row.
+fn answer(alloc: Global, row: &[u8]) -> Result<Vec<u8>, AllocError> {
+    let assignments = assignments(alloc, row)?;
+    answer_with(alloc, row, assignments.as_slice())
+}
+
 fn main(rt: HostRuntime) -> io::Result<()> {
-    for line in rt.lines(rt.alloc()) {
-        let row = line?;
-        let assignments = assignments(rt.alloc(), row.as_str().as_bytes())?;
-        let answer = answer(rt.alloc(), row.as_str().as_bytes(), assignments.as_slice())?;
-        println!(rt;
-            "{}",
-            str::from_utf8(answer.as_slice()).unwrap_or("not a text")
-        )?;
-    }
-    Ok(())
+    answer_lines(&rt, answer)
 }

@@ -10,7 +10,7 @@
 //! its place.
 #![tactic(auto)]
 
-use pawk_rows::{cell, decode, number, push_encoded};
+use pawk_rows::{answer_lines, cell, decode, number, push_decimal, push_encoded};
 use pawk_syntax::{SyntaxRefusal, parse, show};
 use std::alloc::{AllocError, Global};
 use std::io;
@@ -57,38 +57,37 @@ fn is_canonical(alloc: Global, text: &[u8]) -> Result<bool, SyntaxRefusal> {
 }
 
 /// A canonical text as it is shown.
-fn shown(alloc: Global, asked: &[u8], text: &[u8]) -> Result<String, SyntaxRefusal> {
+fn shown(alloc: Global, asked: &[u8], text: &[u8]) -> Result<Vec<u8>, SyntaxRefusal> {
+    let mut out = Vec::new(alloc);
     if asked == b"size".as_slice() {
-        let size = text.len();
-        return Ok(format!(in alloc; "{size}")?);
+        push_decimal(text.len() as u64, &mut out)?;
+        return Ok(out);
     }
-    let mut bytes = Vec::new(alloc);
-    push_encoded(text, &mut bytes)?;
+    push_encoded(text, &mut out)?;
     if !is_canonical(alloc, text)? {
-        bytes.extend_from_slice(b" again")?;
+        out.extend_from_slice(b" again")?;
     }
-    Ok(String::from_str(alloc, str::from_utf8(bytes.as_slice()).unwrap_or(""))?)
+    Ok(out)
 }
 
 /// The canonical text of a row, as it is shown.
-fn canonical_of(alloc: Global, row: &[u8]) -> Result<String, SyntaxRefusal> {
+fn canonical_of(alloc: Global, row: &[u8]) -> Result<Vec<u8>, SyntaxRefusal> {
     let text = text(alloc, row)?;
     let canonical = canonical(alloc, text.as_slice())?;
     shown(alloc, cell(row, 0), canonical.as_slice())
 }
 
 /// The answer to a row.
-fn answer(alloc: Global, row: &[u8]) -> Result<String, AllocError> {
+fn answer(alloc: Global, row: &[u8]) -> Result<Vec<u8>, AllocError> {
     match canonical_of(alloc, row) {
         Ok(line) => Ok(line),
-        Err(refusal) => format!(in alloc; "{refusal}"),
+        Err(refusal) => {
+            let text = format!(in alloc; "{refusal}")?;
+            Vec::from_slice(alloc, text.as_str().as_bytes())
+        }
     }
 }
 
 fn main(rt: HostRuntime) -> io::Result<()> {
-    for row in rt.lines(rt.alloc()) {
-        let line = answer(rt.alloc(), row?.as_str().as_bytes())?;
-        println!(rt; "{line}")?;
-    }
-    Ok(())
+    answer_lines(&rt, answer)
 }

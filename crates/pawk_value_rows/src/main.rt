@@ -24,7 +24,7 @@ mod formats;
 use answers::push_answer;
 use cells::value_of;
 use formats::{formatted_answer, length_answer, lent_answer, text_answer};
-use pawk_rows::cell;
+use pawk_rows::{answer_lines, cell};
 use std::alloc::{AllocError, Global};
 use std::io;
 
@@ -49,13 +49,5 @@ fn answer(alloc: Global, row: &[u8]) -> Result<Vec<u8>, AllocError> {
 }
 
 fn main(rt: HostRuntime) -> io::Result<()> {
-    for line in rt.lines(rt.alloc()) {
-        let row = line?;
-        let answer = answer(rt.alloc(), row.as_str().as_bytes())?;
-        println!(rt;
-            "{}",
-            str::from_utf8(answer.as_slice()).unwrap_or("not a text")
-        )?;
-    }
-    Ok(())
+    answer_lines(&rt, answer)
 }
