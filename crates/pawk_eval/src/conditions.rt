@@ -74,25 +74,6 @@ pub(crate) fn test<W: World>(
     }
 }
 
-/// Whether a test holds, in a frame of its own.
-#[cycle(evaluate)]
-#[inline(never)]
-pub(crate) fn test_apart<W: World>(
-    context: Context<'_>,
-    depth: u64,
-    t: &Test,
-    world: &mut W,
-    run: &mut Run<'_>,
-) -> Result<bool, Halt>
-    ensures left { run.new.left ≤ run.old.left }
-    ensures outcome { Yields (λ holds. holds)
-        (truth_of W.calls (eres_of context.entry) (enter_of W.calls context.entry depth)
-        (test_view t.now)
-        (moment (W.state world.old) run.old)) result (moment (W.state world.new) run.new) }
-{
-    test(context, depth, t, world, run)
-}
-
 /// How two expressions compare. Nothing of leaves and numbers is copied.
 #[cycle(evaluate)]
 #[inline(never)]

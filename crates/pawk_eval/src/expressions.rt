@@ -13,10 +13,10 @@ ghost use Rattle.pawk_places.specs.Moments.{moment};
 ghost use Rattle.pawk_places.specs.Yields.{Yields};
 ghost use Rattle.pawk_eval.specs.Contexts.{enter_of, eres_of};
 
-use crate::conditions::{test, test_apart};
+use crate::conditions::test;
 use crate::context::Context;
 use crate::functions::{call, pass};
-use crate::numbers::{numeric, numeric_apart};
+use crate::numbers::numeric;
 use crate::places::place;
 use crate::strings::textual;
 use pawk_code::expression::{Argument, Expr, Place};
@@ -53,8 +53,8 @@ pub(crate) fn eval<W: World>(
 {
     match e {
         Expr::Leaf(leaf) => leaf_value(leaf, out, world, run),
-        Expr::Numeric(n) => Ok(Held::Num(numeric_apart(context, depth, n, world, run)?)),
-        Expr::Test(t) => Ok(Held::Num(if test_apart(context, depth, t, world, run)? {
+        Expr::Numeric(n) => Ok(Held::Num(numeric(context, depth, n, world, run)?)),
+        Expr::Test(t) => Ok(Held::Num(if test(context, depth, t, world, run)? {
             1
         } else {
             0
@@ -251,31 +251,13 @@ pub(crate) fn number<W: World>(
         Expr::Numeric(n) => Ok(Ok(numeric(context, depth, n, world, run)?)),
         Expr::Read(from) => number_at(context, depth, from, world, run),
         Expr::Call(f, arguments) => number_of_call(context, depth, *f, arguments, world, run),
-        e => number_of_value(context, depth, e, world, run),
+        e => {
+            let (held, bytes) = eval_apart(context, depth, e, world, run)?;
+            let number = to_num_lent(lend_held(held, &bytes));
+            give_back(&mut run.spare, bytes);
+            Ok(number)
+        }
     }
-}
-
-/// The number of the value of an expression, which is laid down, or the fault of its conversion.
-#[cycle(evaluate)]
-#[inline(never)]
-pub(crate) fn number_of_value<W: World>(
-    context: Context<'_>,
-    depth: u64,
-    e: &Expr,
-    world: &mut W,
-    run: &mut Run<'_>,
-) -> Result<Result<i64, Fault>, Halt>
-    ensures left { run.new.left ≤ run.old.left }
-    ensures outcome { Yields (λ number. number)
-        (as_number (eval W.calls (eres_of context.entry) (enter_of W.calls context.entry depth)
-        (view e.now))
-        (moment (W.state world.old) run.old)) result (moment (W.state world.new) run.new) }
-{
-    let mut bytes = take_buffer(run.alloc, &mut run.spare);
-    let held = eval(context, depth, e, &mut bytes, world, run)?;
-    let number = to_num_lent(lend_held(held, &bytes));
-    give_back(&mut run.spare, bytes);
-    Ok(number)
 }
 
 /// The number of the value of a place, or the fault of its conversion.
@@ -334,31 +316,13 @@ pub fn truth<W: World>(
             let number = numeric(context, depth, n, world, run)?;
             Ok(truth_lent(ValueRef::Num(number)))
         }
-        e => truth_of_value(context, depth, e, world, run),
+        e => {
+            let (held, bytes) = eval_apart(context, depth, e, world, run)?;
+            let truth = truth_lent(lend_held(held, &bytes));
+            give_back(&mut run.spare, bytes);
+            Ok(truth)
+        }
     }
-}
-
-/// The truth of the value of an expression, which is laid down, or the fault of its conversion.
-#[cycle(evaluate)]
-#[inline(never)]
-pub(crate) fn truth_of_value<W: World>(
-    context: Context<'_>,
-    depth: u64,
-    e: &Expr,
-    world: &mut W,
-    run: &mut Run<'_>,
-) -> Result<Result<bool, Fault>, Halt>
-    ensures left { run.new.left ≤ run.old.left }
-    ensures outcome { Yields (λ truth. truth)
-        (as_truth (eval W.calls (eres_of context.entry) (enter_of W.calls context.entry depth)
-        (view e.now))
-        (moment (W.state world.old) run.old)) result (moment (W.state world.new) run.new) }
-{
-    let mut bytes = take_buffer(run.alloc, &mut run.spare);
-    let held = eval(context, depth, e, &mut bytes, world, run)?;
-    let truth = truth_lent(lend_held(held, &bytes));
-    give_back(&mut run.spare, bytes);
-    Ok(truth)
 }
 
 /// Appends the text of an expression.
@@ -383,33 +347,13 @@ pub(crate) fn text_into<W: World>(
         Expr::Textual(t) => textual(context, depth, t, out, world, run),
         Expr::Read(from) => text_at(context, depth, from, out, world, run),
         Expr::Call(f, arguments) => text_of_call(context, depth, *f, arguments, out, world, run),
-        e => text_of_value(context, depth, e, out, world, run),
+        e => {
+            let (held, bytes) = eval_apart(context, depth, e, world, run)?;
+            push_text_lent(lend_held(held, &bytes), out)?;
+            give_back(&mut run.spare, bytes);
+            Ok(())
+        }
     }
-}
-
-/// Appends the text of the value of an expression, which is laid down first.
-#[cycle(evaluate)]
-#[inline(never)]
-pub(crate) fn text_of_value<W: World>(
-    context: Context<'_>,
-    depth: u64,
-    e: &Expr,
-    out: &mut Vec<u8>,
-    world: &mut W,
-    run: &mut Run<'_>,
-) -> Result<(), Halt>
-    ensures left { run.new.left ≤ run.old.left }
-    ensures outcome { Yields (λ _. out.new.items)
-        (as_text out.old.items
-        (eval W.calls (eres_of context.entry) (enter_of W.calls context.entry depth)
-        (view e.now))
-        (moment (W.state world.old) run.old)) result (moment (W.state world.new) run.new) }
-{
-    let mut bytes = take_buffer(run.alloc, &mut run.spare);
-    let held = eval(context, depth, e, &mut bytes, world, run)?;
-    push_text_lent(lend_held(held, &bytes), out)?;
-    give_back(&mut run.spare, bytes);
-    Ok(())
 }
 
 /// Appends the text of the value of a place.
@@ -493,26 +437,29 @@ pub(crate) fn value<W: World>(
             }
         }
         Expr::Call(f, arguments) => invoke(context, depth, *f, arguments, world, run),
-        e => value_apart(context, depth, e, world, run),
+        e => {
+            let (held, bytes) = eval_apart(context, depth, e, world, run)?;
+            Ok(value_with(&mut run.spare, held, bytes))
+        }
     }
 }
 
-/// The value of an expression, which is laid down first.
+/// Lays down the value of an expression in a buffer of its own.
 #[cycle(evaluate)]
 #[inline(never)]
-pub(crate) fn value_apart<W: World>(
+pub(crate) fn eval_apart<W: World>(
     context: Context<'_>,
     depth: u64,
     e: &Expr,
     world: &mut W,
     run: &mut Run<'_>,
-) -> Result<Value, Halt>
+) -> Result<(Held, Vec<u8>), Halt>
     ensures left { run.new.left ≤ run.old.left }
-    ensures outcome { Yields shown
+    ensures outcome { Yields (λ r. held_value r.0 r.1.items)
         (eval W.calls (eres_of context.entry) (enter_of W.calls context.entry depth) (view e.now)
         (moment (W.state world.old) run.old)) result (moment (W.state world.new) run.new) }
 {
     let mut bytes = take_buffer(run.alloc, &mut run.spare);
     let held = eval(context, depth, e, &mut bytes, world, run)?;
-    Ok(value_with(&mut run.spare, held, bytes))
+    Ok((held, bytes))
 }

@@ -78,25 +78,6 @@ pub(crate) fn numeric<W: World>(
     }
 }
 
-/// What gives a number, in a frame of its own.
-#[cycle(evaluate)]
-#[inline(never)]
-pub(crate) fn numeric_apart<W: World>(
-    context: Context<'_>,
-    depth: u64,
-    n: &Numeric,
-    world: &mut W,
-    run: &mut Run<'_>,
-) -> Result<i64, Halt>
-    ensures left { run.new.left ≤ run.old.left }
-    ensures outcome { Yields (λ number. number)
-        (number_of W.calls (eres_of context.entry) (enter_of W.calls context.entry depth)
-        (numeric_view n.now)
-        (moment (W.state world.old) run.old)) result (moment (W.state world.new) run.new) }
-{
-    numeric(context, depth, n, world, run)
-}
-
 /// The result of an operation. The number of a leaf is not laid down.
 #[cycle(evaluate)]
 #[inline(never)]

@@ -108,7 +108,7 @@ pub(crate) fn statement<W: World>(
             Ok(Flow::On)
         }
         Statement::Leave(leave) => go_out(context, depth, leave, world, run),
-        Statement::If(test, body) => guard(context, depth, test, body, world, run),
+        Statement::If(test, body) => choose(context, depth, test, body, &[], world, run),
         Statement::Choose(test, a, b) => choose(context, depth, test, a, b, world, run),
         Statement::While(test, body) => turns(context, depth, Some(test), None, body, world, run),
         Statement::Do(body, test) => turns_after(context, depth, body, test, world, run),
@@ -524,32 +524,6 @@ pub(crate) fn go_out<W: World>(
         }
         Leave::Return(None) => Ok(Flow::Return(Value::Uninit)),
         Leave::Return(Some(e)) => Ok(Flow::Return(value(context, depth, e, world, run)?)),
-    }
-}
-
-/// Runs statements where a test holds.
-#[cycle(evaluate)]
-#[inline(never)]
-pub(crate) fn guard<W: World>(
-    context: Context<'_>,
-    depth: u64,
-    test: &Expr,
-    body: &[Statement],
-    world: &mut W,
-    run: &mut Run<'_>,
-) -> Result<Flow, Halt>
-    ensures left { run.new.left ≤ run.old.left }
-    ensures outcome { Yields way_of
-        (exec W.calls (eres_of context.entry) (enter_of W.calls context.entry depth)
-        (actions.when (view test.now) (seen body.now))
-        (moment (W.state world.old) run.old)) result (moment (W.state world.new) run.new) }
-{
-    let truth = truth(context, depth, test, world, run)?;
-    let holds = truth?;
-    if holds {
-        execute(context, depth, body, world, run)
-    } else {
-        Ok(Flow::On)
     }
 }
 

@@ -165,12 +165,12 @@ strings::textual-returns-in_ok-extend_from_slice-in-Format-clause-outcome g t c 
 pub statements::statement-returns-in-If-clause-outcome : goal.statements::statement-returns-in-If-clause-outcome
 statements::statement-returns-in-If-clause-outcome g t c =
     let is = if_shape c.args.s.now c.in-If.test c.in-If.body c.deref.result.now c.in-If.is c.deref.ensures.value in
-    rw is c.guard.ensures.outcome
+    rw is c.choose.ensures.outcome
 
 pub statements::statement-returns-in-Choose-clause-outcome : goal.statements::statement-returns-in-Choose-clause-outcome
 statements::statement-returns-in-Choose-clause-outcome g t c =
     let is = choose_shape c.args.s.now c.in-Choose.test c.in-Choose.a c.in-Choose.b c.deref-in-Choose.result.now c.deref-in-Choose-2.result.now c.in-Choose.is c.deref-in-Choose.ensures.value c.deref-in-Choose-2.ensures.value in
-    rw is c.choose.ensures.outcome
+    rw is c.choose-in-Choose.ensures.outcome
 
 pub statements::statement-returns-in-Do-clause-outcome : goal.statements::statement-returns-in-Do-clause-outcome
 statements::statement-returns-in-Do-clause-outcome g t c =
@@ -315,10 +315,6 @@ functions::call-returns-in_ok-flow-in-Some-clause-outcome g t c =
     rw (runs, c.in_ok-flow-in-Some.ensures.outcome) (grind (arith, common_steps))
 
 -- ---- choices
-
-pub statements::guard-returns-then-holds-clause-outcome : goal.statements::guard-returns-then-holds-clause-outcome
-statements::guard-returns-then-holds-clause-outcome g t c =
-    rw (c.in_ok-truth.ensures.outcome, c.in_ok-holds.was, c.if-holds.true) c.execute.ensures.outcome
 
 pub statements::choose-returns-then-holds-clause-outcome : goal.statements::choose-returns-then-holds-clause-outcome
 statements::choose-returns-then-holds-clause-outcome g t c =

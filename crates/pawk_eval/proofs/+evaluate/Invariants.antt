@@ -34,23 +34,14 @@ decreases-expressions::assign g l = rank (functions_of l.context) l.depth (place
 abbrev pub decreases-expressions::number : goal.decreases-expressions::number
 decreases-expressions::number g l = rank (functions_of l.context) l.depth (weight (view l.e.now) + 2)
 
-abbrev pub decreases-expressions::number_of_value : goal.decreases-expressions::number_of_value
-decreases-expressions::number_of_value g l = rank (functions_of l.context) l.depth (weight (view l.e.now) + 1)
-
 abbrev pub decreases-expressions::number_at : goal.decreases-expressions::number_at
 decreases-expressions::number_at g l = rank (functions_of l.context) l.depth (place_weight (place_view l.from.now) + 1)
 
 abbrev pub decreases-expressions::truth : goal.decreases-expressions::truth
 decreases-expressions::truth g l = rank (functions_of l.context) l.depth (weight (view l.e.now) + 2)
 
-abbrev pub decreases-expressions::truth_of_value : goal.decreases-expressions::truth_of_value
-decreases-expressions::truth_of_value g l = rank (functions_of l.context) l.depth (weight (view l.e.now) + 1)
-
 abbrev pub decreases-expressions::text_into : goal.decreases-expressions::text_into
 decreases-expressions::text_into g l = rank (functions_of l.context) l.depth (weight (view l.e.now) + 2)
-
-abbrev pub decreases-expressions::text_of_value : goal.decreases-expressions::text_of_value
-decreases-expressions::text_of_value g l = rank (functions_of l.context) l.depth (weight (view l.e.now) + 1)
 
 abbrev pub decreases-expressions::text_at : goal.decreases-expressions::text_at
 decreases-expressions::text_at g l = rank (functions_of l.context) l.depth (place_weight (place_view l.from.now) + 1)
@@ -61,14 +52,11 @@ decreases-expressions::text g l = rank (functions_of l.context) l.depth (weight 
 abbrev pub decreases-expressions::value : goal.decreases-expressions::value
 decreases-expressions::value g l = rank (functions_of l.context) l.depth (weight (view l.e.now) + 2)
 
-abbrev pub decreases-expressions::value_apart : goal.decreases-expressions::value_apart
-decreases-expressions::value_apart g l = rank (functions_of l.context) l.depth (weight (view l.e.now) + 1)
+abbrev pub decreases-expressions::eval_apart : goal.decreases-expressions::eval_apart
+decreases-expressions::eval_apart g l = rank (functions_of l.context) l.depth (weight (view l.e.now) + 1)
 
 abbrev pub decreases-numbers::numeric : goal.decreases-numbers::numeric
 decreases-numbers::numeric g l = rank (functions_of l.context) l.depth (numeric_weight (numeric_view l.n.now))
-
-abbrev pub decreases-numbers::numeric_apart : goal.decreases-numbers::numeric_apart
-decreases-numbers::numeric_apart g l = rank (functions_of l.context) l.depth (numeric_weight (numeric_view l.n.now) + 1)
 
 abbrev pub decreases-numbers::arithmetic : goal.decreases-numbers::arithmetic
 decreases-numbers::arithmetic g l = rank (functions_of l.context) l.depth (weight (view l.a.now) + weight (view l.b.now) + 4)
@@ -87,9 +75,6 @@ decreases-numbers::place_of g l = rank (functions_of l.context) l.depth (weight 
 
 abbrev pub decreases-conditions::test : goal.decreases-conditions::test
 decreases-conditions::test g l = rank (functions_of l.context) l.depth (test_weight (test_view l.t.now))
-
-abbrev pub decreases-conditions::test_apart : goal.decreases-conditions::test_apart
-decreases-conditions::test_apart g l = rank (functions_of l.context) l.depth (test_weight (test_view l.t.now) + 1)
 
 abbrev pub decreases-conditions::member : goal.decreases-conditions::member
 decreases-conditions::member g l = rank (functions_of l.context) l.depth (row_weight (exprs (views l.keys.now)) + 2)
@@ -225,9 +210,6 @@ decreases-loops::walk g l = rank (functions_of l.context) l.depth (body_weight (
 
 abbrev pub decreases-loops::visit : goal.decreases-loops::visit
 decreases-loops::visit g l = rank (functions_of l.context) l.depth (body_weight (seen l.body.now) + 1)
-
-abbrev pub decreases-statements::guard : goal.decreases-statements::guard
-decreases-statements::guard g l = rank (functions_of l.context) l.depth (weight (view l.test.now) + body_weight (seen l.body.now) + 3)
 
 -- the text so far and the operands that are left give the whole
 abbrev pub invariant-strings::suffixes-loop-e : goal.invariant-strings::suffixes-loop-e
