@@ -15,7 +15,7 @@ struct Merge {
 
 /// A program, its lines, each of which is a chunk, and the fault in which the run ends at the second record.
 #[derive(Clone, Copy)]
-struct Halt {
+struct MergeFault {
     text: &'static [u8],
     lines: &'static [u8],
     fault: Fault,
@@ -42,23 +42,23 @@ const MERGED: [Merge; 3] = [
 
 /// The merge of these stops: a sum leaves the range, a text has no number, a chunk ends in a fault, and a sum leaves the
 /// range before its chunk ends in a fault.
-const STOPPED: [Halt; 4] = [
-    Halt {
+const STOPPED: [MergeFault; 4] = [
+    MergeFault {
         text: b"{ n += $1 } END { print n }",
         lines: b"9223372036854775807\n5\n",
         fault: Fault::Overflow,
     },
-    Halt {
+    MergeFault {
         text: b"BEGIN { n = \"12.5\" } NR > 1 { n += $1 } END { print n }",
         lines: b"1\n2\n",
         fault: Fault::Numeral,
     },
-    Halt {
+    MergeFault {
         text: b"BEGIN { n = 1 } { n += $1; m = 1 / $2 } END { print n, m }",
         lines: b"1 1\n2 0\n",
         fault: Fault::Zero,
     },
-    Halt {
+    MergeFault {
         text: b"BEGIN { n = 9223372036854775806 } { n += $1; m = 1 / $2 } END { print n, m }",
         lines: b"1 1\n2 0\n",
         fault: Fault::Overflow,
