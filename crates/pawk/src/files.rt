@@ -67,7 +67,7 @@ where
     }
     let file = File::open(rt, name)?;
     match read_stripes(rt, alloc, &file, size, count) {
-        Ok(vectors) => Ok(Blocks::of(alloc, vectors)?),
+        Ok(blocks) => Ok(blocks),
         Err(kind) => Err(io::Error::from(kind)),
     }
 }

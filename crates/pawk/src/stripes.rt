@@ -1,5 +1,6 @@
 //! Files that several threads read.
 
+use pawk_input::{Block, Blocks};
 use std::alloc::{AllocError, Global};
 use std::io::ErrorKind;
 use std::os::unix::fs::FileExt;
@@ -36,79 +37,80 @@ fn stripe_at(i: usize, count: usize, each: usize) -> Stripe {
     }
 }
 
-/// Room for a stripe of about this size, and for a part of it.
-fn rooms(alloc: Global, size: usize) -> Result<(Vec<u8>, Vec<u8>), AllocError> {
-    let bytes = Vec::with_capacity(alloc, size)?;
+/// A block with room for a stripe of about this size, and room for a part of it.
+fn rooms(alloc: Global, size: usize) -> Result<(Block, Vec<u8>), AllocError> {
+    let block = Block::with_capacity(alloc, size)?;
     let mut part = Vec::new(alloc);
     part.resize(PART, 0)?;
-    Ok((bytes, part))
+    Ok((block, part))
 }
 
 /// Appends a part that was read.
-fn keep(bytes: &mut Vec<u8>, part: &[u8]) -> Result<(), ErrorKind> {
-    match bytes.extend_from_slice(part) {
+fn keep(block: &mut Block, part: &[u8]) -> Result<(), ErrorKind> {
+    match block.extend(part) {
         Ok(()) => Ok(()),
         Err(_) => Err(ErrorKind::OutOfMemory),
     }
 }
 
-/// Reads a stripe of a file, or what there is of it.
+/// Reads a stripe of a file, or what there is of it; the newlines of each part are counted when it comes.
 fn read_stripe<F: FileExt>(
     alloc: Global,
     file: &F,
     stripe: Stripe,
     room: usize,
-) -> Result<Vec<u8>, ErrorKind> {
-    let (mut bytes, mut part) = match rooms(alloc, room) {
+) -> Result<Block, ErrorKind> {
+    let (mut block, mut part) = match rooms(alloc, room) {
         Ok(rooms) => rooms,
         Err(AllocError) => return Err(ErrorKind::OutOfMemory),
     };
     for _ in 0..u64::MAX {
-        let wanted = part.len().min(stripe.size.saturating_sub(bytes.len()));
-        let place = stripe.start.saturating_add(bytes.len()) as u64;
+        let size = block.bytes().len();
+        let wanted = part.len().min(stripe.size.saturating_sub(size));
+        let place = stripe.start.saturating_add(size) as u64;
         match file.read_at(&mut part[..wanted], place) {
-            Ok(0) => return Ok(bytes),
-            Ok(count) => keep(&mut bytes, &part[..count])?,
+            Ok(0) => return Ok(block),
+            Ok(count) => keep(&mut block, &part[..count])?,
             Err(error) if error.kind() == ErrorKind::Interrupted => {}
             Err(error) => return Err(error.kind()),
         }
     }
-    Ok(bytes)
+    Ok(block)
 }
 
-/// The bytes of stripes of this size, up to the first that the file does not fill.
+/// The blocks of stripes of this size, up to the first that the file does not fill.
 fn joined(
     alloc: Global,
-    stripes: Vec<Result<Vec<u8>, ErrorKind>>,
+    stripes: Vec<Result<Block, ErrorKind>>,
     each: usize,
-) -> Result<Vec<Vec<u8>>, ErrorKind> {
-    let mut vectors = match Vec::with_capacity(alloc, stripes.len()) {
-        Ok(vectors) => vectors,
+) -> Result<Blocks, ErrorKind> {
+    let mut blocks = match Vec::with_capacity(alloc, stripes.len()) {
+        Ok(blocks) => blocks,
         Err(_) => return Err(ErrorKind::OutOfMemory),
     };
     for stripe in stripes {
-        let bytes = stripe?;
-        let is_last = bytes.len() < each;
-        if vectors.push(bytes).is_err() {
+        let block = stripe?;
+        let is_last = block.bytes().len() < each;
+        if blocks.push(block).is_err() {
             return Err(ErrorKind::OutOfMemory);
         }
         if is_last {
             break;
         }
     }
-    Ok(vectors)
+    Ok(Blocks::of(blocks))
 }
 
-/// Reads a file of about this size by so many threads, and gives its bytes in order.
+/// Reads a file of about this size by so many threads, a block each.
 pub(crate) fn read_stripes<R: Threads + Sync, F: FileExt + Sync>(
     rt: &R,
     alloc: Global,
     file: &F,
     size: usize,
     count: usize,
-) -> Result<Vec<Vec<u8>>, ErrorKind> {
+) -> Result<Blocks, ErrorKind> {
     let each = size.div_ceil(count.max(1));
-    let read = |i: usize| -> Result<Vec<u8>, ErrorKind> {
+    let read = |i: usize| -> Result<Block, ErrorKind> {
         read_stripe(alloc, file, stripe_at(i, count, each), each)
     };
     match thread::map_indices(rt, alloc, count, &read) {

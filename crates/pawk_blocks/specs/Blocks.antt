@@ -1,17 +1,12 @@
 -- A file in blocks: its bytes are those of the blocks in order.
 use Rattle.std.specs.Prelude.{◌≡◌, ℕ, ◌+◌, ◌-◌, ◌<◌, List, [], ◌∷◌, ◌++◌, length, take, drop, map}
-use Rattle.std.specs.Prelude.{slice_index, Vec}
-use Rattle.std.specs.declared.alloc.Global.{Global}
+use Rattle.std.specs.Prelude.{slice_index}
 use Rattle.pawk_records.specs.Begins.{begins_by}
 
 -- the bytes of the file
 abbrev pub joined : List (List ℕ) → List ℕ
 joined [] = []
 joined (b ∷ bs) = b ++ joined bs
-
--- the bytes that vectors hold, each as a block
-abbrev pub blocks_of : List (Vec ℕ Global) → List (List ℕ)
-blocks_of vectors = map (λ (v : Vec ℕ Global). v.items) vectors
 
 -- a record may end where the block does: by one byte, at that byte; paragraphs are never parted
 abbrev pub EndsRecord : List ℕ → List ℕ → Type 0

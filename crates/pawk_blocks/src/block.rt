@@ -1,32 +1,34 @@
 //! One block of a file.
 
-ghost use Rattle.std.specs.Prelude.{◌≡◌, ◌<◌, ◌≤◌, ◌++◌, ◌↔◌, [], length, OnOk, OnErr, IsTrue, drop};
+ghost use Rattle.std.specs.Prelude.{◌≡◌, ◌<◌, ◌≤◌, ◌++◌, ◌↔◌, [], length, OnOk, OnErr, IfOk, IsTrue, drop};
 ghost use Rattle.pawk_records.specs.Separator.{rs_of};
 ghost use Rattle.pawk_blocks.specs.Blocks.{EndsRecord};
 ghost use Rattle.pawk_blocks.specs.Mending.{IsHead};
 
 use memchr::memchr;
-use pawk_records::Separator;
-use std::alloc::AllocError;
+use pawk_records::{Census, CountedBytes, Separator};
+use std::alloc::{AllocError, Global};
 use std::marker::Model;
 use std::mem;
 
-/// Consecutive bytes of a file: what a vector holds from a place on. The bytes before that place went
-/// to the block before it.
+/// Consecutive bytes of a file: what a vector holds from a place on, with a census of the vector's newlines. The bytes before
+/// that place went to the block before it.
 #[derive(Drop)]
 pub struct Block {
     bytes: Vec<u8>,
     from: usize,
+    census: Census,
 }
 
 impl Model for Block {
     ghost use Rattle.std.specs.Prelude.{List, ℕ, ◌≤◌, drop, vec_len};
+    ghost use Rattle.pawk_records.specs.Census.{IsCensus};
 
     ghost Value = { List ℕ };
 
     ghost view = { λ b. drop b.from b.bytes.items };
 
-    ghost invariant = { λ b. b.from ≤ vec_len b.bytes };
+    ghost invariant = { λ b. (b.from ≤ vec_len b.bytes) × IsCensus b.census b.bytes.items };
 }
 
 /// How many bytes of a text belong to a record that began before it: with the separator that ends
@@ -55,11 +57,42 @@ fn may_end(separator: Separator, text: &[u8]) -> bool
 }
 
 impl Block {
-    /// The block of these bytes. Takes no memory.
+    /// The block of these bytes, of which nothing is counted. Takes no memory.
     pub fn new(bytes: Vec<u8>) -> Self
         ensures { result ≡ bytes.items }
     {
-        Block { bytes, from: 0 }
+        let census = Census::new(*bytes.allocator());
+        Block {
+            bytes,
+            from: 0,
+            census,
+        }
+    }
+
+    /// A block without bytes, with room for so many.
+    ///
+    /// The error comes where memory was refused.
+    pub fn with_capacity(alloc: Global, size: usize) -> Result<Self, AllocError>
+        ensures { IfOk result (λ block. block ≡ []) }
+    {
+        Ok(Block::new(Vec::with_capacity(alloc, size)?))
+    }
+
+    /// Appends bytes and counts their newlines, so that the records of the block need not be counted by a second look at it.
+    ///
+    /// An error comes where memory was refused; the block may then hold the bytes or not.
+    pub fn extend(&mut self, bytes: &[u8]) -> Result<(), AllocError>
+        ensures { OnOk result (self.new ≡ self.old ++ bytes.now) }
+    {
+        self.bytes.extend_from_slice(bytes)?;
+        self.census.grow(self.bytes.as_slice())
+    }
+
+    /// Its bytes with their census.
+    pub(crate) fn counted_bytes(&self) -> CountedBytes<'_>
+        ensures { result ≡ self.now }
+    {
+        CountedBytes::new(self.bytes.as_slice(), self.from, &self.census)
     }
 
     /// Its bytes.
@@ -93,6 +126,7 @@ impl Block {
     {
         let alloc = *self.bytes.allocator();
         self.from = 0;
+        self.census = Census::new(alloc);
         self.bytes = Vec::new(alloc);
     }
 

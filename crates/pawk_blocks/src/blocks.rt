@@ -1,7 +1,7 @@
 //! A file in blocks.
 
 ghost use Rattle.std.specs.Prelude.{◌≡◌, ◌≤◌, [], ◌∷◌, length, IfOk, OnOk};
-ghost use Rattle.pawk_blocks.specs.Blocks.{AreMended, blocks_of, joined};
+ghost use Rattle.pawk_blocks.specs.Blocks.{AreMended, joined};
 
 use crate::block::Block;
 use crate::lent::LentBlocks;
@@ -34,16 +34,11 @@ impl Blocks {
         Ok(Blocks { blocks })
     }
 
-    /// A file in blocks, the bytes of these vectors in order. They are given up where memory for the
-    /// list of blocks was refused.
-    pub fn of(alloc: Global, vectors: Vec<Vec<u8>>) -> Result<Self, AllocError>
-        ensures { IfOk result (λ blocks. blocks ≡ blocks_of vectors.items) }
+    /// A file in these blocks, in order. Takes no memory.
+    pub fn of(blocks: Vec<Block>) -> Self
+        ensures { result ≡ blocks.items }
     {
-        let mut blocks = Vec::with_capacity(alloc, vectors.len())?;
-        for bytes in vectors {
-            blocks.push_reserved(Block::new(bytes));
-        }
-        Ok(Blocks { blocks })
+        Blocks { blocks }
     }
 
     /// Mends the blocks for records that end as `rs` says, one byte, or none for paragraphs: no

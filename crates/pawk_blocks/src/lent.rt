@@ -10,7 +10,7 @@ ghost use Rattle.pawk_blocks.specs.Blocks.{AreMended, joined, parts};
 
 use crate::block::Block;
 use crate::pieces::Pieces;
-use pawk_records::Separator;
+use pawk_records::{CountedBytes, Separator};
 use std::marker::Model;
 
 /// Where blocks lie.
@@ -73,22 +73,30 @@ impl<'a> LentBlocks<'a> {
         LentBlocks { place: self.place }
     }
 
+    /// Hands out the first block with its census, if there is one; else there is none later either.
+    fn next_counted_bytes(&mut self) -> Option<CountedBytes<'a>>
+        ensures { MatchOption result ((self.old ≡ []) × (self.new ≡ []))
+            (λ block. self.old ≡ block ∷ self.new) }
+    {
+        match self.place {
+            Place::Vector(bytes) => {
+                self.place = Place::List(&[]);
+                Some(CountedBytes::plain(bytes))
+            }
+            Place::List(blocks) => {
+                let (block, later) = blocks.split_first()?;
+                self.place = Place::List(later);
+                Some(block.counted_bytes())
+            }
+        }
+    }
+
     /// Hands out the first block, if there is one; else there is none later either.
     pub(crate) fn next_block(&mut self) -> Option<&'a [u8]>
         ensures { MatchOption result ((self.old ≡ []) × (self.new ≡ []))
             (λ block. self.old ≡ block.now ∷ self.new) }
     {
-        match self.place {
-            Place::Vector(bytes) => {
-                self.place = Place::List(&[]);
-                Some(bytes)
-            }
-            Place::List(blocks) => {
-                let (block, later) = blocks.split_first()?;
-                self.place = Place::List(later);
-                Some(block.bytes())
-            }
-        }
+        Some(self.next_counted_bytes()?.bytes())
     }
 
     /// How many bytes the file holds.
@@ -175,9 +183,9 @@ impl<'a> LentBlocks<'a> {
         let mut from = start;
         let mut to = end;
         let mut count = 0;
-        while let Some(bytes) = rest.next_block() {
-            let size = bytes.len();
-            count += separator.count_begins(bytes, from.min(size), to.min(size));
+        while let Some(block) = rest.next_counted_bytes() {
+            let size = block.bytes().len();
+            count += block.count_begins(separator, from.min(size), to.min(size));
             from = from.saturating_sub(size);
             to = to.saturating_sub(size);
         }

@@ -8,6 +8,7 @@ mod lent;
 mod mending;
 mod pieces;
 
+pub use block::Block;
 pub use blocks::Blocks;
 pub use laws::blocks_law;
 pub use lent::LentBlocks;

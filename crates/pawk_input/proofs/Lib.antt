@@ -5,3 +5,4 @@ pub mod CutPlanLemmas
 pub mod DraftLemmas
 pub mod SizeLemmas
 pub mod CountLemmas
+pub mod OneLemmas

@@ -16,7 +16,7 @@ pub use counts::{count_block, count_blocks};
 pub use cutting::{Chunk, CutRefusal, MOST_CHUNKS};
 pub use files::{Input, LIMIT, TooLarge};
 pub use item::Item;
-pub use pawk_blocks::Blocks;
+pub use pawk_blocks::{Block, Blocks};
 pub use pawk_fields::{
     BlankFields, FieldSeparator, FieldStep, SplitFields, append_ranges, blanks_law, count_fields,
     count_split, field, fields, fields_law, pieces_law, split,

@@ -1,6 +1,6 @@
 //! Plans: the input cut into chunks of whole records.
 
-ghost use Rattle.std.specs.Prelude.{◌≡◌, ℕ, ◌<◌, ◌≤◌, None, length, slice_get};
+ghost use Rattle.std.specs.Prelude.{◌≡◌, ℕ, ◌<◌, ◌≤◌, [], None, length, slice_get};
 ghost use Rattle.std.specs.Prelude.{IfOk, IfErr, IfSome};
 ghost use Rattle.pawk_input.specs.Limits.{most_chunks};
 ghost use Rattle.pawk_input.specs.Input.{IsReady, files_of};
@@ -11,8 +11,8 @@ ghost use Rattle.pawk_input.specs.Plan.{cut_at, cut_fault, sized};
 
 use crate::counts::block_number;
 use crate::cuts::{check_cuts, cuts_in};
-use crate::cutting::{Chunk, CutRefusal};
-use crate::draft::Draft;
+use crate::cutting::{Chunk, CutRefusal, MOST_CHUNKS};
+use crate::draft::{Draft, begin_or_end};
 use crate::files::Input;
 use crate::walk::Records;
 use pawk_records::Separator;
@@ -97,6 +97,38 @@ impl Plan {
         Ok(Plan {
             chunks: draft.chunks,
         })
+    }
+
+    /// The plan of one chunk, made without a look at the records but the first: where the input is one file, its plan by this
+    /// size cannot be refused, and memory is there; else `None`.
+    ///
+    /// `rs` holds the byte at which records end, or none for paragraphs.
+    pub fn of_one(alloc: Global, input: &Input, rs: &[u8], bytes: u64) -> Option<Plan>
+        requires one_byte { length rs.now ≤ 1 }
+        requires ready { IsReady rs.now input.now }
+        requires some { 0 < bytes }
+        ensures value { IfSome result (λ plan. plan ≡ cut_at rs.now (files_of input.now) []) }
+        ensures plan { IfSome result (λ plan. IsPlanOf rs.now (files_of input.now) plan) }
+        ensures few { IfSome result (λ plan. length plan ≤ most_chunks) }
+        ensures accepted { IfSome result
+            (λ _. length (sized rs.now (files_of input.now) bytes) ≤ most_chunks) }
+    {
+        if input.files() != 1 || input.size(0) as u64 / bytes >= MOST_CHUNKS as u64 {
+            return None;
+        }
+        let start = begin_or_end(Separator::of(rs), &input.blocks(0), 0);
+        let end = input.size(0);
+        let mut chunks = Vec::new(alloc);
+        if start < end {
+            let chunk = Chunk {
+                file: 0,
+                range: start..end,
+                nr: 0,
+                fnr: 0,
+            };
+            chunks.push(chunk).ok()?;
+        }
+        Some(Plan { chunks })
     }
 
     /// The plan at cuts: a file with records begins a chunk, and one more begins at each cut, a

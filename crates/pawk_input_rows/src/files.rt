@@ -5,7 +5,7 @@ ghost use Rattle.pawk_input.specs.Input.{IsReady};
 
 use crate::plans;
 use crate::verbs::Verb;
-use pawk_input::{Blocks, Input, Records, count_block, count_blocks};
+use pawk_input::{Block, Blocks, Input, Records, count_block, count_blocks};
 use pawk_rows::{cell, decode, number, push_decimal, push_encoded};
 use std::alloc::{AllocError, Global};
 
@@ -27,16 +27,24 @@ fn separator(alloc: Global, row: &[u8], first: usize) -> Result<Vec<u8>, AllocEr
     decode(alloc, cell(row, first - 1))
 }
 
+/// A block of these bytes, counted.
+fn block_of(alloc: Global, word: &[u8]) -> Result<Block, AllocError> {
+    let bytes = decode(alloc, word)?;
+    let mut block = Block::with_capacity(alloc, bytes.len())?;
+    block.extend(bytes.as_slice())?;
+    Ok(block)
+}
+
 /// The blocks of a file, with a bar between them.
 fn blocks_of(alloc: Global, word: &[u8]) -> Result<Blocks, AllocError> {
     if !word.contains(&b'|') {
         return Blocks::whole(alloc, decode(alloc, word)?);
     }
     let mut blocks = Vec::new(alloc);
-    for block in word.split(|byte| *byte == b'|') {
-        blocks.push(decode(alloc, block)?)?;
+    for part in word.split(|byte| *byte == b'|') {
+        blocks.push(block_of(alloc, part)?)?;
     }
-    Blocks::of(alloc, blocks)
+    Ok(Blocks::of(blocks))
 }
 
 /// The files of a row, from a cell on: the cells of names and bytes by turns.

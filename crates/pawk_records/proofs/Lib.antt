@@ -7,3 +7,4 @@ pub mod ParagraphLawLemmas
 pub mod BeginsLemmas
 pub mod FindLemmas
 pub mod CountLemmas
+pub mod CensusLemmas

@@ -2,3 +2,4 @@ pub mod Records
 pub mod Begins
 pub mod Separator
 pub mod Paragraph
+pub mod Census

@@ -9,7 +9,7 @@ ghost use Rattle.pawk_records.specs.Paragraph as spec;
 
 use memchr::memchr;
 
-const NEWLINE: u8 = b'\n';
+pub(crate) const NEWLINE: u8 = b'\n';
 
 /// How many newlines a text begins with.
 #[inline]

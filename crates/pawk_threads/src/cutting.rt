@@ -1,6 +1,6 @@
 //! How the input is to be cut into chunks.
 
-ghost use Rattle.std.specs.Prelude.{◌≡◌, ◌<◌, ◌≤◌, length, Err, IfOk};
+ghost use Rattle.std.specs.Prelude.{◌≡◌, ◌<◌, ◌≤◌, length, Err, IfOk, IfSome};
 ghost use Rattle.pawk_board.specs.Limits.{most_chunks};
 ghost use Rattle.pawk_crew.specs.Task.{IsCrew};
 ghost use Rattle.pawk_input.specs.Counts.{block_counts};
@@ -31,7 +31,8 @@ pub enum Cutting {
     /// A chunk ends before the first record that begins at least so many bytes past the chunk's begin,
     /// or at the end of the file. The size is 1 or more. Where there are more such chunks than 8 for each
     /// worker (but 32 at least, and 256 at most), the input is cut by a greater size: each chunk notes
-    /// all keys that it meets, and the merge, which one thread does, goes through all of these.
+    /// all keys that it meets, and the merge, which one thread does, goes through all of these. By a single
+    /// worker a single file of more than 32 times the size is run as one chunk.
     Size(u64),
     /// One more chunk begins at each of these places: a file, and an offset in it, both counted from 0.
     At(Vec<(usize, usize)>),
@@ -142,7 +143,24 @@ fn plan_by_counts(
     Ok(with_fewer_chunks(alloc, input, rs, greater, block, counts, plan))
 }
 
-/// The plan by size, out of counts of records that workers make, where the input has few enough blocks.
+/// The plan of one chunk, where the input is one file that has more than a few times the size of a chunk.
+fn plan_of_one(alloc: Global, input: &Input, rs: &[u8], bytes: u64) -> Option<Plan>
+    requires sized { 0 < bytes }
+    requires one_byte { length rs.now ≤ 1 }
+    requires ready { IsReady rs.now input.now }
+    ensures plan { IfSome result (λ p. IsPlanOf rs.now (files_of input.now) p) }
+    ensures few { IfSome result (λ p. length p ≤ most_chunks) }
+    ensures accepted { IfSome result (λ _.
+        ¬ IsRefused rs.now (files_of input.now) (Cutting.Size bytes)) }
+{
+    if input.files() != 1 || input.size(0) as u64 / bytes <= FEW_CHUNKS as u64 {
+        return None;
+    }
+    Plan::of_one(alloc, input, rs, bytes)
+}
+
+/// The plan by size: for one worker of one chunk, where there may be one; else out of counts of records that workers make,
+/// where the input has few enough blocks.
 fn plan_by_size<G: Gate + Sync, R: Threads + Wait>(
     rt: &R,
     alloc: Global,
@@ -163,6 +181,11 @@ fn plan_by_size<G: Gate + Sync, R: Threads + Wait>(
     ensures refused { result ≡ Err Refusal.Cutting
         → IsRefused rs.now (files_of input.now) (Cutting.Size bytes) }
 {
+    if workers == 1
+        && let Some(plan) = plan_of_one(alloc, input, rs, bytes)
+    {
+        return Ok(plan);
+    }
     let Some(block) = block_size(input) else {
         return plan_here(alloc, input, rs, bytes);
     };
