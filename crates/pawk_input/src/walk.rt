@@ -119,7 +119,7 @@ impl<'a> Iterator for Records<'a> {
 
     ghost remaining = { item_count items_left };
 
-    #[inline]
+    #[inline(always)]
     fn next(&mut self) -> Option<Item<'a>> {
         loop {
             if let Some((bytes, rest)) = self.separator.split_record(self.rest) {

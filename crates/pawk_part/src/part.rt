@@ -26,7 +26,9 @@ fn begin_part<W: World>(world: &W, run: &mut Run<'_>, budget: u64)
         ≡ opening_moment budget (W.state world.now) (state_of run.old.state) run.old.output.items }
 {
     run.frame.clear();
-    run.arrays.clear();
+    if !run.arrays.is_empty() {
+        run.arrays.clear();
+    }
     run.left = budget;
 }
 

@@ -137,7 +137,7 @@ pub fn leaf_number<W: World>(
 }
 
 /// The number of a leaf, as [`leaf_number`], which is looked for.
-#[inline(never)]
+#[inline(always)]
 pub fn lent_number<W: World>(
     leaf: &Leaf,
     world: &W,

@@ -84,6 +84,7 @@ pub fn print_line<W: World>(texts: &Texts, world: &W, run: &mut Run<'_>) -> Resu
 /// Prints a text with ORS behind.
 ///
 /// POSIX.1-2017, awk, "Output Statements" (`print`).
+#[inline(always)]
 pub fn print_alone<W: World>(text: &[u8], world: &W, run: &mut Run<'_>) -> Result<(), Halt>
     ensures left { run.new.left ≤ run.old.left }
     ensures outcome { Yields (λ _. tt)

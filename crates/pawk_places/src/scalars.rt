@@ -24,6 +24,7 @@ pub(crate) const ORS: usize = 2;
 pub(crate) const SUBSEP: usize = 4;
 
 /// The text of a global scalar, of which nothing is copied; a number is written into the buffer.
+#[inline(always)]
 pub(crate) fn scalar_text<'a, W: World>(
     slot: usize,
     world: &'a W,

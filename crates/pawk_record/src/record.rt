@@ -77,6 +77,7 @@ impl<'a> Record<'a> {
     /// and no fields. Where memory was refused nothing is said of the record.
     ///
     /// POSIX.1-2017, awk, "Variables and Special Variables" (`FS`, `RS`).
+    #[inline(always)]
     pub fn read(&mut self, text: &'a [u8], fs: &[u8], paragraph: bool) -> Result<(), Stop>
         ensures record { OnOk result
             (read fs.now paragraph text.entry.now ≡ (self.new.record_now, None)) }

@@ -27,6 +27,7 @@ fn count_block(block: &[u8], byte: u8) -> u8
 }
 
 /// How many of the bytes are `byte`.
+#[inline(never)]
 pub(crate) fn count_byte(bytes: &[u8], byte: u8) -> usize
     ensures { result ≡ count_by (is_byte byte) bytes.now }
 {

@@ -88,6 +88,7 @@ pub fn truth_lent(value: ValueRef<'_>) -> Result<bool, Fault>
 
 /// The text of a lent value: none of an uninitialised one, the decimal text of a number, which is
 /// written into the buffer. It takes no memory.
+#[inline(always)]
 pub fn text_in<'a>(value: ValueRef<'a>, buffer: &'a mut Buffer) -> &'a [u8]
     ensures { result.now ≡ text_of (lent_value value.entry) }
 {

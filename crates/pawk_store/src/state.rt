@@ -88,6 +88,7 @@ impl<'a> RecordState<'a> {
     ///
     /// Fault `fs` or `ere` where the record is not empty and `FS` is empty or no expression; the record
     /// then has no fields. Memory is refused also where 2^64 records were read, which no memory holds.
+    #[inline(always)]
     pub fn read(&mut self, item: &Item<'a>, fs: &[u8]) -> Result<(), Stop>
         ensures record { OnOk result
             (state_of self.new ≡ spec.with_item fs.now (item_of item.now) (state_of self.old)) }

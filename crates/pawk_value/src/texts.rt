@@ -20,6 +20,7 @@ pub fn push_text(value: &Value, out: &mut Vec<u8>) -> Result<(), AllocError>
 }
 
 /// Appends the text of a lent value, as `push_text`.
+#[inline(always)]
 pub fn push_text_lent(value: ValueRef<'_>, out: &mut Vec<u8>) -> Result<(), AllocError>
     ensures items { out.new.items
         ≡ (if is_ok result
