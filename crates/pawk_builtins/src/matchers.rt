@@ -134,6 +134,7 @@ impl Matchers {
     /// Fault `ere` where it is a text that is no expression.
     ///
     /// POSIX.1-2017, awk, "Regular Expressions".
+    #[inline(always)]
     pub fn find(
         &mut self,
         expression: Expression<'_>,
@@ -161,6 +162,7 @@ impl Matchers {
     /// Fault `ere` as [`Matchers::find`] has it.
     ///
     /// POSIX.1-2017, awk, "Regular Expressions".
+    #[inline(always)]
     pub fn is_match(&mut self, expression: Expression<'_>, text: &[u8]) -> Result<bool, Stop>
         ensures { Settles (λ holds. holds)
             (matched_by (expression_of expression.entry) text.now) result }

@@ -67,6 +67,7 @@ pub(crate) fn fill_slot(slot: &mut Option<Loan>, alloc: Global, ere: &[u8]) -> R
 }
 
 /// What is found in a text by the matcher in a place, which is read if it is not there.
+#[inline(always)]
 pub(crate) fn find_in(
     slot: &mut Option<Loan>,
     alloc: Global,
@@ -86,6 +87,7 @@ pub(crate) fn find_in(
 }
 
 /// Whether anything is found in a text by the matcher in a place, which is read if it is not there.
+#[inline(always)]
 pub(crate) fn matches_in(
     slot: &mut Option<Loan>,
     alloc: Global,

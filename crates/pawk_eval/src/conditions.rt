@@ -76,7 +76,7 @@ pub(crate) fn test<W: World>(
 
 /// How two expressions compare. Nothing of leaves and numbers is copied.
 #[cycle(evaluate)]
-#[inline(never)]
+#[inline(always)]
 pub(crate) fn compare<W: World>(
     context: Context<'_>,
     depth: u64,
@@ -116,7 +116,6 @@ pub(crate) fn compare<W: World>(
 
 /// How two expressions compare, whose values are laid down.
 #[cycle(evaluate)]
-#[inline(never)]
 pub(crate) fn compare_values<W: World>(
     context: Context<'_>,
     depth: u64,
@@ -147,7 +146,7 @@ pub(crate) fn compare_values<W: World>(
 ///
 /// POSIX.1-2017, awk, "Regular Expressions".
 #[cycle(evaluate)]
-#[inline(never)]
+#[inline(always)]
 pub(crate) fn matches<W: World>(
     context: Context<'_>,
     depth: u64,
@@ -190,7 +189,7 @@ pub(crate) fn matches<W: World>(
 ///
 /// POSIX.1-2017, awk, "Expressions in awk" (`in`).
 #[cycle(evaluate)]
-#[inline(never)]
+#[inline(always)]
 pub(crate) fn member<W: World>(
     context: Context<'_>,
     depth: u64,

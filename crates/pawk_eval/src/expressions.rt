@@ -80,7 +80,6 @@ pub(crate) fn eval<W: World>(
 
 /// Lays down the value of a place.
 #[cycle(evaluate)]
-#[inline(never)]
 pub(crate) fn read<W: World>(
     context: Context<'_>,
     depth: u64,
@@ -107,7 +106,6 @@ pub(crate) fn read<W: World>(
 ///
 /// POSIX.1-2017, awk, "User-Defined Functions".
 #[cycle(evaluate)]
-#[inline(never)]
 pub(crate) fn invoke<W: World>(
     context: Context<'_>,
     depth: u64,
@@ -128,7 +126,6 @@ pub(crate) fn invoke<W: World>(
 
 /// Calls a function with arguments, and lays its value down.
 #[cycle(evaluate)]
-#[inline(never)]
 pub(crate) fn lay_call<W: World>(
     context: Context<'_>,
     depth: u64,
@@ -154,7 +151,6 @@ pub(crate) fn lay_call<W: World>(
 
 /// The number of the value of a call, or the fault of its conversion.
 #[cycle(evaluate)]
-#[inline(never)]
 pub(crate) fn number_of_call<W: World>(
     context: Context<'_>,
     depth: u64,
@@ -177,7 +173,6 @@ pub(crate) fn number_of_call<W: World>(
 
 /// Appends the text of the value of a call.
 #[cycle(evaluate)]
-#[inline(never)]
 pub(crate) fn text_of_call<W: World>(
     context: Context<'_>,
     depth: u64,
@@ -202,7 +197,6 @@ pub(crate) fn text_of_call<W: World>(
 
 /// Assigns the value of an expression to a place, and lays it down.
 #[cycle(evaluate)]
-#[inline(never)]
 pub(crate) fn assign<W: World>(
     context: Context<'_>,
     depth: u64,
@@ -230,6 +224,7 @@ pub(crate) fn assign<W: World>(
 
 /// The number of an expression, or the fault of its conversion.
 #[cycle(evaluate)]
+#[inline(always)]
 pub(crate) fn number<W: World>(
     context: Context<'_>,
     depth: u64,
@@ -262,7 +257,6 @@ pub(crate) fn number<W: World>(
 
 /// The number of the value of a place, or the fault of its conversion.
 #[cycle(evaluate)]
-#[inline(never)]
 pub(crate) fn number_at<W: World>(
     context: Context<'_>,
     depth: u64,
@@ -327,6 +321,7 @@ pub fn truth<W: World>(
 
 /// Appends the text of an expression.
 #[cycle(evaluate)]
+#[inline(always)]
 pub(crate) fn text_into<W: World>(
     context: Context<'_>,
     depth: u64,
@@ -345,6 +340,11 @@ pub(crate) fn text_into<W: World>(
     match e {
         Expr::Leaf(leaf) => leaf_text(leaf, out, world, run),
         Expr::Textual(t) => textual(context, depth, t, out, world, run),
+        Expr::Numeric(n) => {
+            let number = numeric(context, depth, n, world, run)?;
+            push_text_lent(ValueRef::Num(number), out)?;
+            Ok(())
+        }
         Expr::Read(from) => text_at(context, depth, from, out, world, run),
         Expr::Call(f, arguments) => text_of_call(context, depth, *f, arguments, out, world, run),
         e => {
@@ -358,7 +358,6 @@ pub(crate) fn text_into<W: World>(
 
 /// Appends the text of the value of a place.
 #[cycle(evaluate)]
-#[inline(never)]
 pub(crate) fn text_at<W: World>(
     context: Context<'_>,
     depth: u64,
@@ -408,7 +407,6 @@ pub(crate) fn text<W: World>(
 
 /// The value of an expression.
 #[cycle(evaluate)]
-#[inline(never)]
 pub(crate) fn value<W: World>(
     context: Context<'_>,
     depth: u64,
@@ -446,7 +444,6 @@ pub(crate) fn value<W: World>(
 
 /// Lays down the value of an expression in a buffer of its own.
 #[cycle(evaluate)]
-#[inline(never)]
 pub(crate) fn eval_apart<W: World>(
     context: Context<'_>,
     depth: u64,

@@ -23,7 +23,7 @@ use std::mem;
 
 /// What the arguments of a call give to its parameters.
 #[cycle(evaluate)]
-#[inline(never)]
+#[inline(always)]
 pub(crate) fn pass<W: World>(
     context: Context<'_>,
     depth: u64,
@@ -47,7 +47,7 @@ pub(crate) fn pass<W: World>(
 
 /// What an argument gives to its parameter: a value, or an array by reference.
 #[cycle(evaluate)]
-#[inline(never)]
+#[inline(always)]
 pub(crate) fn parameter<W: World>(
     context: Context<'_>,
     depth: u64,
@@ -73,7 +73,7 @@ pub(crate) fn parameter<W: World>(
 ///
 /// POSIX.1-2017, awk, "User-Defined Functions".
 #[cycle(evaluate)]
-#[inline(never)]
+#[inline(always)]
 pub(crate) fn call<W: World>(
     context: Context<'_>,
     depth: u64,

@@ -40,7 +40,6 @@ use pawk_world::{Halt, World};
 ///
 /// POSIX.1-2017, awk, "Actions" (`while`, `for`).
 #[cycle(evaluate)]
-#[inline(never)]
 pub(crate) fn turns<W: World>(
     context: Context<'_>,
     depth: u64,
@@ -99,6 +98,7 @@ pub(crate) fn truth_or_true<W: World>(
 
 /// Runs a statement that may be missing.
 #[cycle(evaluate)]
+#[inline(always)]
 pub(crate) fn perform_or_none<W: World>(
     context: Context<'_>,
     depth: u64,
@@ -122,7 +122,6 @@ pub(crate) fn perform_or_none<W: World>(
 ///
 /// POSIX.1-2017, awk, "Actions" (`do`).
 #[cycle(evaluate)]
-#[inline(never)]
 pub(crate) fn turns_after<W: World>(
     context: Context<'_>,
     depth: u64,
@@ -148,7 +147,6 @@ pub(crate) fn turns_after<W: World>(
 ///
 /// POSIX.1-2017, awk, "Actions" (`for`).
 #[cycle(evaluate)]
-#[inline(never)]
 pub(crate) fn count<W: World>(
     context: Context<'_>,
     depth: u64,
@@ -173,7 +171,6 @@ pub(crate) fn count<W: World>(
 ///
 /// POSIX.1-2017, awk, "Actions" (`for` with `in`).
 #[cycle(evaluate)]
-#[inline(never)]
 pub(crate) fn walk<W: World>(
     context: Context<'_>,
     depth: u64,
@@ -197,7 +194,6 @@ pub(crate) fn walk<W: World>(
 
 /// Runs a body for each of these keys.
 #[cycle(evaluate)]
-#[inline(never)]
 pub(crate) fn visit<W: World>(
     context: Context<'_>,
     depth: u64,

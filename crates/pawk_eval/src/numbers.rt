@@ -80,7 +80,6 @@ pub(crate) fn numeric<W: World>(
 
 /// The result of an operation. The number of a leaf is not laid down.
 #[cycle(evaluate)]
-#[inline(never)]
 pub(crate) fn arithmetic<W: World>(
     context: Context<'_>,
     depth: u64,
@@ -116,7 +115,6 @@ pub(crate) fn arithmetic<W: World>(
 
 /// The result of an operation on a number and that of an expression.
 #[cycle(evaluate)]
-#[inline(never)]
 pub(crate) fn arithmetic_with<W: World>(
     context: Context<'_>,
     depth: u64,
@@ -148,7 +146,6 @@ pub(crate) fn arithmetic_with<W: World>(
 ///
 /// POSIX.1-2017, awk, "Expressions in awk" (assignment).
 #[cycle(evaluate)]
-#[inline(never)]
 pub(crate) fn change<W: World>(
     context: Context<'_>,
     depth: u64,
@@ -175,7 +172,6 @@ pub(crate) fn change<W: World>(
 ///
 /// POSIX.1-2017, awk, "Expressions in awk" (increment and decrement).
 #[cycle(evaluate)]
-#[inline(never)]
 pub(crate) fn step_by<W: World>(
     context: Context<'_>,
     depth: u64,
@@ -199,7 +195,6 @@ pub(crate) fn step_by<W: World>(
 
 /// The number that a built-in function of values gives.
 #[cycle(evaluate)]
-#[inline(never)]
 pub(crate) fn function<W: World>(
     context: Context<'_>,
     depth: u64,
@@ -235,7 +230,6 @@ pub(crate) fn function<W: World>(
 ///
 /// POSIX.1-2017, awk, "String Functions" (`index`).
 #[cycle(evaluate)]
-#[inline(never)]
 pub(crate) fn place_of<W: World>(
     context: Context<'_>,
     depth: u64,
@@ -267,7 +261,6 @@ pub(crate) fn place_of<W: World>(
 ///
 /// POSIX.1-2017, awk, "String Functions" (`split`).
 #[cycle(evaluate)]
-#[inline(never)]
 pub(crate) fn split<W: World>(
     context: Context<'_>,
     depth: u64,
@@ -301,7 +294,6 @@ pub(crate) fn split<W: World>(
 ///
 /// POSIX.1-2017, awk, "String Functions" (`sub`, `gsub`).
 #[cycle(evaluate)]
-#[inline(never)]
 pub(crate) fn replace<W: World>(
     context: Context<'_>,
     depth: u64,
@@ -334,7 +326,6 @@ pub(crate) fn replace<W: World>(
 ///
 /// POSIX.1-2017, awk, "String Functions" (`match`).
 #[cycle(evaluate)]
-#[inline(never)]
 pub(crate) fn find<W: World>(
     context: Context<'_>,
     depth: u64,

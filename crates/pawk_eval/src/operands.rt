@@ -25,7 +25,6 @@ use pawk_world::{Halt, World};
 
 /// Appends the text of each expression, which is made in `scratch`.
 #[cycle(evaluate)]
-#[inline(never)]
 pub(crate) fn texts<W: World>(
     context: Context<'_>,
     depth: u64,
@@ -51,7 +50,6 @@ pub(crate) fn texts<W: World>(
 
 /// Appends the value of each expression, whose bytes are made in `scratch`.
 #[cycle(evaluate)]
-#[inline(never)]
 pub(crate) fn values<W: World>(
     context: Context<'_>,
     depth: u64,

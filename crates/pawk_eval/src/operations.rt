@@ -91,7 +91,6 @@ pub fn set_key<W: World>(
 /// Fault `ere` where it is a text that is no expression.
 ///
 /// POSIX.1-2017, awk, "Regular Expressions".
-#[inline(never)]
 pub fn find_first<W: World>(
     expression: Expression<'_>,
     text: &[u8],
@@ -112,7 +111,6 @@ pub fn find_first<W: World>(
 /// Fault `ere` where it is a text that is no expression.
 ///
 /// POSIX.1-2017, awk, "Regular Expressions".
-#[inline(never)]
 pub fn find_in_field<W: World>(
     expression: Expression<'_>,
     n: usize,
@@ -138,7 +136,7 @@ pub fn find_in_field<W: World>(
 /// Fault `ere` where it is a text that is no expression.
 ///
 /// POSIX.1-2017, awk, "Regular Expressions".
-#[inline(never)]
+#[inline(always)]
 pub fn matches_field<W: World>(
     expression: Expression<'_>,
     wanted: bool,
@@ -163,7 +161,6 @@ pub fn matches_field<W: World>(
 /// The text that a format makes of values, where the format that is a value has the text `text`.
 ///
 /// POSIX.1-2017, awk, "Output Statements" and "String Functions" (`sprintf`).
-#[inline(never)]
 pub fn fill_format<W: World>(
     format: &Format,
     text: &[u8],
@@ -182,7 +179,6 @@ pub fn fill_format<W: World>(
 /// Replaces matches in the text of a place, and gives how many.
 ///
 /// POSIX.1-2017, awk, "String Functions" (`sub`, `gsub`).
-#[inline(never)]
 pub fn substitute<W: World>(
     count: Count,
     expression: Expression<'_>,

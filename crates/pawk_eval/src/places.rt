@@ -53,7 +53,7 @@ pub(crate) fn place<W: World>(
 ///
 /// POSIX.1-2017, awk, "Variables and Special Variables" (`SUBSEP`).
 #[cycle(evaluate)]
-#[inline(never)]
+#[inline(always)]
 pub(crate) fn key<W: World>(
     context: Context<'_>,
     depth: u64,

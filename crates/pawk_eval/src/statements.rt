@@ -151,7 +151,6 @@ pub(crate) fn perform<W: World>(
 
 /// Evaluates an expression whose value is not wanted.
 #[cycle(evaluate)]
-#[inline(never)]
 pub(crate) fn drop_value<W: World>(
     context: Context<'_>,
     depth: u64,
@@ -175,7 +174,6 @@ pub(crate) fn drop_value<W: World>(
 ///
 /// POSIX.1-2017, awk, "Actions" (`delete`).
 #[cycle(evaluate)]
-#[inline(never)]
 pub(crate) fn delete<W: World>(
     context: Context<'_>,
     depth: u64,
@@ -198,7 +196,7 @@ pub(crate) fn delete<W: World>(
 
 /// Adds the number of an expression to a place, or takes it away.
 #[cycle(evaluate)]
-#[inline(never)]
+#[inline(always)]
 pub(crate) fn add<W: World>(
     context: Context<'_>,
     depth: u64,
@@ -231,7 +229,6 @@ pub(crate) fn add<W: World>(
 /// Adds the number of an expression to an element of an array, or takes it away. A key that is a field is
 /// not copied where the expression is a leaf.
 #[cycle(evaluate)]
-#[inline(never)]
 pub(crate) fn add_element<W: World>(
     context: Context<'_>,
     depth: u64,
@@ -267,7 +264,7 @@ pub(crate) fn add_element<W: World>(
 
 /// Adds 1 to a place, or takes it away.
 #[cycle(evaluate)]
-#[inline(never)]
+#[inline(always)]
 pub(crate) fn tally<W: World>(
     context: Context<'_>,
     depth: u64,
@@ -300,7 +297,6 @@ pub(crate) fn tally<W: World>(
 /// Adds 1 to an element of an array, or takes it away. A key that is a field or a number is not
 /// copied.
 #[cycle(evaluate)]
-#[inline(never)]
 pub(crate) fn tally_element<W: World>(
     context: Context<'_>,
     depth: u64,
@@ -332,7 +328,7 @@ pub(crate) fn tally_element<W: World>(
 
 /// Assigns the value of an expression to a place.
 #[cycle(evaluate)]
-#[inline(never)]
+#[inline(always)]
 pub(crate) fn set<W: World>(
     context: Context<'_>,
     depth: u64,
@@ -371,7 +367,6 @@ pub(crate) fn set<W: World>(
 /// Assigns the value of an expression to an element of an array. A key that is a number is not copied where
 /// the value is one too.
 #[cycle(evaluate)]
-#[inline(never)]
 pub(crate) fn set_element<W: World>(
     context: Context<'_>,
     depth: u64,
@@ -415,7 +410,7 @@ pub(crate) fn set_element<W: World>(
 ///
 /// POSIX.1-2017, awk, "Output Statements" (`print`).
 #[cycle(evaluate)]
-#[inline(never)]
+#[inline(always)]
 pub(crate) fn print<W: World>(
     context: Context<'_>,
     depth: u64,
@@ -441,7 +436,6 @@ pub(crate) fn print<W: World>(
 
 /// Prints the values of expressions, each of which is laid down first.
 #[cycle(evaluate)]
-#[inline(never)]
 pub(crate) fn print_values<W: World>(
     context: Context<'_>,
     depth: u64,
@@ -472,7 +466,6 @@ pub(crate) fn print_values<W: World>(
 ///
 /// POSIX.1-2017, awk, "Output Statements" (`printf`).
 #[cycle(evaluate)]
-#[inline(never)]
 pub(crate) fn printf<W: World>(
     context: Context<'_>,
     depth: u64,
@@ -498,7 +491,6 @@ pub(crate) fn printf<W: World>(
 ///
 /// POSIX.1-2017, awk, "Actions" and "User-Defined Functions".
 #[cycle(evaluate)]
-#[inline(never)]
 pub(crate) fn go_out<W: World>(
     context: Context<'_>,
     depth: u64,
@@ -529,7 +521,6 @@ pub(crate) fn go_out<W: World>(
 
 /// Runs the statements that a test chooses.
 #[cycle(evaluate)]
-#[inline(never)]
 pub(crate) fn choose<W: World>(
     context: Context<'_>,
     depth: u64,

@@ -78,7 +78,6 @@ pub(crate) fn textual<W: World>(
 ///
 /// POSIX.1-2017, awk, "Output Statements" and "String Functions" (`sprintf`).
 #[cycle(evaluate)]
-#[inline(never)]
 pub(crate) fn formatted<W: World>(
     context: Context<'_>,
     depth: u64,
@@ -106,7 +105,6 @@ pub(crate) fn formatted<W: World>(
 ///
 /// POSIX.1-2017, awk, "Expressions in awk" (concatenation).
 #[cycle(evaluate)]
-#[inline(never)]
 pub(crate) fn join<W: World>(
     context: Context<'_>,
     depth: u64,
@@ -135,7 +133,6 @@ pub(crate) fn join<W: World>(
 
 /// Appends the texts of expressions, each of which is behind what stands in `out` from `start` on.
 #[cycle(evaluate)]
-#[inline(never)]
 pub(crate) fn suffixes<W: World>(
     context: Context<'_>,
     depth: u64,

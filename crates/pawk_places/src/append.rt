@@ -91,7 +91,6 @@ fn push_behind<W: World>(
 }
 
 /// Assigns to a global the concatenation of its own text and others, which are put behind it.
-#[inline(never)]
 fn append<W: World>(
     slot: usize,
     rest: &[Expr],

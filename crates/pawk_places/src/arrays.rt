@@ -60,7 +60,6 @@ pub fn element_exists<W: World>(
 /// Whether an array has an element whose key is the text of a number, which is not copied.
 ///
 /// POSIX.1-2017, awk, "Expressions in awk" (`in`).
-#[inline(never)]
 pub fn number_exists<W: World>(
     table: Table,
     key: i64,
@@ -79,7 +78,7 @@ pub fn number_exists<W: World>(
 /// Whether an array has an element whose key is the text of a field, which is not copied.
 ///
 /// POSIX.1-2017, awk, "Expressions in awk" (`in`).
-#[inline(never)]
+#[inline(always)]
 pub fn field_exists<W: World>(
     table: Table,
     n: usize,
@@ -208,7 +207,6 @@ fn fill_array<W: World>(
 /// Faults `fs` and `ere` of the separator come when the array is empty already.
 ///
 /// POSIX.1-2017, awk, "String Functions" (`split`).
-#[inline(never)]
 pub fn split_into<W: World>(
     table: Table,
     separator: Separator<'_>,

@@ -154,7 +154,6 @@ pub fn lent_number<W: World>(
 }
 
 /// The truth of a leaf, or the fault of its conversion.
-#[inline(never)]
 pub fn leaf_truth<W: World>(
     leaf: &Leaf,
     world: &W,
@@ -172,7 +171,7 @@ pub fn leaf_truth<W: World>(
 /// The length of the text of a leaf in bytes. Nothing is copied.
 ///
 /// POSIX.1-2017, awk, "String Functions" (`length`).
-#[inline(never)]
+#[inline(always)]
 pub fn leaf_length<W: World>(leaf: &Leaf, world: &W, run: &mut Run<'_>) -> Result<i64, Halt>
     ensures same { moment (W.state world.now) run.new ≡ moment (W.state world.now) run.old }
     ensures left { run.new.left ≤ run.old.left }
@@ -186,7 +185,7 @@ pub fn leaf_length<W: World>(leaf: &Leaf, world: &W, run: &mut Run<'_>) -> Resul
 }
 
 /// Appends the text of a leaf.
-#[inline(never)]
+#[inline(always)]
 pub fn leaf_text<W: World>(
     leaf: &Leaf,
     out: &mut Vec<u8>,
@@ -204,7 +203,6 @@ pub fn leaf_text<W: World>(
 }
 
 /// Lays down the value of a leaf: its bytes are appended to `out`.
-#[inline(never)]
 pub fn leaf_value<W: World>(
     leaf: &Leaf,
     out: &mut Vec<u8>,
@@ -223,7 +221,7 @@ pub fn leaf_value<W: World>(
 }
 
 /// The value of a leaf, copied.
-#[inline(never)]
+#[inline(always)]
 pub fn leaf_copy<W: World>(leaf: &Leaf, world: &W, run: &mut Run<'_>) -> Result<Value, Halt>
     ensures left { run.new.left ≤ run.old.left }
     ensures outcome { Yields shown (value_of_leaf W.calls (leaf_view leaf.now)
@@ -262,7 +260,7 @@ pub fn compare_leaves<W: World>(
 }
 
 /// How two leaves compare, which are looked for.
-#[inline(never)]
+#[inline(always)]
 fn compare_lent_leaves<W: World>(
     relation: Relation,
     left: &Leaf,
@@ -314,7 +312,6 @@ pub fn compare_number<W: World>(
 }
 
 /// How a number and a leaf compare, which is looked for.
-#[inline(never)]
 fn compare_lent_behind<W: World>(
     relation: Relation,
     x: i64,
@@ -361,7 +358,6 @@ pub fn arithmetic_behind<W: World>(
 /// The place where one text first stands in another, in bytes counted from 1; 0 where it does not.
 ///
 /// POSIX.1-2017, awk, "String Functions" (`index`).
-#[inline(never)]
 pub fn place_in(text: &[u8], sought: &[u8]) -> i64
     ensures { result ≡ pos (builtins.index text.now sought.now) }
 {
@@ -372,6 +368,7 @@ pub fn place_in(text: &[u8], sought: &[u8]) -> i64
 /// where it does not. Nothing is copied.
 ///
 /// POSIX.1-2017, awk, "String Functions" (`index`).
+#[inline(always)]
 pub fn place_in_leaf<W: World>(
     leaf: &Leaf,
     sought: &Leaf,

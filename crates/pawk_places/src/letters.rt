@@ -39,7 +39,6 @@ use std::alloc::AllocError;
 const LEVELS: u32 = 2;
 
 /// Appends the text of a leaf with its ASCII letters in one case. Nothing else is copied.
-#[inline(never)]
 fn push_case<W: World>(
     case: Case,
     leaf: &Leaf,

@@ -36,7 +36,6 @@ pub fn tick<W: World>(world: &W, run: &mut Run<'_>) -> Result<(), Halt>
 /// Fault `length` where it is longer than a text may be.
 ///
 /// POSIX.1-2017, awk, "Variables and Special Variables" (`SUBSEP`).
-#[inline(never)]
 pub fn key_of_texts<W: World>(texts: &Texts, world: &W, run: &mut Run<'_>) -> Result<Vec<u8>, Halt>
     ensures left { run.new.left ≤ run.old.left }
     ensures outcome { Yields (λ key. key.items)
@@ -62,7 +61,6 @@ pub fn key_of_texts<W: World>(texts: &Texts, world: &W, run: &mut Run<'_>) -> Re
 /// Prints texts with OFS between them and ORS behind.
 ///
 /// POSIX.1-2017, awk, "Output Statements" (`print`).
-#[inline(never)]
 pub fn print_line<W: World>(texts: &Texts, world: &W, run: &mut Run<'_>) -> Result<(), Halt>
     ensures left { run.new.left ≤ run.old.left }
     ensures outcome { Yields (λ _. tt)
@@ -99,7 +97,6 @@ pub fn print_alone<W: World>(text: &[u8], world: &W, run: &mut Run<'_>) -> Resul
 }
 
 /// Prints a text as it is.
-#[inline(never)]
 pub fn print_bytes<W: World>(text: &[u8], world: &W, run: &mut Run<'_>) -> Result<(), Halt>
     ensures left { run.new.left ≤ run.old.left }
     ensures outcome { Yields (λ _. tt)

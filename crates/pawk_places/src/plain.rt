@@ -62,7 +62,6 @@ pub fn are_plain(es: &[Expr]) -> bool
 }
 
 /// Appends the text of a number.
-#[inline(never)]
 fn push_number(number: i64, out: &mut Vec<u8>) -> Result<(), AllocError>
     ensures { OnOk result (out.new.items ≡ out.old.items ++ text_of (Num number)) }
 {
@@ -179,7 +178,6 @@ fn push_all<W: World>(
 /// nothing is printed. Says whether they were printed.
 ///
 /// POSIX.1-2017, awk, "Output Statements" (`print`).
-#[inline(never)]
 pub fn print_plain<W: World>(es: &[Expr], world: &W, run: &mut Run<'_>) -> Result<bool, Halt>
     ensures left { run.new.left ≤ run.old.left }
     ensures refused { IfErr result (λ e. halt_of e ≡ None) }

@@ -42,6 +42,7 @@ fn quick_leaf<W: World>(leaf: &Leaf, world: &W, run: &mut Run<'_>) -> Option<i64
 /// Where there is none nothing is said of the expression: it may have a number too. The levels bound what
 /// is evaluated in vain.
 #[cycle(quick)]
+#[inline(always)]
 pub fn quick_number<W: World>(e: &Expr, levels: u32, world: &W, run: &mut Run<'_>) -> Option<i64>
     ensures same { moment (W.state world.now) run.new ≡ moment (W.state world.now) run.old }
     ensures left { run.new.left ≤ run.old.left }
@@ -84,6 +85,7 @@ pub fn quick_field<W: World>(
 
 /// The same of what gives a number.
 #[cycle(quick)]
+#[inline(always)]
 pub fn quick_numeric<W: World>(
     n: &Numeric,
     levels: u32,

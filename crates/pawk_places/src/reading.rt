@@ -52,7 +52,6 @@ pub fn read_place<W: World>(
 }
 
 /// The number of the value of a place, which is laid down.
-#[inline(never)]
 fn laid_number<W: World>(
     target: &Target,
     world: &mut W,
@@ -92,7 +91,6 @@ pub fn read_number<W: World>(
 }
 
 /// Appends the text of the value of a place, which is laid down.
-#[inline(never)]
 fn push_laid_text<W: World>(
     target: &Target,
     out: &mut Vec<u8>,
@@ -134,7 +132,6 @@ pub fn push_place_text<W: World>(
 }
 
 /// The number of the old value of an element that is assigned, which is created.
-#[inline(never)]
 fn old_element_number<W: World>(
     slot: usize,
     key: &[u8],

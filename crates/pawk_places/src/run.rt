@@ -75,6 +75,7 @@ pub fn give_back_value(spare: &mut Vec<Vec<u8>>, value: Value) {
 }
 
 /// The value of these bytes, whose buffer is given back where the value is none of bytes.
+#[inline(always)]
 pub fn value_with(spare: &mut Vec<Vec<u8>>, held: Held, bytes: Vec<u8>) -> Value
     ensures { shown result ≡ held_value held bytes.items }
 {
@@ -107,7 +108,6 @@ pub fn take_frame(alloc: Global, frames: &mut Vec<Vec<Parameter>>) -> Vec<Parame
 }
 
 /// Gives the frame of a call that has ended back, and the buffers of its values.
-#[inline(never)]
 pub fn give_back_frame(
     spare: &mut Vec<Vec<u8>>,
     frames: &mut Vec<Vec<Parameter>>,
@@ -144,7 +144,6 @@ fn open_local(alloc: Global, kind: Kind, arrays: &mut Vec<Array>) -> Result<Para
 /// without a value, or an empty array that is opened.
 ///
 /// POSIX.1-2017, awk, "User-Defined Functions".
-#[inline(never)]
 pub fn parameters(
     alloc: Global,
     arguments: Vec<Parameter>,

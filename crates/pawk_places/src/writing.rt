@@ -37,7 +37,6 @@ use pawk_world::{Halt, World};
 use std::alloc::{AllocError, Global};
 
 /// Gives a parameter a value, in the room that it has for its text.
-#[inline(never)]
 fn assign_parameter(
     alloc: Global,
     parameter: &mut Parameter,
@@ -107,7 +106,6 @@ pub(crate) fn set_parameter_number<W: World>(
 }
 
 /// Assigns a value to the record: its fields are those by FS as it is now.
-#[inline(never)]
 fn assign_record<W: World>(value: ValueRef<'_>, world: &W, run: &mut Run<'_>) -> Result<(), Halt>
     ensures left { run.new.left ≤ run.old.left }
     ensures outcome { Yields (λ _. tt)
@@ -124,7 +122,6 @@ fn assign_record<W: World>(value: ValueRef<'_>, world: &W, run: &mut Run<'_>) ->
 }
 
 /// Assigns a value to the field with index `n`; 0 is the record.
-#[inline(never)]
 fn assign_field<W: World>(
     n: usize,
     value: ValueRef<'_>,
@@ -180,7 +177,6 @@ pub fn write_place<W: World>(
 
 /// Changes a place by an operation with an amount, and gives the old number and the new one. The old
 /// value is converted first; then a fault of the amount's conversion comes, then one of the operation.
-#[inline(never)]
 pub fn change_place<W: World>(
     op: Op,
     target: &Target,
@@ -212,7 +208,6 @@ fn op_of(sign: Sign) -> Op
 }
 
 /// Adds an amount to a parameter, or takes it away, as [`change_place`] does; the value is dropped.
-#[inline(never)]
 pub fn add_to_parameter<W: World>(
     sign: Sign,
     number: usize,
@@ -257,7 +252,7 @@ pub fn add_to_place<W: World>(
 }
 
 /// Adds an amount to the element of an array with this key, or takes it away, as [`add_to_place`] does.
-#[inline(never)]
+#[inline(always)]
 pub fn add_to_key<W: World>(
     sign: Sign,
     table: Table,
@@ -280,7 +275,7 @@ pub fn add_to_key<W: World>(
 }
 
 /// Adds an amount to the element of an array whose key is the text of a number.
-#[inline(never)]
+#[inline(always)]
 pub fn add_to_number<W: World>(
     sign: Sign,
     table: Table,
@@ -306,7 +301,7 @@ pub fn add_to_number<W: World>(
 }
 
 /// Adds an amount to the element of an array whose key is the text of a field, which is not copied.
-#[inline(never)]
+#[inline(always)]
 pub fn add_to_field_key<W: World>(
     sign: Sign,
     table: Table,
@@ -333,7 +328,6 @@ pub fn add_to_field_key<W: World>(
 }
 
 /// Assigns a number to the element of a global array whose key is the text of a number.
-#[inline(never)]
 pub fn set_at_number<W: World>(
     slot: usize,
     key: i64,
@@ -356,7 +350,6 @@ pub fn set_at_number<W: World>(
 /// Fault `length` where the text is longer than a text may be, and those of assigning.
 ///
 /// POSIX.1-2017, awk, "String Functions" (`sub`, `gsub`).
-#[inline(never)]
 pub fn put_text<W: World>(
     target: &Target,
     count: usize,
