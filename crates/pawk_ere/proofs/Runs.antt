@@ -1,10 +1,10 @@
--- Expressions that are so many bytes of one set.
-use Rattle.std.proofs.Common.{◌≡◌, ℕ, zero, suc, ◌+◌, ◌-◌, ◌*◌, ◌<◌, ◌≤◌, Bool, List, length, get_or, Option, Some, None, IfSome, refl, sym, subst, ⊎_elim, arith}
+-- Expressions that are so many bytes of one set, or one or more of them.
+use Rattle.std.proofs.Common.{◌≡◌, ℕ, zero, suc, ◌+◌, ◌-◌, ◌*◌, ◌<◌, ◌≤◌, Bool, List, [], ◌∷◌, length, get_or, Option, Some, None, IfSome, refl, sym, ap, subst, ⊎_elim, arith}
 use Rattle.std.proofs.lemmas.Bool.{cases_lt}
-use Rattle.pawk_pattern.specs.Pattern.{Holds, IsFound}
-use Rattle.pawk_ere.specs.Runs.{AllHold, IsRun, NoneHolds}
+use Rattle.pawk_pattern.specs.Pattern.{Holds, IsFound, Leads}
+use Rattle.pawk_ere.specs.Runs.{AllHold, IsRun, IsTurns, NoneHolds}
 use Rattle.pawk_machine.proofs.Leftmost.{found_none, found_first}
-use Rattle.pawk_machine.specs.Regex.{Regex, Empty, Bytes, Sequence, Takes, copies}
+use Rattle.pawk_machine.specs.Regex.{Regex, Empty, Bytes, Plus, Sequence, Takes, copies}
 
 pub run_byte : (members : List Bool) → IsRun (Bytes members) members 1
 run_byte members s i j = (
@@ -86,6 +86,59 @@ one_some e members s from place le lt here before is = run_some e members s 1 fr
 pub one_none : (e : Regex) (members : List Bool) (s : List ℕ) (from : ℕ) → from ≤ length s → NoneHolds members s from (length s) → IsRun e members 1 → IsFound (Takes e s) from None
 one_none e members s from within' none is =
     run_none e members s 1 from (length s) (omega arith) (omega arith) (omega arith) (no_run_of_one members s from (length s) none) is
+
+-- turns of one byte each are bytes of the set
+leads_hold : (a : Regex) (members : List Bool) → IsRun a members 1 → (s : List ℕ) (i : ℕ) (ks : List ℕ) (j : ℕ) → Leads (Takes a s) i ks j → AllHold members s i j × (j ≡ i + length ks)
+leads_hold a members f s i [] j t = (λ k ge lt. absurd (omega arith), omega arith)
+leads_hold a members f s i (m ∷ ks) j t =
+    let p = (f s i m).0 t.0 in
+    let q = leads_hold a members f s m ks j t.1 in
+    (λ k ge lt. ⊎_elim (λ l. p.0 k ge l) (λ r. q.0 k r lt) (cases_lt k m), omega (arith, p.1, q.1))
+
+-- bytes of the set are turns of one byte each
+leads_of : (a : Regex) (members : List Bool) → IsRun a members 1 → (s : List ℕ) (n i j : ℕ) → AllHold members s i j → j ≡ i + n → (ks : List ℕ) × (length ks ≡ n) × Leads (Takes a s) i ks j
+leads_of a members f s zero i j all far = ([], refl, omega arith)
+leads_of a members f s (suc n) i j all far =
+    let rest = leads_of a members f s n (i + 1) j (λ k ge lt. all k (omega arith) lt) (omega arith) in
+    ((i + 1) ∷ rest.0, ap suc rest.1, ((f s i (i + 1)).1 (λ k ge lt. all k ge (omega arith), refl), rest.2))
+
+pub turns_plus : (a : Regex) (members : List Bool) → IsRun a members 1 → IsTurns (Plus a) members
+turns_plus a members f s i j = (
+  λ t. let q = leads_hold a members f s i t.0 j t.2 in (q.0, omega (arith, q.1, t.1)),
+  λ h. let w = leads_of a members f s (j - i) i j h.0 (omega (arith, h.1)) in (w.0, omega (arith, w.1, h.1), w.2),
+)
+
+pub turns_before_nothing : (a : Regex) (members : List Bool) → IsTurns a members → IsTurns (Sequence a Empty) members
+turns_before_nothing a members f s i j = (
+  λ t. subst (λ x. AllHold members s i x × (i < x)) t.2 ((f s i t.0).0 t.1),
+  λ h. (j, (f s i j).1 h, refl),
+)
+
+-- a byte of the set and those behind it, up to one of another kind
+all_from : (members : List Bool) (s : List ℕ) (start end : ℕ) → start < length s → Holds members (get_or s start 0) → AllHold members s (start + 1) end → AllHold members s start end
+all_from members s start end lt here all k ge below = ⊎_elim
+    (λ far. all k (omega arith) below)
+    (λ near.
+    let same : start ≡ k = omega arith in
+    subst (λ x. (x < length s) × Holds members (get_or s x 0)) same (lt, here))
+    (cases_lt start k)
+
+pub turns_some : (e : Regex) (members : List Bool) (s : List ℕ) (from start end : ℕ) → from ≤ start → start < length s → Holds members (get_or s start 0) → NoneHolds members s from start → start + 1 ≤ end → AllHold members s (start + 1) end → (end < length s → Holds members (get_or s end 0) → ⊥) → IsTurns e members → IsFound (Takes e s) from (Some (start, end))
+turns_some e members s from start end le lt here before some all other is = found_first e s from start end le
+    (λ k ge below j m. let x = (is s k j).0 m in before k ge below (x.0 k (omega arith) x.1).1)
+    (record {
+      matches = (is s start end).1 (all_from members s start end lt here all, omega arith);
+      longest = λ l m.
+          let x = (is s start l).0 m in ⊎_elim
+          (λ far. let y = x.0 end (omega arith) far in absurd (other y.0 y.1))
+          (λ near. near)
+          (cases_lt end l);
+    })
+
+pub turns_none : (e : Regex) (members : List Bool) (s : List ℕ) (from : ℕ) → NoneHolds members s from (length s) → IsTurns e members → IsFound (Takes e s) from None
+turns_none e members s from none is = found_none e s from (λ k ge j m.
+    let x = (is s k j).0 m in
+    let y = x.0 k (omega arith) x.1 in none k ge y.0 y.1)
 
 pub map_some : {A : Type 0} (P Q : A → Type 0) (r : Option A) → ((x : A) → P x → Q x) → IfSome r P → IfSome r Q
 map_some P Q None f h = tt

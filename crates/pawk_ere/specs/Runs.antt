@@ -1,4 +1,4 @@
--- Expressions that are so many bytes of one set and nothing else.
+-- Expressions that are so many bytes of one set, or one or more of them, and nothing else.
 use Rattle.std.specs.Prelude.{◌≡◌, ◌↔◌, ℕ, ◌+◌, ◌<◌, ◌≤◌, Bool, List, length, get_or}
 use Rattle.pawk_machine.specs.Regex.{Regex, Takes}
 use Rattle.pawk_pattern.specs.Pattern.{Holds}
@@ -14,3 +14,7 @@ NoneHolds members s i j = (k : ℕ) → i ≤ k → k < j → Holds members (get
 -- it matches so many bytes of the set and nothing else
 abbrev pub IsRun : Regex → List Bool → ℕ → Type 0
 IsRun e members count = (s : List ℕ) (i j : ℕ) → Takes e s i j ↔ (AllHold members s i j × (j ≡ i + count))
+
+-- it matches one byte of the set or more and nothing else
+abbrev pub IsTurns : Regex → List Bool → Type 0
+IsTurns e members = (s : List ℕ) (i j : ℕ) → Takes e s i j ↔ (AllHold members s i j × (i < j))

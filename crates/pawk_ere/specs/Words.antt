@@ -5,8 +5,8 @@ use Rattle.memchr.specs.Find.{OccursAt}
 use Rattle.pawk_machine.specs.Regex.{Regex, Takes}
 use Rattle.pawk_ere.specs.declared.words.Features.{Features}
 use Rattle.pawk_ere.specs.declared.words.Prefilter.{Prefilter}
-use Rattle.pawk_ere.specs.declared.words.Prefilter.TheVariants.{Literal, Run, Words}
-use Rattle.pawk_ere.specs.Runs.{IsRun}
+use Rattle.pawk_ere.specs.declared.words.Prefilter.TheVariants.{Literal, Run, Turns, Words}
+use Rattle.pawk_ere.specs.Runs.{IsRun, IsTurns}
 
 -- it matches these bytes and nothing else
 abbrev pub IsLiteral : Regex → List ℕ → Type 0
@@ -38,4 +38,5 @@ pub record AreFeatures (e : Regex) (features : Features) : Type 0 where
 abbrev pub IsPrefilter : Regex → Prefilter → Type 0
 IsPrefilter e (Literal bytes) = IsLiteral e bytes
 IsPrefilter e (Run set count) = IsRun e (members_of set.value) count × (1 ≤ count)
+IsPrefilter e (Turns set) = IsTurns e (members_of set.value)
 IsPrefilter e (Words words) = AreNeeded e words.items

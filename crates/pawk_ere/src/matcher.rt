@@ -6,7 +6,7 @@ ghost use Rattle.pawk_pattern.specs.Spelled.{expression};
 ghost use Rattle.std.specs.Prelude.{◌≡◌, ◌↔◌, ◌≤◌, length, IfOk, IsTrue};
 
 use crate::literal::{has_literal, search_literal};
-use crate::run::{has_run, search_run};
+use crate::run::{has_run, has_turns, search_run, search_turns};
 use crate::words::{Prefilter, lacks_words, prefilter_of};
 use pawk_machine::{Node, Table, begin, expand, first_byte, has_match, search};
 use pawk_pattern::Ere;
@@ -71,6 +71,7 @@ impl Matcher {
         match &self.prefilter {
             Prefilter::Literal(literal) => return Ok(search_literal(literal, text, from)),
             Prefilter::Run(set, count) => return Ok(search_run(set, *count, text, from)),
+            Prefilter::Turns(set) => return Ok(search_turns(set, text, from)),
             Prefilter::Words(words) => {
                 if from == 0 && lacks_words(words, text) {
                     return Ok(None);
@@ -97,6 +98,7 @@ impl Matcher {
         match &self.prefilter {
             Prefilter::Literal(literal) => return Ok(has_literal(literal, text, from)),
             Prefilter::Run(set, count) => return Ok(has_run(set, *count, text, from)),
+            Prefilter::Turns(set) => return Ok(has_turns(set, text, from)),
             Prefilter::Words(words) => {
                 if from == 0 && lacks_words(words, text) {
                     return Ok(false);

@@ -1,7 +1,7 @@
-// Searches for an expression that is so many bytes of one set and nothing else.
+// Searches for an expression that is so many bytes of one set, or one or more of them, and nothing else.
 
 ghost use Rattle.pawk_machine.specs.Members.{members_of};
-ghost use Rattle.pawk_ere.specs.Runs.{AllHold, IsRun, NoneHolds};
+ghost use Rattle.pawk_ere.specs.Runs.{AllHold, IsRun, IsTurns, NoneHolds};
 ghost use Rattle.pawk_machine.specs.Regex.{Regex, Takes};
 ghost use Rattle.pawk_machine.specs.Tree.{regex_of};
 ghost use Rattle.pawk_pattern.specs.Pattern.{HasMatch, Holds, IsFound};
@@ -32,6 +32,34 @@ pub fn run_of(node: &Node) -> Option<(&Members, usize)>
         | Node::Either(_, _)
         | Node::Star(_)
         | Node::Plus(_) => None,
+    }
+}
+
+/// The byte set, where the expression is seen to match one byte of it or more and nothing else.
+pub fn turns_of(node: &Node) -> Option<&Members>
+    ensures { IfSome result (λ set. IsTurns (regex_of node.now) (members_of set.now)) }
+{
+    match node {
+        Node::Sequence(a, b) => {
+            if let Node::Empty = &**b {
+                return turns_of(a);
+            }
+            None
+        }
+        Node::Plus(turn) => {
+            let (set, count) = run_of(turn)?;
+            if count == 1 {
+                return Some(set);
+            }
+            None
+        }
+        Node::Empty
+        | Node::Start
+        | Node::End
+        | Node::Bytes(_)
+        | Node::Either(_, _)
+        | Node::Copies(_, _)
+        | Node::Star(_) => None,
     }
 }
 
@@ -110,6 +138,48 @@ pub fn has_run(set: &Members, count: usize, text: &[u8], from: usize) -> bool
         → IsTrue result ↔ HasMatch (Takes e text.now) from }
 {
     match search_run(set, count, text, from) {
+        None => false,
+        Some(_) => true,
+    }
+}
+
+/// The first place from `from` on whose byte does not belong to the set, or the end of the text.
+fn members_end(set: &Members, text: &[u8], from: usize) -> usize
+    requires { from ≤ length text.now }
+    ensures after { from ≤ result }
+    ensures all { AllHold (members_of set.now) text.now from result }
+    ensures other { result < length text.now
+        → Holds (members_of set.now) (slice_index text.now result) → ⊥ }
+{
+    let mut end = from;
+    while end < text.len() {
+        if !set.contains(text[end]) {
+            return end;
+        }
+        end += 1;
+    }
+    end
+}
+
+/// The leftmost match of an expression that matches one byte of the set or more and nothing else, and of those from there the
+/// longest. No byte is read twice.
+pub fn search_turns(set: &Members, text: &[u8], from: usize) -> Option<(usize, usize)>
+    requires { from ≤ length text.now }
+    ensures { (e : Regex) → IsTurns e (members_of set.now) → IsFound (Takes e text.now) from result }
+{
+    match first_member(set, text, from) {
+        None => None,
+        Some(start) => Some((start, members_end(set, text, start + 1))),
+    }
+}
+
+/// Whether a byte of the set stands at `from` or later.
+pub fn has_turns(set: &Members, text: &[u8], from: usize) -> bool
+    requires { from ≤ length text.now }
+    ensures { (e : Regex) → IsTurns e (members_of set.now)
+        → IsTrue result ↔ HasMatch (Takes e text.now) from }
+{
+    match search_turns(set, text, from) {
         None => false,
         Some(_) => true,
     }

@@ -6,7 +6,7 @@ ghost use Rattle.pawk_machine.specs.Regex.{Regex, Bytes, Sequence, Either, Plus,
 ghost use Rattle.pawk_machine.specs.Tree.{regex_of};
 ghost use Rattle.std.specs.Prelude.{◌≡◌, ◌≤◌, ◌⊎◌, [], false, length, IfOk, IsTrue};
 
-use crate::run::run_of;
+use crate::run::{run_of, turns_of};
 use memchr::memmem::{Finder, FinderBuilder};
 use pawk_machine::{Members, Node, is_anchored};
 use std::alloc::{AllocError, Global};
@@ -38,6 +38,8 @@ pub enum Prefilter {
     Literal(Finder<'static>),
     /// The expression matches so many bytes of this set, at least one, and nothing else.
     Run(Box<Members>, usize),
+    /// The expression matches one byte of this set or more and nothing else.
+    Turns(Box<Members>),
     /// Each match holds one of these words. If there are none, nothing is known.
     Words(Vec<Finder<'static>>),
 }
@@ -222,7 +224,8 @@ fn of_copies(alloc: Global, count: u8, a: &Node) -> Result<Features, AllocError>
     Ok(all)
 }
 
-/// What to look for in a text before it is walked over. An anchored expression gives up early by itself.
+/// What to look for in a text before it is walked over. An anchored expression gives up early by itself, and one that is a byte
+/// again and again is looked for by the first.
 pub fn prefilter_of(alloc: Global, node: &Node) -> Result<Prefilter, AllocError>
     ensures { IfOk result (λ prefilter. IsPrefilter (regex_of node.now) prefilter) }
 {
@@ -234,6 +237,11 @@ pub fn prefilter_of(alloc: Global, node: &Node) -> Result<Prefilter, AllocError>
     if let Some((set, count)) = run_of(node) {
         if count > 0 {
             return Ok(Prefilter::Run(Box::new(alloc, *set)?, count));
+        }
+    }
+    if let Some(set) = turns_of(node) {
+        if set.only_member().is_none() {
+            return Ok(Prefilter::Turns(Box::new(alloc, *set)?));
         }
     }
     if is_anchored(node) {

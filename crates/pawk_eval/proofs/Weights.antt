@@ -9,7 +9,7 @@ abbrev mutual
   weight (leaf l) = 1
   weight (numeric n) = numeric_weight n + 2
   weight (test t) = test_weight t + 2
-  weight (textual t) = textual_weight t + 1
+  weight (textual t) = textual_weight t + 2
   weight (read p) = place_weight p + 2
   weight (choice c a b) = weight c + weight a + weight b + 3
   weight (assign p e) = place_weight p + weight e + 2

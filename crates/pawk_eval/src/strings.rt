@@ -18,12 +18,36 @@ use crate::operands::{format_operand, values};
 use crate::operations::fill_format;
 use pawk_builtins::{Values, both, push_letters, substring, suffix, within_limit};
 use pawk_code::expression::{Expr, Format, Textual};
-use pawk_places::{Run, give_back, quick_letters};
+use pawk_places::{Run, give_back, quick_text};
 use pawk_world::{Halt, World};
 
-/// Appends what gives a text. A leaf or a field whose letters change is not copied first.
+/// Appends what gives a text. A leaf of which a part is taken or whose letters change is not copied first.
 #[cycle(evaluate)]
 pub(crate) fn textual<W: World>(
+    context: Context<'_>,
+    depth: u64,
+    t: &Textual,
+    out: &mut Vec<u8>,
+    world: &mut W,
+    run: &mut Run<'_>,
+) -> Result<(), Halt>
+    ensures left { run.new.left ≤ run.old.left }
+    ensures appended { OnOk result
+        (out.new.items ≡ out.old.items ++ added out.old.items out.new.items) }
+    ensures outcome { Yields (λ _. added out.old.items out.new.items)
+        (text_of_textual W.calls (eres_of context.entry) (enter_of W.calls context.entry depth)
+        (textual_view t.now)
+        (moment (W.state world.old) run.old)) result (moment (W.state world.new) run.new) }
+{
+    if quick_text(t, out, world, run)? {
+        return Ok(());
+    }
+    compose(context, depth, t, out, world, run)
+}
+
+/// Appends what gives a text, by the values of its parts.
+#[cycle(evaluate)]
+pub(crate) fn compose<W: World>(
     context: Context<'_>,
     depth: u64,
     t: &Textual,
@@ -58,9 +82,6 @@ pub(crate) fn textual<W: World>(
             Ok(())
         }
         Textual::Case(case, e) => {
-            if quick_letters(*case, e, out, world, run)? {
-                return Ok(());
-            }
             let text = text(context, depth, e, world, run)?;
             push_letters(*case, &text, out)?;
             give_back(&mut run.spare, text);

@@ -63,7 +63,7 @@ fn push_case<W: World>(
 /// field. Says whether it is; if not, nothing is appended.
 ///
 /// POSIX.1-2017, awk, "String Functions" (`tolower`, `toupper`).
-pub fn quick_letters<W: World>(
+pub(crate) fn quick_letters<W: World>(
     case: Case,
     e: &Expr,
     out: &mut Vec<u8>,

@@ -12,7 +12,9 @@ mod quick;
 mod reading;
 mod run;
 mod scalars;
+mod substrings;
 mod target;
+mod texts;
 mod writing;
 
 pub use append::assign_in_place;
@@ -25,7 +27,6 @@ pub use leaves::{
     leaf_text, leaf_truth, leaf_value, lent_number, place_in, place_in_leaf, plain_number,
     related_numbers,
 };
-pub use letters::quick_letters;
 pub use outputs::{key_of_texts, print_alone, print_bytes, print_line, tick};
 pub use plain::{are_plain, print_plain};
 pub use quick::{plain_test, plain_value, quick_field, quick_number, quick_numeric};
@@ -35,6 +36,7 @@ pub use run::{
     take_frame, value_with,
 };
 pub use target::{Table, Target, element_target, give_back_target, table_of, variable_target};
+pub use texts::quick_text;
 pub use writing::{
     add_to_field_key, add_to_key, add_to_number, add_to_parameter, add_to_place, change_place,
     put_text, set_at_number, set_match_place, write_place,

@@ -135,30 +135,30 @@ conditions::test-returns-in-In-clause-outcome g t c =
     let is = member_shape c.args.t.now c.in-In.array c.in-In.keys c.deref-in-In.result.now c.in-In.is c.deref-in-In.ensures.value in
     rw is (grind (arith, common_steps))
 
-pub strings::textual-join-requires : goal.strings::textual-join-requires
-strings::textual-join-requires g t c =
+pub strings::compose-join-requires : goal.strings::compose-join-requires
+strings::compose-join-requires g t c =
     let is = join_shape c.args.t.now c.in-Join.es c.deref.result.now c.in-Join.is c.deref.ensures.value in
     let falls : row_weight (exprs (views c.deref.result.now)) < textual_weight (textual_view c.args.t.now) = rw is (omega arith) in
     search rules
 
-pub strings::textual-returns-in-Join-clause-outcome : goal.strings::textual-returns-in-Join-clause-outcome
-strings::textual-returns-in-Join-clause-outcome g t c =
+pub strings::compose-returns-in-Join-clause-outcome : goal.strings::compose-returns-in-Join-clause-outcome
+strings::compose-returns-in-Join-clause-outcome g t c =
     let is = join_shape c.args.t.now c.in-Join.es c.deref.result.now c.in-Join.is c.deref.ensures.value in
     rw is c.join.ensures.outcome
 
-pub strings::textual-formatted-requires : goal.strings::textual-formatted-requires
-strings::textual-formatted-requires g t c =
+pub strings::compose-formatted-requires : goal.strings::compose-formatted-requires
+strings::compose-formatted-requires g t c =
     let is = format_shape c.args.t.now c.in-Format.format c.in-Format.format c.in-Format.es c.deref-in-Format.result.now c.in-Format.is refl c.deref-in-Format.ensures.value in
     let falls : format_weight (format_view c.in-Format.format) + row_weight (exprs (views c.deref-in-Format.result.now)) + 1 < textual_weight (textual_view c.args.t.now) = rw is (omega arith) in
     search rules
 
-pub strings::textual-returns-in_err-text-in-Format-clause-outcome : goal.strings::textual-returns-in_err-text-in-Format-clause-outcome
-strings::textual-returns-in_err-text-in-Format-clause-outcome g t c =
+pub strings::compose-returns-in_err-text-in-Format-clause-outcome : goal.strings::compose-returns-in_err-text-in-Format-clause-outcome
+strings::compose-returns-in_err-text-in-Format-clause-outcome g t c =
     let is = format_shape c.args.t.now c.in-Format.format c.in-Format.format c.in-Format.es c.deref-in-Format.result.now c.in-Format.is refl c.deref-in-Format.ensures.value in
     rw is (grind (arith, common_steps))
 
-pub strings::textual-returns-in_ok-extend_from_slice-in-Format-clause-outcome : goal.strings::textual-returns-in_ok-extend_from_slice-in-Format-clause-outcome
-strings::textual-returns-in_ok-extend_from_slice-in-Format-clause-outcome g t c =
+pub strings::compose-returns-in_ok-extend_from_slice-in-Format-clause-outcome : goal.strings::compose-returns-in_ok-extend_from_slice-in-Format-clause-outcome
+strings::compose-returns-in_ok-extend_from_slice-in-Format-clause-outcome g t c =
     let is = format_shape c.args.t.now c.in-Format.format c.in-Format.format c.in-Format.es c.deref-in-Format.result.now c.in-Format.is refl c.deref-in-Format.ensures.value in
     rw (is, c.in_ok-text-in-Format.ensures.outcome) (grind (arith, common_steps))
 

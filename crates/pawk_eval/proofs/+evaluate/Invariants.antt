@@ -86,7 +86,10 @@ abbrev pub decreases-conditions::compare_values : goal.decreases-conditions::com
 decreases-conditions::compare_values g l = rank (functions_of l.context) l.depth (weight (view l.a.now) + weight (view l.b.now) + 1)
 
 abbrev pub decreases-strings::textual : goal.decreases-strings::textual
-decreases-strings::textual g l = rank (functions_of l.context) l.depth (textual_weight (textual_view l.t.now))
+decreases-strings::textual g l = rank (functions_of l.context) l.depth (textual_weight (textual_view l.t.now) + 1)
+
+abbrev pub decreases-strings::compose : goal.decreases-strings::compose
+decreases-strings::compose g l = rank (functions_of l.context) l.depth (textual_weight (textual_view l.t.now))
 
 abbrev pub decreases-strings::join : goal.decreases-strings::join
 decreases-strings::join g l = rank (functions_of l.context) l.depth (row_weight (exprs (views l.es.now)))
