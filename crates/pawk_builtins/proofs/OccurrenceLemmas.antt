@@ -1,7 +1,9 @@
 -- The first place where one text stands in another.
-use Rattle.std.proofs.Common.{◌≡◌, ℕ, zero, suc, ◌+◌, ◌<◌, true, List, [], ◌∷◌, length, get_or, refl, sym, ap, ◌∙◌, arith, eqb-true, eq-eqb, zero-add}
-use Rattle.std.proofs.lemmas.Bool.{cond-true, cond-false, and_parts, and_from, false_from_ne_true}
-use Rattle.memchr.specs.Find.{OccursAt}
+use Rattle.std.proofs.Common.{◌≡◌, ℕ, inl, inr, zero, suc, ◌+◌, ◌-◌, ◌<◌, ◌≤◌, true, List, [], ◌∷◌, length, length-drop, drop, get_or, refl, sym, ap, ◌∙◌, arith, eqb-true, eq-eqb, zero-add}
+use Rattle.std.proofs.lemmas.Bool.{cases_lt, cond-true, cond-false, and_parts, and_from, false_from_ne_true}
+use Rattle.memchr.specs.Find.{Nowhere, OccursAt, Passes, is_byte}
+use Rattle.std.specs.Prelude.{slice_index}
+use Rattle.std.proofs.lemmas.List.{get_or-drop}
 use Rattle.pawk_meaning.specs.Builtins.{begins_with, index_from, index}
 
 byte_at : (s t : List ℕ) (k j n : ℕ) → OccursAt s t k → n ≡ k + j → j < length t → get_or s n 0 ≡ get_or t j 0
@@ -68,3 +70,29 @@ index_is_none s (c ∷ t) long none = sym (index_none 1 s (c ∷ t) none)
 pub index_is_some : (s t : List ℕ) (k : ℕ) → 0 < length t → OccursAt s t k → ((j : ℕ) → j < k → OccursAt s t j → ⊥) → k + 1 ≡ index s t
 index_is_some s [] k long at none = absurd (omega arith)
 index_is_some s (c ∷ t) k long at none = sym (index_some 1 s (c ∷ t) k long at none)
+
+-- ---- by the first byte
+
+-- it stands nowhere before a place where it did not up to another, and from there on its first byte does not
+pub none_up_to : (s t : List ℕ) (from end : ℕ) → 0 < length t → Nowhere (OccursAt s t) 0 from
+    → Nowhere (Passes (is_byte (slice_index t 0)) (drop from s)) 0 end → Nowhere (OccursAt s t) 0 (from + end)
+none_up_to s t from end some before none k low high at = elim (cases_lt k from) [
+  | inl less ↦ before k low less at
+  | inr more ↦
+      let there : from + (k - from) ≡ k = omega arith in
+      none (k - from) (omega arith) (omega arith)
+      (eq-eqb _ _ (get_or-drop from s (k - from) 0 ∙ ap (λ n. get_or s n 0) there ∙ byte_at s t k 0 k at (omega arith) some))
+]
+
+-- it stands at a place just where it begins what is there
+pub occurs_behind : (s t : List ℕ) (k : ℕ) → k ≤ length s → OccursAt (drop k s) t 0 → OccursAt s t k
+occurs_behind s t k le at = record {
+  fits = omega (arith, at.fits, length-drop k s);
+  reads = λ j below. sym (get_or-drop k s j 0) ∙ byte_at (drop k s) t 0 j j at (omega arith) below;
+}
+
+pub occurs_there : (s t : List ℕ) (k : ℕ) → OccursAt s t k → OccursAt (drop k s) t 0
+occurs_there s t k at = record {
+  fits = omega (arith, at.fits, length-drop k s);
+  reads = λ j below. (let e : 0 + j ≡ j = omega arith in ap (λ n. get_or (drop k s) n 0) e) ∙ get_or-drop k s j 0 ∙ at.reads j below;
+}

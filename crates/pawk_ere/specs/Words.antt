@@ -1,12 +1,13 @@
 -- Words that a text must hold to have a match.
 use Rattle.pawk_machine.specs.Members.{members_of}
-use Rattle.std.specs.Prelude.{◌≡◌, ◌↔◌, ℕ, ◌+◌, ◌≤◌, true, All, List, length}
+use Rattle.std.specs.Prelude.{◌≡◌, ◌↔◌, ℕ, ◌+◌, ◌≤◌, true, All, List, length, IfSome}
 use Rattle.memchr.specs.Find.{OccursAt}
 use Rattle.pawk_machine.specs.Regex.{Regex, Takes}
 use Rattle.pawk_ere.specs.declared.words.Features.{Features}
 use Rattle.pawk_ere.specs.declared.words.Prefilter.{Prefilter}
 use Rattle.pawk_ere.specs.declared.words.Prefilter.TheVariants.{Literal, Run, Turns, Words}
 use Rattle.pawk_ere.specs.Runs.{IsRun, IsTurns}
+use Rattle.pawk_pattern.specs.Sets.{IsOnlyMember}
 
 -- it matches these bytes and nothing else
 abbrev pub IsLiteral : Regex → List ℕ → Type 0
@@ -38,5 +39,5 @@ pub record AreFeatures (e : Regex) (features : Features) : Type 0 where
 abbrev pub IsPrefilter : Regex → Prefilter → Type 0
 IsPrefilter e (Literal bytes) = IsLiteral e bytes
 IsPrefilter e (Run set count) = IsRun e (members_of set.value) count × (1 ≤ count)
-IsPrefilter e (Turns set) = IsTurns e (members_of set.value)
+IsPrefilter e (Turns set only) = IsTurns e (members_of set.value) × IfSome only (λ byte. IsOnlyMember (members_of set.value) byte)
 IsPrefilter e (Words words) = AreNeeded e words.items

@@ -71,7 +71,7 @@ impl Matcher {
         match &self.prefilter {
             Prefilter::Literal(literal) => return Ok(search_literal(literal, text, from)),
             Prefilter::Run(set, count) => return Ok(search_run(set, *count, text, from)),
-            Prefilter::Turns(set) => return Ok(search_turns(set, text, from)),
+            Prefilter::Turns(set, only) => return Ok(search_turns(set, *only, text, from)),
             Prefilter::Words(words) => {
                 if from == 0 && lacks_words(words, text) {
                     return Ok(None);
@@ -98,7 +98,7 @@ impl Matcher {
         match &self.prefilter {
             Prefilter::Literal(literal) => return Ok(has_literal(literal, text, from)),
             Prefilter::Run(set, count) => return Ok(has_run(set, *count, text, from)),
-            Prefilter::Turns(set) => return Ok(has_turns(set, text, from)),
+            Prefilter::Turns(set, only) => return Ok(has_turns(set, *only, text, from)),
             Prefilter::Words(words) => {
                 if from == 0 && lacks_words(words, text) {
                     return Ok(false);

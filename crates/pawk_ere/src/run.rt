@@ -5,8 +5,10 @@ ghost use Rattle.pawk_ere.specs.Runs.{AllHold, IsRun, IsTurns, NoneHolds};
 ghost use Rattle.pawk_machine.specs.Regex.{Regex, Takes};
 ghost use Rattle.pawk_machine.specs.Tree.{regex_of};
 ghost use Rattle.pawk_pattern.specs.Pattern.{HasMatch, Holds, IsFound};
+ghost use Rattle.pawk_pattern.specs.Sets.{IsOnlyMember};
 ghost use Rattle.std.specs.Prelude.{◌↔◌, ◌<◌, ◌≤◌, length, slice_index, IfSome, IsTrue, MatchOption};
 
+use memchr::memchr;
 use pawk_machine::{Members, Node};
 
 /// The byte set and the number of bytes, where the expression is seen to match so many bytes of one set and nothing else.
@@ -161,25 +163,52 @@ fn members_end(set: &Members, text: &[u8], from: usize) -> usize
     end
 }
 
+/// The first place from `from` on whose byte belongs to the set, if there is one, of which `only` is the one member where it
+/// has no other.
+fn first_place(set: &Members, only: Option<u8>, text: &[u8], from: usize) -> Option<usize>
+    requires only { IfSome only (λ byte. IsOnlyMember (members_of set.now) byte) }
+    requires within { from ≤ length text.now }
+    ensures { MatchOption result
+        (NoneHolds (members_of set.now) text.now from (length text.now))
+        (λ place. (from ≤ place) × (place < length text.now)
+        × Holds (members_of set.now) (slice_index text.now place)
+        × NoneHolds (members_of set.now) text.now from place) }
+{
+    let Some(byte) = only else {
+        return first_member(set, text, from);
+    };
+    match memchr(byte, &text[from..]) {
+        None => None,
+        Some(ahead) => Some(from + ahead),
+    }
+}
+
 /// The leftmost match of an expression that matches one byte of the set or more and nothing else, and of those from there the
-/// longest. No byte is read twice.
-pub fn search_turns(set: &Members, text: &[u8], from: usize) -> Option<(usize, usize)>
-    requires { from ≤ length text.now }
+/// longest. `only` is the one member of the set where it has no other. No byte is read twice.
+pub fn search_turns(
+    set: &Members,
+    only: Option<u8>,
+    text: &[u8],
+    from: usize,
+) -> Option<(usize, usize)>
+    requires only { IfSome only (λ byte. IsOnlyMember (members_of set.now) byte) }
+    requires within { from ≤ length text.now }
     ensures { (e : Regex) → IsTurns e (members_of set.now) → IsFound (Takes e text.now) from result }
 {
-    match first_member(set, text, from) {
+    match first_place(set, only, text, from) {
         None => None,
         Some(start) => Some((start, members_end(set, text, start + 1))),
     }
 }
 
-/// Whether a byte of the set stands at `from` or later.
-pub fn has_turns(set: &Members, text: &[u8], from: usize) -> bool
-    requires { from ≤ length text.now }
+/// Whether a byte of the set stands at `from` or later. `only` is its one member where it has no other.
+pub fn has_turns(set: &Members, only: Option<u8>, text: &[u8], from: usize) -> bool
+    requires only { IfSome only (λ byte. IsOnlyMember (members_of set.now) byte) }
+    requires within { from ≤ length text.now }
     ensures { (e : Regex) → IsTurns e (members_of set.now)
         → IsTrue result ↔ HasMatch (Takes e text.now) from }
 {
-    match search_turns(set, text, from) {
+    match search_turns(set, only, text, from) {
         None => false,
         Some(_) => true,
     }

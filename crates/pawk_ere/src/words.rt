@@ -38,8 +38,9 @@ pub enum Prefilter {
     Literal(Finder<'static>),
     /// The expression matches so many bytes of this set, at least one, and nothing else.
     Run(Box<Members>, usize),
-    /// The expression matches one byte of this set or more and nothing else.
-    Turns(Box<Members>),
+    /// The expression matches one byte of this set or more and nothing else. The byte is its one member, where it has no
+    /// other.
+    Turns(Box<Members>, Option<u8>),
     /// Each match holds one of these words. If there are none, nothing is known.
     Words(Vec<Finder<'static>>),
 }
@@ -224,8 +225,7 @@ fn of_copies(alloc: Global, count: u8, a: &Node) -> Result<Features, AllocError>
     Ok(all)
 }
 
-/// What to look for in a text before it is walked over. An anchored expression gives up early by itself, and one that is a byte
-/// again and again is looked for by the first.
+/// What to look for in a text before it is walked over. An anchored expression gives up early by itself.
 pub fn prefilter_of(alloc: Global, node: &Node) -> Result<Prefilter, AllocError>
     ensures { IfOk result (λ prefilter. IsPrefilter (regex_of node.now) prefilter) }
 {
@@ -240,9 +240,7 @@ pub fn prefilter_of(alloc: Global, node: &Node) -> Result<Prefilter, AllocError>
         }
     }
     if let Some(set) = turns_of(node) {
-        if set.only_member().is_none() {
-            return Ok(Prefilter::Turns(Box::new(alloc, *set)?));
-        }
+        return Ok(Prefilter::Turns(Box::new(alloc, *set)?, set.only_member()));
     }
     if is_anchored(node) {
         return Ok(Prefilter::Words(Vec::new(alloc)));

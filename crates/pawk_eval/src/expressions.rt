@@ -22,17 +22,14 @@ use crate::strings::textual;
 use pawk_code::expression::{Argument, Expr, Place};
 use pawk_code::leaf::Leaf;
 use pawk_places::{
-    Run, give_back, give_back_target, give_back_value, leaf_copy, leaf_text, leaf_truth,
+    LEVELS, Run, give_back, give_back_target, give_back_value, leaf_copy, leaf_text, leaf_truth,
     leaf_value, lent_number, plain_test, plain_value, push_place_text, quick_field, read_number,
-    read_place, take_buffer, value_with, write_place,
+    read_place, take_buffer, text_of_value, value_with, write_place,
 };
 use pawk_value::{
     Fault, Held, Value, ValueRef, hold, lend, lend_held, push_text_lent, to_num_lent, truth_lent,
 };
 use pawk_world::{Halt, World};
-
-/// So many levels of operations in the index of a field are tried at once before they are evaluated one by one.
-const LEVELS: u32 = 2;
 
 /// Lays down the value of an expression: its bytes are appended to `out`.
 #[cycle(evaluate)]
@@ -193,6 +190,26 @@ pub(crate) fn text_of_call<W: World>(
     push_text_lent(lend(&value), out)?;
     give_back_value(&mut run.spare, value);
     Ok(())
+}
+
+/// The text of the value of a call, in the buffer of that value if it has one.
+#[cycle(evaluate)]
+pub(crate) fn call_text<W: World>(
+    context: Context<'_>,
+    depth: u64,
+    f: usize,
+    arguments: &[Argument],
+    world: &mut W,
+    run: &mut Run<'_>,
+) -> Result<Vec<u8>, Halt>
+    ensures left { run.new.left ≤ run.old.left }
+    ensures outcome { Yields (λ text. text.items)
+        (as_text [] (eval W.calls (eres_of context.entry) (enter_of W.calls context.entry depth)
+        (codes.call f (codes.arguments (argument_views arguments.now))))
+        (moment (W.state world.old) run.old)) result (moment (W.state world.new) run.new) }
+{
+    let value = invoke(context, depth, f, arguments, world, run)?;
+    Ok(text_of_value(run.alloc, &mut run.spare, value)?)
 }
 
 /// Assigns the value of an expression to a place, and lays it down.
@@ -400,6 +417,9 @@ pub(crate) fn text<W: World>(
         (view e.now))
         (moment (W.state world.old) run.old)) result (moment (W.state world.new) run.new) }
 {
+    if let Expr::Call(f, arguments) = e {
+        return call_text(context, depth, *f, arguments, world, run);
+    }
     let mut text = take_buffer(run.alloc, &mut run.spare);
     text_into(context, depth, e, &mut text, world, run)?;
     Ok(text)
@@ -433,6 +453,11 @@ pub(crate) fn value<W: World>(
             } else {
                 value(context, depth, b, world, run)
             }
+        }
+        Expr::Textual(t) => {
+            let mut text = take_buffer(run.alloc, &mut run.spare);
+            textual(context, depth, t, &mut text, world, run)?;
+            Ok(Value::Text(text))
         }
         Expr::Call(f, arguments) => invoke(context, depth, *f, arguments, world, run),
         e => {

@@ -16,7 +16,9 @@ use crate::expressions::value;
 use crate::operations::array_parameter;
 use crate::statements::execute;
 use pawk_code::expression::Argument;
-use pawk_places::{Parameter, Run, give_back_frame, parameters, table_of, take_frame, tick};
+use pawk_places::{
+    Parameter, Run, close_arrays, give_back_frame, parameters, table_of, take_frame, tick,
+};
 use pawk_value::{Fault, Value};
 use pawk_world::{Halt, World};
 use std::mem;
@@ -100,7 +102,7 @@ pub(crate) fn call<W: World>(
             let flow = execute(context, depth - 1, &function.body, world, run)?;
             let frame = mem::replace(&mut run.frame, saved);
             give_back_frame(&mut run.spare, &mut run.frames, frame);
-            run.arrays.truncate(open);
+            close_arrays(&mut run.arrays, open);
             Ok(flow.value())
         }
     }

@@ -30,14 +30,11 @@ use pawk_code::leaf::Leaf;
 use pawk_code::name::Array;
 use pawk_code::word::Step;
 use pawk_places::{
-    Run, Separator, arithmetic_behind, change_place, give_back, give_back_target, leaf_length,
-    place_in, place_in_leaf, quick_number, set_match_place, split_into, table_of,
+    LEVELS, Run, Separator, arithmetic_behind, change_place, give_back, give_back_target,
+    leaf_length, place_in, place_in_leaf, quick_number, set_match_place, split_into, table_of,
 };
 use pawk_value::{Op, arith};
 use pawk_world::{Halt, World, sum};
-
-/// So many levels of operations in an operand are tried at once before they are evaluated one by one.
-const LEVELS: u32 = 2;
 
 /// What gives a number.
 #[cycle(evaluate)]

@@ -21,7 +21,8 @@ use pawk_code::expression::{Expr, Format, Textual};
 use pawk_places::{Run, give_back, quick_text};
 use pawk_world::{Halt, World};
 
-/// Appends what gives a text. A leaf of which a part is taken or whose letters change is not copied first.
+/// Appends what gives a text. A leaf of which a part is taken, and a leaf or a field by a number whose letters change, are not
+/// copied first.
 #[cycle(evaluate)]
 pub(crate) fn textual<W: World>(
     context: Context<'_>,

@@ -40,7 +40,7 @@ pub struct FieldStep {
 fn find_separator(text: &[u8], byte: u8, paragraph: bool) -> Option<usize>
     ensures { IsFirstByte (separates byte paragraph) text.now result }
 {
-    if paragraph {
+    if paragraph && byte != NEWLINE {
         memchr2(byte, NEWLINE, text)
     } else {
         memchr(byte, text)

@@ -26,6 +26,7 @@ fn begin_part<W: World>(world: &W, run: &mut Run<'_>, budget: u64)
         ≡ opening_moment budget (W.state world.now) (state_of run.old.state) run.old.output.items }
 {
     run.frame.clear();
+    // There are local arrays only where a part was left within a call, so that this call is seldom made.
     if !run.arrays.is_empty() {
         run.arrays.clear();
     }

@@ -4,3 +4,4 @@ pub mod Ready
 pub mod Joined
 pub mod Plain
 pub mod Appending
+pub mod Texts

@@ -2,29 +2,18 @@
 //!
 //! POSIX.1-2017, awk, "String Functions" (`tolower`, `toupper`).
 
-ghost use Rattle.std.specs.Prelude.{
-  ◌≡◌,
-  ◌≤◌,
-  ◌++◌,
-  ℕ,
-  List,
-  false,
-  true,
-  IfOk,
-  OnOk,
-};
+ghost use Rattle.std.specs.Prelude.{◌≡◌, ◌≤◌, ◌++◌, IfOk, OnOk};
 ghost use Rattle.pawk_value.specs.Conversion.{text_of};
 ghost use Rattle.pawk_value.specs.Held.{added};
-ghost use Rattle.pawk_value.specs.Value.{Val};
 ghost use Rattle.pawk_code.specs.Expressions as codes;
 ghost use Rattle.pawk_code.specs.ExpressionViews.{leaf_view, view};
 ghost use Rattle.pawk_meaning.specs.Builtins.{letters_in};
-ghost use Rattle.pawk_meaning.specs.Meaning.{leaf_value, text_of_textual};
-ghost use Rattle.pawk_meaning.specs.Parts.{Hold, Part, gives};
+ghost use Rattle.pawk_meaning.specs.Meaning.{leaf_value};
 ghost use Rattle.pawk_places.specs.Moments.{moment};
+ghost use Rattle.pawk_places.specs.Texts.{IsQuickText};
 
 use crate::leaves::{lend_leaf, prepare_leaf};
-use crate::quick::quick_field;
+use crate::quick::{LEVELS, quick_field};
 use crate::run::Run;
 use itoa::Buffer;
 use pawk_builtins::push_letters;
@@ -34,9 +23,6 @@ use pawk_code::word::Case;
 use pawk_value::text_in;
 use pawk_world::World;
 use std::alloc::AllocError;
-
-/// So many levels of operations in the number of a field are tried at once before they are evaluated one by one.
-const LEVELS: u32 = 2;
 
 /// Appends the text of a leaf with its ASCII letters in one case. Nothing else is copied.
 fn push_case<W: World>(
@@ -72,15 +58,8 @@ pub(crate) fn quick_letters<W: World>(
 ) -> Result<bool, AllocError>
     ensures same { moment (W.state world.now) run.new ≡ moment (W.state world.now) run.old }
     ensures left { run.new.left ≤ run.old.left }
-    ensures kept { IfOk result (λ pushed. pushed ≡ false → out.new.items ≡ out.old.items) }
-    ensures appended { IfOk result (λ pushed. pushed ≡ true
-        → out.new.items ≡ out.old.items ++ added out.old.items out.new.items) }
-    ensures text { IfOk result (λ pushed. pushed ≡ true → (eres : List (List ℕ))
-        → (enter : ℕ → List Hold → Part W.State Val)
-        → text_of_textual W.calls eres enter
-        (codes.letters case (view e.now))
-        (moment (W.state world.now) run.old)
-        ≡ gives (added out.old.items out.new.items) (moment (W.state world.now) run.old)) }
+    ensures text { IfOk result (λ found. IsQuickText W.calls (codes.letters case (view e.now))
+        (moment (W.state world.now) run.old) out.old.items out.new.items found) }
 {
     match e {
         Expr::Leaf(leaf) => push_case(case, leaf, out, world, run)?,

@@ -29,11 +29,11 @@ pub use leaves::{
 };
 pub use outputs::{key_of_texts, print_alone, print_bytes, print_line, tick};
 pub use plain::{are_plain, print_plain};
-pub use quick::{plain_test, plain_value, quick_field, quick_number, quick_numeric};
+pub use quick::{LEVELS, plain_test, plain_value, quick_field, quick_number, quick_numeric};
 pub use reading::{push_place_text, read_number, read_place};
 pub use run::{
-    Parameter, Run, give_back, give_back_frame, give_back_value, parameters, take_buffer,
-    take_frame, value_with,
+    Parameter, Run, close_arrays, give_back, give_back_frame, give_back_value, parameters,
+    take_buffer, take_frame, text_of_value, value_with,
 };
 pub use target::{Table, Target, element_target, give_back_target, table_of, variable_target};
 pub use texts::quick_text;

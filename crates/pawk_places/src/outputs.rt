@@ -7,7 +7,7 @@ ghost use Rattle.pawk_places.specs.Moments.{moment};
 ghost use Rattle.pawk_places.specs.Yields.{Yields};
 
 use crate::run::Run;
-use crate::scalars::{OFS, ORS, SUBSEP, push_joined, scalar_text};
+use crate::scalars::{OFS, ORS, SUBSEP, push_joined, push_separator, scalar_text};
 use itoa::Buffer;
 use pawk_array::Texts;
 use pawk_value::{Fault, LENGTH_LIMIT};
@@ -74,8 +74,7 @@ pub fn print_line<W: World>(texts: &Texts, world: &W, run: &mut Run<'_>) -> Resu
         scalar_text(OFS, world, &mut between),
         &mut run.output,
     )?;
-    run.output
-        .extend_from_slice(scalar_text(ORS, world, &mut behind))?;
+    push_separator(scalar_text(ORS, world, &mut behind), &mut run.output)?;
     Ok(())
 }
 
@@ -91,8 +90,7 @@ pub fn print_alone<W: World>(text: &[u8], world: &W, run: &mut Run<'_>) -> Resul
 {
     let mut behind = Buffer::new();
     run.output.extend_from_slice(text)?;
-    run.output
-        .extend_from_slice(scalar_text(ORS, world, &mut behind))?;
+    push_separator(scalar_text(ORS, world, &mut behind), &mut run.output)?;
     Ok(())
 }
 

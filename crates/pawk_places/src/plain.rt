@@ -33,7 +33,7 @@ use crate::leaves::leaf_text;
 use crate::outputs::print_alone;
 use crate::quick::quick_numeric;
 use crate::run::{Run, give_back, take_buffer};
-use crate::scalars::{OFS, scalar_text};
+use crate::scalars::{OFS, push_separator, scalar_text};
 use itoa::Buffer;
 use pawk_code::expression::{Expr, Numeric};
 use pawk_code::leaf::Leaf;
@@ -143,7 +143,7 @@ fn push_between(number: usize, ofs: &[u8], out: &mut Vec<u8>) -> Result<(), Allo
     if number == 0 {
         return Ok(());
     }
-    out.extend_from_slice(ofs)
+    push_separator(ofs, out)
 }
 
 /// Appends the texts of expressions with OFS between them, as long as each is found without an effect. Says

@@ -19,6 +19,10 @@ use pawk_code::leaf::Leaf;
 use pawk_value::arith;
 use pawk_world::World;
 
+/// So many levels of operations are tried at once in an operand, a place, a length or the number of a field, before they are
+/// evaluated one by one.
+pub const LEVELS: u32 = 2;
+
 /// The number of a leaf, if it has one.
 #[inline(always)]
 fn quick_leaf<W: World>(leaf: &Leaf, world: &W, run: &mut Run<'_>) -> Option<i64>

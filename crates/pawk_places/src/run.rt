@@ -1,7 +1,8 @@
 //! What a run of one record, or of BEGIN or END, has beside the globals.
 
-ghost use Rattle.std.specs.Prelude.{◌≡◌, ◌++◌, ◌∷◌, [], List, IfOk};
+ghost use Rattle.std.specs.Prelude.{◌≡◌, ◌≤◌, ◌++◌, ◌∷◌, [], List, length, take, IfOk};
 ghost use Rattle.pawk_meaning.specs.Parts.{Hold, entry_of, with_locals};
+ghost use Rattle.pawk_value.specs.Conversion.{text_of};
 ghost use Rattle.pawk_value.specs.Held.{held_value};
 ghost use Rattle.pawk_value.specs.Value.{shown};
 ghost use Rattle.pawk_places.specs.Moments.{hold_of, holds_of};
@@ -10,7 +11,7 @@ use pawk_array::Array;
 use pawk_builtins::Matchers;
 use pawk_code::program::Kind;
 use pawk_store::RecordState;
-use pawk_value::{Held, Value};
+use pawk_value::{Held, Value, ValueRef, push_text_lent};
 use std::alloc::{AllocError, Global};
 
 /// What a parameter of a function that runs holds.
@@ -93,6 +94,25 @@ pub fn value_with(spare: &mut Vec<Vec<u8>>, held: Held, bytes: Vec<u8>) -> Value
     }
 }
 
+/// The text of a value, in its own buffer if it has one.
+pub fn text_of_value(
+    alloc: Global,
+    spare: &mut Vec<Vec<u8>>,
+    value: Value,
+) -> Result<Vec<u8>, AllocError>
+    ensures { IfOk result (λ text. text.items ≡ text_of (shown value)) }
+{
+    match value {
+        Value::Text(bytes) | Value::Maybe(bytes) => Ok(bytes),
+        Value::Num(number) => {
+            let mut text = take_buffer(alloc, spare);
+            push_text_lent(ValueRef::Num(number), &mut text)?;
+            Ok(text)
+        }
+        Value::Uninit => Ok(take_buffer(alloc, spare)),
+    }
+}
+
 /// An empty frame, in the room of a call that has ended, if there is one.
 pub fn take_frame(alloc: Global, frames: &mut Vec<Vec<Parameter>>) -> Vec<Parameter>
     ensures { result.items ≡ [] }
@@ -140,10 +160,42 @@ fn open_local(alloc: Global, kind: Kind, arrays: &mut Vec<Array>) -> Result<Para
     }
 }
 
+/// Closes the local arrays that were opened behind the first so many.
+#[inline(always)]
+pub fn close_arrays(arrays: &mut Vec<Array>, count: usize)
+    ensures { arrays.new.items ≡ take count arrays.old.items }
+{
+    if count < arrays.len() {
+        arrays.truncate(count);
+    }
+}
+
+/// The parameters of a call with fewer arguments: these, and for each kind behind them a fresh one, a
+/// scalar without a value, or an empty array that is opened.
+fn fill_frame(
+    alloc: Global,
+    arguments: Vec<Parameter>,
+    kinds: &[Kind],
+    arrays: &mut Vec<Array>,
+) -> Result<Vec<Parameter>, AllocError>
+    requires { length arguments.items ≤ length kinds.now }
+    ensures { IfOk result (λ frame. entry_of kinds.now (holds_of arguments.items) arrays.old.items
+        ≡ record { frame = holds_of frame.items; arrays = arrays.new.items }) }
+{
+    let mut frame = arguments;
+    let given = frame.len();
+    for kind in &kinds[given..] {
+        let parameter = open_local(alloc, *kind, arrays)?;
+        frame.push(parameter)?;
+    }
+    Ok(frame)
+}
+
 /// The parameters of a call: the arguments, and for each kind behind them a fresh one, a scalar
 /// without a value, or an empty array that is opened.
 ///
 /// POSIX.1-2017, awk, "User-Defined Functions".
+#[inline(always)]
 pub fn parameters(
     alloc: Global,
     arguments: Vec<Parameter>,
@@ -153,13 +205,8 @@ pub fn parameters(
     ensures { IfOk result (λ frame. entry_of kinds.now (holds_of arguments.items) arrays.old.items
         ≡ record { frame = holds_of frame.items; arrays = arrays.new.items }) }
 {
-    let mut frame = arguments;
-    let given = frame.len();
-    if given < kinds.len() {
-        for kind in &kinds[given..] {
-            let parameter = open_local(alloc, *kind, arrays)?;
-            frame.push(parameter)?;
-        }
+    if arguments.len() < kinds.len() {
+        return fill_frame(alloc, arguments, kinds, arrays);
     }
-    Ok(frame)
+    Ok(arguments)
 }

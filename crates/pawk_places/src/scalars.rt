@@ -35,6 +35,18 @@ pub(crate) fn scalar_text<'a, W: World>(
     text_in(world.scalar(slot), buffer)
 }
 
+/// Appends what separates or ends texts: a byte, as it mostly is, without a call that copies.
+#[inline(always)]
+pub(crate) fn push_separator(separator: &[u8], out: &mut Vec<u8>) -> Result<(), AllocError>
+    ensures { OnOk result (out.new.items ≡ out.old.items ++ separator.now) }
+{
+    match separator {
+        [byte] => out.push(*byte)?,
+        _ => out.extend_from_slice(separator)?,
+    }
+    Ok(())
+}
+
 /// Appends the first of some texts, if there is one.
 fn push_first(texts: &Texts, out: &mut Vec<u8>) -> Result<(), AllocError>
     ensures { OnOk result (out.new.items ≡ out.old.items ++ first_of texts.now) }
@@ -55,7 +67,7 @@ pub(crate) fn push_joined(
 {
     push_first(texts, out)?;
     for number in 1..texts.len() {
-        out.extend_from_slice(separator)?;
+        push_separator(separator, out)?;
         out.extend_from_slice(texts.text(number))?;
     }
     Ok(())

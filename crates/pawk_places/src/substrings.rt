@@ -2,31 +2,18 @@
 //!
 //! POSIX.1-2017, awk, "String Functions" (`substr`).
 
-ghost use Rattle.std.specs.Prelude.{
-  ◌≡◌,
-  ◌≤◌,
-  ◌++◌,
-  ℕ,
-  List,
-  false,
-  int_le,
-  pos,
-  true,
-  IfOk,
-  OnOk,
-};
+ghost use Rattle.std.specs.Prelude.{◌≡◌, ◌≤◌, ◌++◌, int_le, pos, IfOk, OnOk};
 ghost use Rattle.pawk_value.specs.Conversion.{text_of};
 ghost use Rattle.pawk_value.specs.Held.{added};
-ghost use Rattle.pawk_value.specs.Value.{Val};
 ghost use Rattle.pawk_code.specs.Expressions as codes;
 ghost use Rattle.pawk_code.specs.ExpressionViews.{leaf_view, view};
 ghost use Rattle.pawk_meaning.specs.Builtins.{bytes_where, is_from};
-ghost use Rattle.pawk_meaning.specs.Meaning.{leaf_value, text_of_textual};
-ghost use Rattle.pawk_meaning.specs.Parts.{Hold, Part, gives};
+ghost use Rattle.pawk_meaning.specs.Meaning.{leaf_value};
 ghost use Rattle.pawk_places.specs.Moments.{moment};
+ghost use Rattle.pawk_places.specs.Texts.{IsQuickText};
 
 use crate::leaves::{lend_leaf, prepare_leaf};
-use crate::quick::quick_number;
+use crate::quick::{LEVELS, quick_number};
 use crate::run::Run;
 use itoa::Buffer;
 use pawk_builtins::{substring, suffix};
@@ -35,9 +22,6 @@ use pawk_code::leaf::Leaf;
 use pawk_value::text_in;
 use pawk_world::World;
 use std::alloc::AllocError;
-
-/// So many levels of operations in a place or a length are tried at once before they are evaluated one by one.
-const LEVELS: u32 = 2;
 
 /// Appends the text of a leaf from a place on, counted from 1. Nothing else is copied.
 fn push_suffix<W: World>(
@@ -97,14 +81,9 @@ pub(crate) fn quick_suffix<W: World>(
 ) -> Result<bool, AllocError>
     ensures same { moment (W.state world.now) run.new ≡ moment (W.state world.now) run.old }
     ensures left { run.new.left ≤ run.old.left }
-    ensures kept { IfOk result (λ pushed. pushed ≡ false → out.new.items ≡ out.old.items) }
-    ensures appended { IfOk result (λ pushed. pushed ≡ true
-        → out.new.items ≡ out.old.items ++ added out.old.items out.new.items) }
-    ensures text { IfOk result (λ pushed. pushed ≡ true → (eres : List (List ℕ))
-        → (enter : ℕ → List Hold → Part W.State Val)
-        → text_of_textual W.calls eres enter (codes.suffix (view e.now) (view from.now))
-        (moment (W.state world.now) run.old)
-        ≡ gives (added out.old.items out.new.items) (moment (W.state world.now) run.old)) }
+    ensures text { IfOk result (λ found. IsQuickText W.calls
+        (codes.suffix (view e.now) (view from.now))
+        (moment (W.state world.now) run.old) out.old.items out.new.items found) }
 {
     let Expr::Leaf(leaf) = e else {
         return Ok(false);
@@ -130,15 +109,9 @@ pub(crate) fn quick_substring<W: World>(
 ) -> Result<bool, AllocError>
     ensures same { moment (W.state world.now) run.new ≡ moment (W.state world.now) run.old }
     ensures left { run.new.left ≤ run.old.left }
-    ensures kept { IfOk result (λ pushed. pushed ≡ false → out.new.items ≡ out.old.items) }
-    ensures appended { IfOk result (λ pushed. pushed ≡ true
-        → out.new.items ≡ out.old.items ++ added out.old.items out.new.items) }
-    ensures text { IfOk result (λ pushed. pushed ≡ true → (eres : List (List ℕ))
-        → (enter : ℕ → List Hold → Part W.State Val)
-        → text_of_textual W.calls eres enter
+    ensures text { IfOk result (λ found. IsQuickText W.calls
         (codes.substring (view e.now) (view from.now) (view count.now))
-        (moment (W.state world.now) run.old)
-        ≡ gives (added out.old.items out.new.items) (moment (W.state world.now) run.old)) }
+        (moment (W.state world.now) run.old) out.old.items out.new.items found) }
 {
     let Expr::Leaf(leaf) = e else {
         return Ok(false);

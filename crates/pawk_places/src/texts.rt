@@ -2,13 +2,10 @@
 //!
 //! POSIX.1-2017, awk, "String Functions".
 
-ghost use Rattle.std.specs.Prelude.{◌≡◌, ◌≤◌, ◌++◌, ℕ, List, false, true, IfOk};
-ghost use Rattle.pawk_value.specs.Held.{added};
-ghost use Rattle.pawk_value.specs.Value.{Val};
+ghost use Rattle.std.specs.Prelude.{◌≡◌, ◌≤◌, IfOk};
 ghost use Rattle.pawk_code.specs.ExpressionViews.{textual_view};
-ghost use Rattle.pawk_meaning.specs.Meaning.{text_of_textual};
-ghost use Rattle.pawk_meaning.specs.Parts.{Hold, Part, gives};
 ghost use Rattle.pawk_places.specs.Moments.{moment};
+ghost use Rattle.pawk_places.specs.Texts.{IsQuickText};
 
 use crate::letters::quick_letters;
 use crate::run::Run;
@@ -30,14 +27,8 @@ pub fn quick_text<W: World>(
 ) -> Result<bool, AllocError>
     ensures same { moment (W.state world.now) run.new ≡ moment (W.state world.now) run.old }
     ensures left { run.new.left ≤ run.old.left }
-    ensures kept { IfOk result (λ pushed. pushed ≡ false → out.new.items ≡ out.old.items) }
-    ensures appended { IfOk result (λ pushed. pushed ≡ true
-        → out.new.items ≡ out.old.items ++ added out.old.items out.new.items) }
-    ensures text { IfOk result (λ pushed. pushed ≡ true → (eres : List (List ℕ))
-        → (enter : ℕ → List Hold → Part W.State Val)
-        → text_of_textual W.calls eres enter (textual_view t.now)
-        (moment (W.state world.now) run.old)
-        ≡ gives (added out.old.items out.new.items) (moment (W.state world.now) run.old)) }
+    ensures text { IfOk result (λ found. IsQuickText W.calls (textual_view t.now)
+        (moment (W.state world.now) run.old) out.old.items out.new.items found) }
 {
     match t {
         Textual::Suffix(e, from) => quick_suffix(e, from, out, world, run),

@@ -1,13 +1,17 @@
 -- How many records begin in a part of the bytes.
-use Rattle.std.proofs.Common.{◌≡◌, inl, inr, ℕ, zero, suc, ◌+◌, ◌-◌, ◌<◌, ◌≤◌, Bool, true, false, cond, eqb, List, [], ◌∷◌, length, take, drop, get_or, refl, ap, arith, sym, ◌∙◌}
+use Rattle.std.proofs.Common.{◌≡◌, inl, inr, ℕ, zero, suc, ◌+◌, ◌-◌, ◌<◌, ◌≤◌, Bool, true, false, cond, eqb, List, [], ◌∷◌, length, length-append, take, drop, get_or, refl, ap, arith, sym, ◌∙◌}
 use Rattle.std.proofs.lemmas.Bool.Decides.{eqb_tells}
 use Rattle.std.proofs.lemmas.List.{drop_more}
+use mir.Val.{bool_byte}
 use Rattle.std.proofs.lemmas.List.Sums.{sum_by-cons}
 use Rattle.std.specs.List.{count_by}
-use Rattle.memchr.specs.Find.{is_byte, Nowhere}
-use Rattle.pawk_records.specs.Begins.{is_after, begins_at, BeginsAt, places_where}
-use Rattle.pawk_records.proofs.PlaceLemmas.{places_where-none, places_where-first}
-use Rattle.pawk_records.proofs.BeginsLemmas.{begins_at-take}
+use Rattle.memchr.specs.Find.{is_byte}
+use Rattle.pawk_records.specs.Begins.{is_after, begins_at, places_where}
+use Rattle.pawk_records.proofs.PlaceLemmas.{places_where-append}
+
+length_cond : (v : Bool) (x : ℕ) (l : List ℕ) → length (cond v (x ∷ l) l) ≡ cond v 1 0 + length l
+length_cond true x l = omega arith
+length_cond false x l = omega arith
 
 module _ (e : ℕ) (s : List ℕ) where
   -- behind each separator a line begins
@@ -25,30 +29,28 @@ module _ (e : ℕ) (s : List ℕ) where
       front ∙ ap (λ v. cond v 1 0 + length (places_where (is_after e s) (i + 1 + 1) n)) flag
       ∙ ap (λ m. cond (eqb (get_or s i 0) e) 1 0 + m) later
       ∙ sym (ap (λ l. count_by (is_byte e) (take (suc n) l)) here ∙ counts)
-    where
-      length_cond : (v : Bool) (x : ℕ) (l : List ℕ) → length (cond v (x ∷ l) l) ≡ cond v 1 0 + length l
-      length_cond true x l = omega arith
-      length_cond false x l = omega arith
 
--- one more begins at the first place found
-module _ (rs s : List ℕ) (end from : ℕ) (within : end ≤ length s) where
-  not_true : (v : Bool) → (v ≡ true → ⊥) → v ≡ false
-  not_true true h = absurd (h refl)
-  not_true false h = refl
+-- the places from one on: it, and those behind it
+pub count_place : (test : ℕ → Bool) (end from : ℕ) → from < end → length (places_where test from (end - from)) ≡ cond (test from) 1 0 + length (places_where test (from + 1) (end - (from + 1)))
+count_place test end from lt =
+    let n : end - from ≡ suc (end - (from + 1)) = omega arith in
+    ap (λ k. length (places_where test from k)) n ∙ length_cond (test from) from (places_where test (from + 1) (end - (from + 1)))
 
-  pub count_first : (p : ℕ) → from ≤ p → p < end → Nowhere (BeginsAt rs (take end s)) from p → BeginsAt rs (take end s) p
-      → length (places_where (begins_at rs s) from (end - from)) ≡ 1 + length (places_where (begins_at rs s) (p + 1) (end - (p + 1)))
-  count_first p le lt none is =
-      let n : from + (end - from) - (p + 1) ≡ end - (p + 1) = omega arith in
-      ap length (places_where-first (begins_at rs s) from p (end - from) le (omega arith)
-      (λ k low high. sym (begins_at-take rs s end k (omega arith)) ∙ not_true (begins_at rs (take end s) k) (none k low high))
-      (sym (begins_at-take rs s end p lt) ∙ is))
-      ∙ ap (λ m. length (p ∷ places_where (begins_at rs s) (p + 1) m)) n ∙ (let one : length (p ∷ places_where (begins_at rs s) (p + 1) (end - (p + 1))) ≡ 1 + length (places_where (begins_at rs s) (p + 1) (end - (p + 1))) = omega arith in one)
+-- the byte of a test: one where it holds, and else none
+pub flag_counts : (v w : Bool) (r : ℕ) → r ≡ bool_byte v → v ≡ w → (r ≡ cond w 1 0) × (r ≤ 1)
+flag_counts true true r is same = (is, omega (arith, is))
+flag_counts false false r is same = (is, omega (arith, is))
+flag_counts true false r is same = cc
+flag_counts false true r is same = cc
 
-  pub count_none : from ≤ end → Nowhere (BeginsAt rs (take end s)) from end → length (places_where (begins_at rs s) from (end - from)) ≡ 0
-  count_none le none =
-      ap length (places_where-none (begins_at rs s) from (end - from)
-      (λ k low high. sym (begins_at-take rs s end k (omega arith)) ∙ not_true (begins_at rs (take end s) k) (none k low (omega arith))))
+-- the places up to one, and those from there on
+pub count_parts : (test : ℕ → Bool) (from size end : ℕ) → from + size ≤ end → length (places_where test from (end - from)) ≡ length (places_where test from (from + size - from)) + length (places_where test (from + size) (end - (from + size)))
+count_parts test from size end le =
+    let n : end - from ≡ size + (end - (from + size)) = omega arith in
+    let m : from + size - from ≡ size = omega arith in
+    ap (λ k. length (places_where test from k)) n ∙ ap length (places_where-append test from size (end - (from + size)))
+    ∙ length-append (places_where test from size) (places_where test (from + size) (end - (from + size)))
+    ∙ ap (λ k. length (places_where test from k) + length (places_where test (from + size) (end - (from + size)))) (sym m)
 
 -- the lines that begin in a part of the bytes
 module _ (e : ℕ) (s : List ℕ) where

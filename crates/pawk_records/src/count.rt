@@ -1,15 +1,15 @@
 //! Counting the records of bytes.
 
-ghost use Rattle.std.specs.Prelude.{◌≡◌, ◌≤◌, [], ◌∷◌, count_by, length};
+ghost use Rattle.std.specs.Prelude.{◌≡◌, ◌+◌, ◌≤◌, [], ◌∷◌, count_by, length};
 ghost use Rattle.memchr.specs.Find.{is_byte};
 ghost use Rattle.pawk_records.specs.Records.{paragraphs, records};
 ghost use Rattle.pawk_records.specs.Begins.{begins_within};
 
-use crate::paragraphs::{next_paragraph, split_paragraph};
+use crate::paragraphs::{begins_far_paragraph, begins_paragraph, split_paragraph};
 
 /// How many bytes are counted at a time: so few that a `u8` counts them, which lets the processor
 /// count many side by side.
-const BLOCK: usize = 240;
+const BLOCK: usize = 224;
 
 /// How many of a few bytes are `byte`.
 #[inline]
@@ -85,18 +85,51 @@ pub(crate) fn count_line_begins(bytes: &[u8], start: usize, end: usize, separato
     count_byte(&bytes[start - 1..end - 1], separator)
 }
 
+/// How many paragraphs begin from place `start` up to place `end`: a few places, with two bytes or more in front of them.
+#[inline]
+fn count_block_begins(bytes: &[u8], start: usize, end: usize) -> u8
+    requires behind { 2 ≤ start }
+    requires rising { start ≤ end }
+    requires within { end ≤ length bytes.now }
+    requires few { end ≤ start + BLOCK }
+    ensures { result ≡ length (begins_within [] bytes.now start end) }
+{
+    let mut count = 0;
+    for place in start..end {
+        count += u8::from(begins_far_paragraph(bytes, place));
+    }
+    count
+}
+
+/// How many paragraphs begin from place `start` up to place `end`, with two bytes or more in front of them.
+fn count_far_begins(bytes: &[u8], start: usize, end: usize) -> usize
+    requires behind { 2 ≤ start }
+    requires rising { start ≤ end }
+    requires within { end ≤ length bytes.now }
+    ensures { result ≡ length (begins_within [] bytes.now start end) }
+{
+    let mut count = 0;
+    let mut from = start;
+    while from < end {
+        let next = from + BLOCK.min(end - from);
+        count += usize::from(count_block_begins(bytes, from, next));
+        from = next;
+    }
+    count
+}
+
 /// How many paragraphs begin from place `start` up to place `end`.
 pub(crate) fn count_paragraph_begins(bytes: &[u8], start: usize, end: usize) -> usize
     requires rising { start ≤ end }
     requires within { end ≤ length bytes.now }
     ensures { result ≡ length (begins_within [] bytes.now start end) }
 {
-    let (front, _) = bytes.split_at(end);
-    let mut count = 0;
-    let mut from = start;
-    while let Some(place) = next_paragraph(front, from) {
-        count += 1;
-        from = place + 1;
+    if start >= end {
+        return 0;
     }
-    count
+    if start >= 2 {
+        return count_far_begins(bytes, start, end);
+    }
+    let first = usize::from(begins_paragraph(bytes, start));
+    first + count_paragraph_begins(bytes, start + 1, end)
 }

@@ -73,6 +73,17 @@ pub(crate) fn begins_paragraph(bytes: &[u8], place: usize) -> bool
         && bytes[place] != NEWLINE
 }
 
+/// Whether a paragraph begins at a place of the bytes with two bytes or more in front of it. All three are looked at, which
+/// lets the processor look at many places side by side.
+#[inline(always)]
+pub(crate) fn begins_far_paragraph(bytes: &[u8], place: usize) -> bool
+    requires behind { 2 ≤ place }
+    requires within { place < length bytes.now }
+    ensures { result ≡ begins_at [] bytes.now place }
+{
+    (bytes[place - 1] == NEWLINE) & (bytes[place - 2] == NEWLINE) & (bytes[place] != NEWLINE)
+}
+
 /// The first place from `from` on at which a paragraph begins.
 pub(crate) fn next_paragraph(bytes: &[u8], from: usize) -> Option<usize>
     ensures { IsFirst (BeginsAt [] bytes.now) from (length bytes.now) result }

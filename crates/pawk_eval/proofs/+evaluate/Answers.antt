@@ -59,6 +59,17 @@ expressions::text_into-returns-in-Call-clause-outcome g t c =
     let is = call_shape c.args.e.now c.in-Call.f c.in-Call.arguments c.deref.result.now c.in-Call.is c.deref.ensures.value in
     rw is c.text_of_call.ensures.outcome
 
+pub expressions::text-call_text-requires : goal.expressions::text-call_text-requires
+expressions::text-call_text-requires g t c =
+    let is = call_shape c.args.e.now c.in-Call.f c.in-Call.arguments c.deref.result.now c.in-Call.is c.deref.ensures.value in
+    let falls : arguments_weight (arguments (argument_views c.deref.result.now)) + 2 < weight (view c.args.e.now) + 3 = rw is (omega arith) in
+    search rules
+
+pub expressions::text-returns-in-Call-clause-outcome : goal.expressions::text-returns-in-Call-clause-outcome
+expressions::text-returns-in-Call-clause-outcome g t c =
+    let is = call_shape c.args.e.now c.in-Call.f c.in-Call.arguments c.deref.result.now c.in-Call.is c.deref.ensures.value in
+    rw is c.call_text.ensures.outcome
+
 pub expressions::value-invoke-requires : goal.expressions::value-invoke-requires
 expressions::value-invoke-requires g t c =
     let is = call_shape c.args.e.now c.in-Call.f c.in-Call.arguments c.deref-in-Call.result.now c.in-Call.is c.deref-in-Call.ensures.value in

@@ -28,6 +28,9 @@ decreases-expressions::number_of_call g l = rank (functions_of l.context) l.dept
 abbrev pub decreases-expressions::text_of_call : goal.decreases-expressions::text_of_call
 decreases-expressions::text_of_call g l = rank (functions_of l.context) l.depth (arguments_weight (arguments (argument_views l.arguments.now)) + 2)
 
+abbrev pub decreases-expressions::call_text : goal.decreases-expressions::call_text
+decreases-expressions::call_text g l = rank (functions_of l.context) l.depth (arguments_weight (arguments (argument_views l.arguments.now)) + 2)
+
 abbrev pub decreases-expressions::assign : goal.decreases-expressions::assign
 decreases-expressions::assign g l = rank (functions_of l.context) l.depth (place_weight (place_view l.to.now) + weight (view l.e.now) + 1)
 

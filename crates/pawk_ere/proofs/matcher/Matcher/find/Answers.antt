@@ -1,10 +1,11 @@
 use Rattle.pawk_machine.specs.Members.{members_of}
-use Rattle.std.proofs.Common.{ℕ, List, Option, None, Result, Ok, Err, IfOk, subst, sym}
+use Rattle.std.proofs.Common.{ℕ, List, Option, None, Result, Ok, Err, IfOk, IfSome, subst, sym}
 use Rattle.std.specs.declared.alloc.AllocError.{AllocError}
 use Rattle.pawk_ere.specs.Answers.{IsAnswer, IsFor}
 use Rattle.pawk_pattern.specs.Pattern.{Pattern, Matches, IsFound}
 use Rattle.pawk_ere.specs.Runs.{IsRun, IsTurns}
 use Rattle.pawk_ere.specs.Words.{IsPrefilter}
+use Rattle.pawk_pattern.specs.Sets.{IsOnlyMember}
 use Rattle.pawk_machine.specs.declared.members.Members.{Members}
 use Rattle.pawk_machine.specs.Regex.{Takes}
 use Rattle.pawk_machine.specs.Tree.{regex_of}
@@ -42,8 +43,13 @@ returns-in-Run-clause-answer c = λ e for.
     found_map (Takes (regex_of c.self.inside.node) c.args.text.now) (Matches e c.args.text.now) c.args.from c.search_run.result ((subst (λ n. IsFor e n) (sym c.self.view_is) for).same c.args.text.now)
     (c.search_run.ensures (regex_of c.self.inside.node) (subst (λ (set : Members). IsRun (regex_of c.self.inside.node) (members_of set) c.in-Run.count) (sym c.deref.ensures) tells.0))
 
+pub search_turns-requires-clause-only : goal.search_turns-requires-clause-only
+search_turns-requires-clause-only c =
+    let tells = subst (IsPrefilter (regex_of c.self.inside.node)) c.in-Turns.is c.self.invariant.tells in
+    subst (λ (set : Members). IfSome c.in-Turns.only (λ byte. IsOnlyMember (members_of set) byte)) (sym c.deref-in-Turns.ensures) tells.1
+
 pub returns-in-Turns-clause-answer : goal.returns-in-Turns-clause-answer
 returns-in-Turns-clause-answer c = λ e for.
     let tells = subst (IsPrefilter (regex_of c.self.inside.node)) c.in-Turns.is c.self.invariant.tells in
     found_map (Takes (regex_of c.self.inside.node) c.args.text.now) (Matches e c.args.text.now) c.args.from c.search_turns.result ((subst (λ n. IsFor e n) (sym c.self.view_is) for).same c.args.text.now)
-    (c.search_turns.ensures (regex_of c.self.inside.node) (subst (λ (set : Members). IsTurns (regex_of c.self.inside.node) (members_of set)) (sym c.deref-in-Turns.ensures) tells))
+    (c.search_turns.ensures (regex_of c.self.inside.node) (subst (λ (set : Members). IsTurns (regex_of c.self.inside.node) (members_of set)) (sym c.deref-in-Turns.ensures) tells.0))

@@ -1,7 +1,7 @@
 use Rattle.std.proofs.Common.{◌≡◌, drop}
 use Rattle.pawk_meaning.specs.Parts.{entry_of, with_locals}
 use Rattle.pawk_places.specs.Moments.{holds_of}
-use Rattle.pawk_places.proofs.run.parameters.Given as goal
+use Rattle.pawk_places.proofs.run.fill_frame.Given as goal
 
 abbrev pub invariant-loop-kind : goal.invariant-loop-kind
 invariant-loop-kind l =
