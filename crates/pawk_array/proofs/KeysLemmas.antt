@@ -1,5 +1,5 @@
 -- Keys in order, and keys in one room.
-use Rattle.std.proofs.Common.{◌≡◌, ℕ, zero, suc, ◌+◌, ◌-◌, ◌<◌, ◌≤◌, Bool, true, false, cond, List, [], ◌∷◌, ◌++◌, length, map, get_or, take, drop, refl, sym, ◌∙◌, ap, arith, length-drop, Option, None, Some}
+use Rattle.std.proofs.Common.{◌≡◌, ℕ, zero, suc, ◌+◌, ◌-◌, ◌<◌, ◌≤◌, Bool, true, false, cond, List, [], ◌∷◌, ◌++◌, length, map, get_or, drop, refl, sym, ◌∙◌, ap, arith, length-drop, Option, None, Some}
 use Rattle.std.specs.Prelude.{is_some, slice_range, ◌&&◌, ◌||◌}
 use Rattle.std.specs.List.{AllByRecursion, IsDistinct, list_any}
 use Rattle.std.specs.List.Sorted.{IsPermutation, IsSorted, IsStrictlySortedBy}
@@ -16,10 +16,8 @@ use Rattle.std.proofs.lemmas.List.Sorted.{list_any-IsPermutation}
 use Rattle.std.proofs.Math.Seq.{drop-append_seam, take-length}
 use Rattle.std.proofs.lemmas.Map.Keys.{sorted_from_all_adjacent, apart_from_distinct, IsDistinct-IsPermutation}
 use Rattle.std.proofs.lemmas.Slice.Eq.{bytes_eq-Decides}
-use Rattle.pawk_scalar.specs.declared.values.Value.{Value}
 use Rattle.pawk_array.specs.Entries.{Entries, Rise, order, keys}
 use Rattle.pawk_array.specs.declared.headed.Headed.{Headed}
-use Rattle.pawk_array.specs.declared.key.Key.{Key}
 use Rattle.pawk_array.specs.Keys.{text_of}
 use Rattle.pawk_array.specs.ArrayViews.{entries_of}
 use Rattle.pawk_array.specs.Texts.{texts_in, AreWithin}
@@ -145,12 +143,3 @@ sorted_from first xs h k d low below =
 pub sorted_texts : (xs : List Headed) → IsSorted (λ x y. order x.text.now y.text.now) xs → IsSorted order (map (λ x. x.text.now) xs)
 sorted_texts [] h = λ k d low below. absurd (omega (arith, below))
 sorted_texts (x ∷ xs) h = sorted_from x (x ∷ xs) h
-
-take-nil : (n : ℕ) → take {A = Key × Value} n [] ≡ []
-take-nil zero = refl
-take-nil (suc n) = refl
-
-pub take_all : (es : Pairs) (n : ℕ) → length es ≤ n → take n es ≡ es
-take_all [] n h = take-nil n
-take_all (e ∷ es) zero h = absurd (omega (arith, h))
-take_all (e ∷ es) (suc n) h = ap (λ xs. e ∷ xs) (take_all es n (omega (arith, h)))

@@ -1,5 +1,5 @@
 -- Expressions that are some bytes and nothing else.
-use Rattle.std.proofs.Common.{◌≡◌, ℕ, ◌+◌, ◌-◌, ◌<◌, ◌≤◌, Bool, drop, take, zero, suc, length-drop, List, [], ◌∷◌, ◌++◌, length, get_or, Some, None, refl, sym, ap, ◌∙◌, subst, ⊎_elim, arith, length-append}
+use Rattle.std.proofs.Common.{◌≡◌, ℕ, ◌+◌, ◌-◌, ◌<◌, ◌≤◌, Bool, drop, take, length-drop, List, [], ◌∷◌, ◌++◌, length, get_or, Some, None, refl, sym, ap, ◌∙◌, subst, ⊎_elim, arith, length-append}
 use Rattle.std.proofs.lemmas.Bool.{cases_lt}
 use Rattle.std.proofs.lemmas.List.{get_or_append_left, get_or-drop}
 use Rattle.std.proofs.Math.Seq.{get_or-append_right}
@@ -8,6 +8,7 @@ use Rattle.memchr.specs.Find.{OccursAt}
 use Rattle.pawk_pattern.specs.Pattern.{Holds, IsFound}
 use Rattle.pawk_ere.specs.Words.{IsLiteral}
 use Rattle.pawk_machine.proofs.Leftmost.{found_none, found_first}
+use Rattle.pawk_machine.proofs.Walks.{tail}
 use Rattle.pawk_machine.specs.Regex.{Regex, Bytes, Sequence, Takes}
 
 pub occurs_join : (s x y : List ℕ) (i : ℕ) → OccursAt s x i → OccursAt s y (i + length x) → OccursAt s (x ++ y) i
@@ -70,16 +71,6 @@ literal_byte members byte holds only s i j = (
     read o =
         let here : i ≡ i + 0 = omega arith in
         ap (slice_index s) here ∙ o.reads 0 (omega arith)
-
--- a slice from a place on, as the code writes it
-tail : (s : List ℕ) (n : ℕ) → take (length s - n) (drop n s) ≡ drop n s
-tail s n = take_all (drop n s) (length s - n) (omega (arith, length-drop n s))
-  where
-    take_all : (xs : List ℕ) (k : ℕ) → length xs ≤ k → take k xs ≡ xs
-    take_all [] zero le = refl
-    take_all [] (suc k) le = refl
-    take_all (x ∷ xs) zero le = absurd (omega arith)
-    take_all (x ∷ xs) (suc k) le = ap (λ ys. x ∷ ys) (take_all xs k (omega arith))
 
 pub occurs_ahead : (s needle : List ℕ) (from k : ℕ) → OccursAt (drop from s) needle k → from ≤ length s → OccursAt s needle (from + k)
 occurs_ahead s needle from k o le = record {

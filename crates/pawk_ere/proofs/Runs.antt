@@ -8,6 +8,7 @@ use Rattle.pawk_pattern.specs.Sets.{IsOnlyMember}
 use Rattle.pawk_pattern.specs.Pattern.{Holds, IsFound, Leads}
 use Rattle.pawk_ere.specs.Runs.{AllHold, IsRun, IsTurns, NoneHolds}
 use Rattle.pawk_machine.proofs.Leftmost.{found_none, found_first}
+use Rattle.pawk_machine.proofs.Walks.{tail}
 use Rattle.pawk_machine.specs.Regex.{Regex, Empty, Bytes, Plus, Sequence, Takes, copies}
 
 pub run_byte : (members : List Bool) → IsRun (Bytes members) members 1
@@ -144,21 +145,11 @@ turns_none e members s from none is = found_none e s from (λ k ge j m.
     let x = (is s k j).0 m in
     let y = x.0 k (omega arith) x.1 in none k ge y.0 y.1)
 
--- a slice from a place on, as the code writes it
-rest : (s : List ℕ) (n : ℕ) → take (length s - n) (drop n s) ≡ drop n s
-rest s n = take_all (drop n s) (length s - n) (omega (arith, length-drop n s))
-  where
-    take_all : (xs : List ℕ) (k : ℕ) → length xs ≤ k → take k xs ≡ xs
-    take_all [] zero le = refl
-    take_all [] (suc k) le = refl
-    take_all (x ∷ xs) zero le = absurd (omega arith)
-    take_all (x ∷ xs) (suc k) le = ap (λ ys. x ∷ ys) (take_all xs k (omega arith))
-
 -- the one member of a set, found in the rest of a text, belongs to it
 pub only_here : (members : List Bool) (s : List ℕ) (from byte ahead : ℕ) → from ≤ length s → IsOnlyMember members byte → ahead < length (take (length s - from) (drop from s)) → Passes (is_byte byte) (take (length s - from) (drop from s)) ahead → (from + ahead < length s) × Holds members (slice_index s (from + ahead))
 only_here members s from byte ahead le only lt passes =
-    let long : length (take (length s - from) (drop from s)) ≡ length s - from = ap length (rest s from) ∙ length-drop from s in
-    let read : slice_index (take (length s - from) (drop from s)) ahead ≡ slice_index s (from + ahead) = ap (λ l. slice_index l ahead) (rest s from) ∙ get_or-drop from s ahead 0 in
+    let long : length (take (length s - from) (drop from s)) ≡ length s - from = ap length (tail s from) ∙ length-drop from s in
+    let read : slice_index (take (length s - from) (drop from s)) ahead ≡ slice_index s (from + ahead) = ap (λ l. slice_index l ahead) (tail s from) ∙ get_or-drop from s ahead 0 in
     (omega (arith, long), subst (Holds members) (sym (sym read ∙ eqb-true _ _ passes)) only.0)
 
 pub map_some : {A : Type 0} (P Q : A → Type 0) (r : Option A) → ((x : A) → P x → Q x) → IfSome r P → IfSome r Q

@@ -103,6 +103,7 @@ pub(crate) fn read<W: World>(
 ///
 /// POSIX.1-2017, awk, "User-Defined Functions".
 #[cycle(evaluate)]
+#[inline(always)]
 pub(crate) fn invoke<W: World>(
     context: Context<'_>,
     depth: u64,
@@ -170,7 +171,7 @@ pub(crate) fn number_of_call<W: World>(
 
 /// Appends the text of the value of a call.
 #[cycle(evaluate)]
-pub(crate) fn text_of_call<W: World>(
+pub(crate) fn call_text_into<W: World>(
     context: Context<'_>,
     depth: u64,
     f: usize,
@@ -363,7 +364,7 @@ pub(crate) fn text_into<W: World>(
             Ok(())
         }
         Expr::Read(from) => text_at(context, depth, from, out, world, run),
-        Expr::Call(f, arguments) => text_of_call(context, depth, *f, arguments, out, world, run),
+        Expr::Call(f, arguments) => call_text_into(context, depth, *f, arguments, out, world, run),
         e => {
             let (held, bytes) = eval_apart(context, depth, e, world, run)?;
             push_text_lent(lend_held(held, &bytes), out)?;

@@ -491,6 +491,7 @@ pub(crate) fn printf<W: World>(
 ///
 /// POSIX.1-2017, awk, "Actions" and "User-Defined Functions".
 #[cycle(evaluate)]
+#[inline(always)]
 pub(crate) fn go_out<W: World>(
     context: Context<'_>,
     depth: u64,

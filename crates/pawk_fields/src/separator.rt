@@ -36,7 +36,7 @@ pub struct FieldStep {
 }
 
 /// The first byte of a text that separates.
-#[inline(never)]
+#[inline(always)]
 fn find_separator(text: &[u8], byte: u8, paragraph: bool) -> Option<usize>
     ensures { IsFirstByte (separates byte paragraph) text.now result }
 {

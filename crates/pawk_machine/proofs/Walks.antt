@@ -1,7 +1,7 @@
 -- Walks over a text, from state to state.
-use Rattle.std.proofs.Common.{◌≡◌, ℕ, ◌+◌, ◌<◌, ◌≤◌, ◌⊎◌, Bool, true, false, List, [], ◌∷◌, length, get_or, drop, take, zero, suc, ◌-◌, length-drop, eqb, Option, Some, None, MatchOption, refl, sym, ap, ◌∙◌, subst, inl, inr, ⊎_elim, arith, eq-eqb, eqb-true}
+use Rattle.std.proofs.Common.{◌≡◌, ℕ, ◌+◌, ◌<◌, ◌≤◌, ◌⊎◌, Bool, true, false, List, length, get_or, drop, take, ◌-◌, length-drop, eqb, Option, Some, None, MatchOption, refl, sym, ap, ◌∙◌, subst, inl, inr, ⊎_elim, arith, eq-eqb, eqb-true}
 use Rattle.std.proofs.lemmas.Bool.{cases_lt}
-use Rattle.std.proofs.lemmas.List.{get_or-drop}
+use Rattle.std.proofs.lemmas.List.{get_or-drop, take_all}
 use Rattle.std.proofs.lemmas.Option.{get_or_from_slice_get, slice_get_within}
 use Rattle.std.specs.Prelude.{slice_get, slice_index}
 use Rattle.pawk_pattern.specs.Pattern.{StartsNone, IsLongest, NoneFrom, MayStart}
@@ -508,14 +508,8 @@ none_of_yet e s low high p begin n k j ge le lt m = n.none_ended k j ge lt m
 -- ---- what is passed over
 
 -- a slice from a place on, as the code writes it
-tail : (s : List ℕ) (n : ℕ) → take (length s - n) (drop n s) ≡ drop n s
-tail s n = take_all (drop n s) (length s - n) (omega (arith, length-drop n s))
-  where
-    take_all : (xs : List ℕ) (k : ℕ) → length xs ≤ k → take k xs ≡ xs
-    take_all [] zero le = refl
-    take_all [] (suc k) le = refl
-    take_all (x ∷ xs) zero le = absurd (omega arith)
-    take_all (x ∷ xs) (suc k) le = ap (λ ys. x ∷ ys) (take_all xs k (omega arith))
+pub tail : (s : List ℕ) (n : ℕ) → take (length s - n) (drop n s) ≡ drop n s
+tail s n = take_all (length s - n) (drop n s) (omega (arith, length-drop n s))
 
 pub not_here : (s : List ℕ) (place byte k end : ℕ) → ((q : ℕ) → 0 ≤ q → q < end → Passes (is_byte byte) (take (length s - place) (drop place s)) q → ⊥) → place ≤ k → k < place + end → slice_index s k ≡ byte → ⊥
 not_here s place byte k end h le lt e =

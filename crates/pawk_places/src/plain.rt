@@ -41,7 +41,7 @@ use pawk_world::{Halt, World};
 use std::alloc::AllocError;
 
 /// So many levels of operations are evaluated before the text of a number is laid down as others are.
-const LEVELS: u32 = 16;
+const TEXT_LEVELS: u32 = 16;
 
 /// Whether an expression is a leaf or gives a number.
 fn is_plain(e: &Expr) -> bool
@@ -105,7 +105,7 @@ fn push_numeric<W: World>(
         (codes.numeric (numeric_view n.now))
         (moment (W.state world.now) run.old) out.old.items out.new.items) }
 {
-    let Some(number) = quick_numeric(n, LEVELS, world, run) else {
+    let Some(number) = quick_numeric(n, TEXT_LEVELS, world, run) else {
         return Ok(false);
     };
     push_number(number, out)?;

@@ -128,14 +128,15 @@ pub fn take_frame(alloc: Global, frames: &mut Vec<Vec<Parameter>>) -> Vec<Parame
 }
 
 /// Gives the frame of a call that has ended back, and the buffers of its values.
+#[inline(always)]
 pub fn give_back_frame(
     spare: &mut Vec<Vec<u8>>,
     frames: &mut Vec<Vec<Parameter>>,
     frame: Vec<Parameter>,
 ) {
     let mut frame = frame;
-    for _ in 0..frame.len() {
-        if let Some(Parameter::Value(value)) = frame.pop() {
+    while let Some(parameter) = frame.pop() {
+        if let Parameter::Value(value) = parameter {
             give_back_value(spare, value);
         }
     }

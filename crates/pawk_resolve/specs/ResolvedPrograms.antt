@@ -13,7 +13,7 @@ use Rattle.pawk_code.specs.declared.program.Kind.TheVariants as kind
 use Rattle.pawk_code.specs.FirstSlots.{first_scalars}
 use Rattle.pawk_code.specs.Statements.{Stmts}
 use Rattle.pawk_code.specs.Programs.{Selector, always, matching, between, Rule, Function, Code}
-use Rattle.pawk_scope.specs.Slots.{slot, with_texts, distinct}
+use Rattle.pawk_scope.specs.Slots.{with_texts, distinct}
 use Rattle.pawk_scope.specs.Scopes.{Globals, Scope}
 use Rattle.pawk_resolve.specs.Resolved.{resolved}
 use Rattle.pawk_resolve.specs.ResolvedStatements.{resolved_body}

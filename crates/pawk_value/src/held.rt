@@ -22,6 +22,7 @@ pub enum Held {
 
 /// Lays a lent value down: its bytes are appended to the buffer. Memory is refused only where it has
 /// bytes.
+#[inline(always)]
 pub fn hold(value: ValueRef<'_>, out: &mut Vec<u8>) -> Result<Held, AllocError>
     ensures value { IfOk result
         (λ h. held_value h (added out.old.items out.new.items) ≡ lent_value value.entry) }

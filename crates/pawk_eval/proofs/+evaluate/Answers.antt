@@ -48,8 +48,8 @@ expressions::number-returns-in-Call-clause-outcome g t c =
     let is = call_shape c.args.e.now c.in-Call.f c.in-Call.arguments c.deref.result.now c.in-Call.is c.deref.ensures.value in
     rw is c.number_of_call.ensures.outcome
 
-pub expressions::text_into-text_of_call-requires : goal.expressions::text_into-text_of_call-requires
-expressions::text_into-text_of_call-requires g t c =
+pub expressions::text_into-call_text_into-requires : goal.expressions::text_into-call_text_into-requires
+expressions::text_into-call_text_into-requires g t c =
     let is = call_shape c.args.e.now c.in-Call.f c.in-Call.arguments c.deref.result.now c.in-Call.is c.deref.ensures.value in
     let falls : arguments_weight (arguments (argument_views c.deref.result.now)) + 2 < weight (view c.args.e.now) + 2 = rw is (omega arith) in
     search rules
@@ -57,7 +57,7 @@ expressions::text_into-text_of_call-requires g t c =
 pub expressions::text_into-returns-in-Call-clause-outcome : goal.expressions::text_into-returns-in-Call-clause-outcome
 expressions::text_into-returns-in-Call-clause-outcome g t c =
     let is = call_shape c.args.e.now c.in-Call.f c.in-Call.arguments c.deref.result.now c.in-Call.is c.deref.ensures.value in
-    rw is c.text_of_call.ensures.outcome
+    rw is c.call_text_into.ensures.outcome
 
 pub expressions::text-call_text-requires : goal.expressions::text-call_text-requires
 expressions::text-call_text-requires g t c =

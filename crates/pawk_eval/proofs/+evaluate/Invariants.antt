@@ -25,8 +25,8 @@ decreases-expressions::lay_call g l = rank (functions_of l.context) l.depth (arg
 abbrev pub decreases-expressions::number_of_call : goal.decreases-expressions::number_of_call
 decreases-expressions::number_of_call g l = rank (functions_of l.context) l.depth (arguments_weight (arguments (argument_views l.arguments.now)) + 2)
 
-abbrev pub decreases-expressions::text_of_call : goal.decreases-expressions::text_of_call
-decreases-expressions::text_of_call g l = rank (functions_of l.context) l.depth (arguments_weight (arguments (argument_views l.arguments.now)) + 2)
+abbrev pub decreases-expressions::call_text_into : goal.decreases-expressions::call_text_into
+decreases-expressions::call_text_into g l = rank (functions_of l.context) l.depth (arguments_weight (arguments (argument_views l.arguments.now)) + 2)
 
 abbrev pub decreases-expressions::call_text : goal.decreases-expressions::call_text
 decreases-expressions::call_text g l = rank (functions_of l.context) l.depth (arguments_weight (arguments (argument_views l.arguments.now)) + 2)

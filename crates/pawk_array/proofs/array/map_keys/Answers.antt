@@ -1,13 +1,13 @@
 use Rattle.std.proofs.Common.{◌≡◌, ◌++◌, ◌∷◌, [], Some, map, sym, ◌∙◌, ap, subst, arith, slice_get, get_or}
 use Rattle.std.specs.Option.{option_map}
 use Rattle.std.specs.Map.Iter.{deref_pair}
-use Rattle.std.proofs.lemmas.List.{map-append, map_more}
+use Rattle.std.proofs.lemmas.List.{map-append, map_more, take_all}
 use Rattle.std.proofs.lemmas.Option.{get_or_from_slice_get}
 use Rattle.pawk_array.specs.Keys.{text_of}
 use Rattle.pawk_array.specs.declared.key.Key.{Key}
 use Rattle.pawk_array.specs.ArrayViews.{entries_of}
 use Rattle.pawk_array.specs.Walks.{AreKeysOf}
-use Rattle.pawk_array.proofs.KeysLemmas.{pair_keys, take_all}
+use Rattle.pawk_array.proofs.KeysLemmas.{pair_keys}
 use Rattle.pawk_scalar.specs.declared.values.Value.{Value}
 use Rattle.pawk_array.proofs.array.map_keys.Goals as goal
 
@@ -29,5 +29,5 @@ pub returns : goal.returns
 returns c =
     let es = c.args.pairs.now.entries in
     let whole : map (λ x. x.text.now) c.loop-place.all.items ≡ map (λ e. text_of e.0) es =
-    c.loop-place.invariant ∙ ap (map (λ (e : Key × Value). text_of e.0)) (take_all es c.loop-place.place (omega (arith, c.len-place-end.ensures.len))) in
+    c.loop-place.invariant ∙ ap (map (λ (e : Key × Value). text_of e.0)) (take_all c.loop-place.place es (omega (arith, c.len-place-end.ensures.len))) in
     subst (AreKeysOf (entries_of es)) (sym whole) (pair_keys es c.len.ensures.unique)
