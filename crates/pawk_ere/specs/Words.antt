@@ -8,6 +8,7 @@ use Rattle.pawk_ere.specs.declared.words.Prefilter.{Prefilter}
 use Rattle.pawk_ere.specs.declared.words.Prefilter.TheVariants.{Literal, Run, Turns, Words}
 use Rattle.pawk_ere.specs.Runs.{IsRun, IsTurns}
 use Rattle.pawk_pattern.specs.Sets.{IsOnlyMember}
+use Rattle.pawk_pattern.specs.Pattern.{Pattern, Matches, NoneFrom}
 
 -- it matches these bytes and nothing else
 abbrev pub IsLiteral : Regex → List ℕ → Type 0
@@ -41,3 +42,7 @@ IsPrefilter e (Literal bytes) = IsLiteral e bytes
 IsPrefilter e (Run set count) = IsRun e (members_of set.value) count × (1 ≤ count)
 IsPrefilter e (Turns set only) = IsTurns e (members_of set.value) × IfSome only (λ byte. IsOnlyMember (members_of set.value) byte)
 IsPrefilter e (Words words) = AreNeeded e words.items
+
+-- each text in which the expression matches holds one of the words, if there are any
+abbrev pub NeedsWords : Pattern → List (List ℕ) → Type 0
+NeedsWords e words = 1 ≤ length words → (s : List ℕ) → HoldsNone s words → NoneFrom (Matches e s) 0

@@ -11,4 +11,5 @@ mod words;
 pub use crate::cache::Cache;
 pub use crate::loan::Loan;
 pub use crate::matcher::Matcher;
+pub use crate::words::needed_words_of;
 pub use pawk_pattern::{Ere, EreRefusal, laws};

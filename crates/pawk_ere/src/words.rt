@@ -1,14 +1,16 @@
 // Words that a text must hold to have a match.
 
 ghost use Rattle.pawk_machine.specs.Members.{members_of};
-ghost use Rattle.pawk_ere.specs.Words.{AreNeeded, HoldsNone, AreFeatures, IsPrefilter};
+ghost use Rattle.pawk_ere.specs.Words.{AreNeeded, HoldsNone, AreFeatures, IsPrefilter, NeedsWords};
+ghost use Rattle.pawk_pattern.specs.Spelled.{expression};
 ghost use Rattle.pawk_machine.specs.Regex.{Regex, Bytes, Sequence, Either, Plus, copies};
 ghost use Rattle.pawk_machine.specs.Tree.{regex_of};
 ghost use Rattle.std.specs.Prelude.{◌≡◌, ◌≤◌, ◌⊎◌, [], false, length, IfOk, IsTrue};
 
 use crate::run::{run_of, turns_of};
 use memchr::memmem::{Finder, FinderBuilder};
-use pawk_machine::{Members, Node, is_anchored};
+use pawk_machine::{Members, Node, expand, is_anchored};
+use pawk_pattern::Ere;
 use std::alloc::{AllocError, Global};
 
 /// More words than this are not looked for.
@@ -263,4 +265,16 @@ pub fn lacks_words(words: &[Finder<'static>], text: &[u8]) -> bool
         }
     }
     !words.is_empty()
+}
+
+/// Words of which each text holds one in which the expression matches; none where no such are known.
+///
+/// The error comes where memory was refused.
+///
+/// POSIX.1-2017, XBD 9.4, "Extended Regular Expressions".
+pub fn needed_words_of(alloc: Global, ere: &Ere) -> Result<Vec<Finder<'static>>, AllocError>
+    ensures { IfOk result (λ words. NeedsWords (expression ere.now) words.items) }
+{
+    let node = expand(alloc, ere.root())?;
+    needed_words(features_of(alloc, &node)?)
 }

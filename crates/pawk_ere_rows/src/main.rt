@@ -6,6 +6,7 @@
 //! | row | answer |
 //! |---|---|
 //! | `parse;EXPRESSION` | `ok` where the expression is read, else the number of its refusal |
+//! | `words;EXPRESSION` | the words of which each text that matches holds one, or `none` where none are known |
 //! | `row;EXPRESSION;FROM;TEXT` | where the match is: the byte where it starts and the byte behind it, or `none` |
 //! | `states;EXPRESSION;FROM;TEXT` | the same, and whether the table of states was emptied |
 //! | `all;EXPRESSION` | the same for the texts below from the bytes 0, 1 and 3 on |
@@ -19,7 +20,8 @@
 ghost use Rattle.pawk_ere.specs.Kept.{IsOfItsText};
 ghost use Rattle.std.specs.Prelude.{◌≡◌, ◌≤◌, length, IfOk};
 
-use pawk_ere::{Cache, Ere, EreRefusal, Loan, Matcher};
+use memchr::memmem::Finder;
+use pawk_ere::{Cache, Ere, EreRefusal, Loan, Matcher, needed_words_of};
 use pawk_rows::{answer_lines, number, piece, push_decimal, push_parts};
 use std::alloc::{AllocError, Global};
 use std::io;
@@ -87,6 +89,14 @@ fn parse(alloc: Global, pattern: &[u8]) -> Result<Ere, EreRefusal> {
 fn matcher_of(alloc: Global, ere: &Ere) -> Result<Matcher, AllocError> {
     match Matcher::new(alloc, ere) {
         Err(AllocError) => Matcher::new(alloc, ere),
+        answer => answer,
+    }
+}
+
+/// The words that an expression needs, asked for again after a want of memory.
+fn words_of(alloc: Global, ere: &Ere) -> Result<Vec<Finder<'static>>, AllocError> {
+    match needed_words_of(alloc, ere) {
+        Err(AllocError) => needed_words_of(alloc, ere),
         answer => answer,
     }
 }
@@ -162,6 +172,19 @@ fn is_agreed(
     let matches = is_match(matcher, asked)?;
     let again = find(matcher, asked)?;
     Ok(matches == found.is_some() && again == found)
+}
+
+/// Adds the words that an expression needs, with blanks between them.
+fn push_words(alloc: Global, ere: &Ere, out: &mut Vec<u8>) -> Result<(), AllocError> {
+    let words = words_of(alloc, ere)?;
+    if words.is_empty() {
+        return out.extend_from_slice(b"none");
+    }
+    for word in words.as_slice() {
+        out.extend_from_slice(if out.is_empty() { b"" } else { b" " })?;
+        out.extend_from_slice(word.needle())?;
+    }
+    Ok(())
 }
 
 /// Adds where a match is.
@@ -289,6 +312,9 @@ fn push_answer(
     if field(row, 0) == b"parse".as_slice() {
         out.extend_from_slice(b"ok")?;
         return Ok(());
+    }
+    if field(row, 0) == b"words".as_slice() {
+        return Ok(push_words(alloc, &ere, out)?);
     }
     let mut matcher = matcher_of(alloc, &ere)?;
     push_searched(alloc, caches, &mut matcher, pattern.as_slice(), row, out)

@@ -4,6 +4,7 @@ use Rattle.std.proofs.lemmas.Bool.Decides.{nat_tests, eqb_tells}
 use Rattle.std.proofs.lemmas.Bool.{false≢true}
 use Rattle.std.specs.List.{prefix_len}
 use Rattle.std.proofs.lemmas.List.{take-append-drop}
+use Rattle.std.proofs.Math.Seq.{take-append_seam, drop-append_seam}
 use Rattle.pawk_scalar.specs.Bytes.{is_digit, is_point}
 use Rattle.pawk_scalar.specs.Numeral.{AreDigits, after_while, begins}
 use Rattle.pawk_scalar.proofs.NumeralLemmas.{digits_prefix, none_in_front, both_true}
@@ -74,14 +75,6 @@ flags_prefix (f ∷ fs) r h n = rw h.0 (let more = flags_prefix fs r h.1 n in om
 digits_end : (ds r : List ℕ) → AreDigits ds → begins is_digit r ≡ false → prefix_len is_digit (ds ++ r) ≡ length ds
 digits_end ds r h n = let none = none_in_front r n in rw (digits_prefix ds r h, none) (omega arith)
 
-take_front : (ds r : List ℕ) → take (length ds) (ds ++ r) ≡ ds
-take_front [] r = refl
-take_front (d ∷ ds) r = ap (λ l. d ∷ l) (take_front ds r)
-
-drop_front : (ds r : List ℕ) → drop (length ds) (ds ++ r) ≡ r
-drop_front [] r = refl
-drop_front (d ∷ ds) r = drop_front ds r
-
 -- ---- a directive that is spelled is read
 
 abbrev behind_width : Option (List ℕ) → ℕ → List ℕ → List ℕ
@@ -103,10 +96,10 @@ no_flag_width [] p c t l h = no_flag_behind p c t l
 no_flag_width (b ∷ w) p c t l h = h
 
 front_flags : (fs r : List ℕ) → AreFlags fs → begins is_flag r ≡ false → (take (prefix_len is_flag (fs ++ r)) (fs ++ r) ≡ fs) × (drop (prefix_len is_flag (fs ++ r)) (fs ++ r) ≡ r)
-front_flags fs r h n = rw (flags_prefix fs r h n) (take_front fs r, drop_front fs r)
+front_flags fs r h n = rw (flags_prefix fs r h n) (take-append_seam fs r, drop-append_seam fs r)
 
 front_digits : (ds r : List ℕ) → AreDigits ds → begins is_digit r ≡ false → (take (prefix_len is_digit (ds ++ r)) (ds ++ r) ≡ ds) × (drop (prefix_len is_digit (ds ++ r)) (ds ++ r) ≡ r)
-front_digits ds r h n = rw (digits_end ds r h n) (take_front ds r, drop_front ds r)
+front_digits ds r h n = rw (digits_end ds r h n) (take-append_seam ds r, drop-append_seam ds r)
 
 front_precision : (p : Option (List ℕ)) (c : ℕ) (t : List ℕ) → IsLetter c → ArePrecisionDigits p → (precision_in_front (behind_width p c t) ≡ p) × (without_precision (behind_width p c t) ≡ c ∷ t)
 front_precision None c t l h = rw l.2 (refl, refl)

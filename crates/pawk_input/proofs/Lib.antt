@@ -6,3 +6,4 @@ pub mod DraftLemmas
 pub mod SizeLemmas
 pub mod CountLemmas
 pub mod OneLemmas
+pub mod PassingLemmas

@@ -15,7 +15,7 @@ use Rattle.pawk_input.specs.Plan.{IsPlanOf, IsChunkOf, Rises, chunk_bytes, chunk
 use Rattle.pawk_input.specs.declared.cutting.Chunk.{Chunk}
 use Rattle.pawk_input.proofs.ItemsLemmas.{length-file_items, length-items_from}
 
-file_items-append : (file : ℕ) (name : List ℕ) (nr fnr : ℕ) (xs ys : List (List ℕ)) → file_items file name nr fnr (xs ++ ys) ≡ file_items file name nr fnr xs ++ file_items file name (nr + length xs) (fnr + length xs) ys
+pub file_items-append : (file : ℕ) (name : List ℕ) (nr fnr : ℕ) (xs ys : List (List ℕ)) → file_items file name nr fnr (xs ++ ys) ≡ file_items file name nr fnr xs ++ file_items file name (nr + length xs) (fnr + length xs) ys
 file_items-append file name nr fnr [] ys =
     let a : nr ≡ nr + 0 = omega arith in
     let b : fnr ≡ fnr + 0 = omega arith in

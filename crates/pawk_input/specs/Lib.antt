@@ -17,3 +17,4 @@ pub use Rattle.pawk_split.specs.Law
 pub mod Plan
 pub mod Counts
 pub mod Passed
+pub mod Passing

@@ -9,6 +9,7 @@ mod draft;
 mod files;
 mod item;
 mod lent;
+mod passing;
 mod plan;
 mod walk;
 

@@ -7,9 +7,12 @@ ghost use Rattle.pawk_records.specs.Separator.{rs_of};
 ghost use Rattle.pawk_input.specs.Input.{file_items, files_of, item_of, total_size};
 ghost use Rattle.pawk_input.specs.Walk.{block_records, items_in_blocks, items_left};
 ghost use Rattle.pawk_input.specs.Limits.{most_bytes};
+ghost use Rattle.pawk_input.specs.Passing.{PassesOver};
 
 use crate::item::Item;
 use crate::lent::LentFiles;
+use crate::passing::passed_length;
+use memchr::memmem::Finder;
 use pawk_blocks::Pieces;
 use pawk_records::Separator;
 use std::marker::Model;
@@ -109,6 +112,27 @@ impl<'a> Records<'a> {
             fnr,
             later: LentFiles::none(),
         }
+    }
+
+    /// Passes over records at the front that hold none of these words: at most those in front of
+    /// the record in which a word is seen first, and never the last of a block, so that another
+    /// record follows. Says how many were passed over. Paragraphs are not passed over.
+    pub fn pass_over(&mut self, words: &[Finder<'static>]) -> u64
+        ensures { PassesOver words.now (items_left self.old) (items_left self.new) result }
+    {
+        let Separator::Byte(byte) = self.separator else {
+            return 0;
+        };
+        let length = passed_length(words, self.rest, byte);
+        if length == 0 {
+            return 0;
+        }
+        let (passed, rest) = self.rest.split_at(length);
+        let count = Separator::Byte(byte).count_records(passed) as u64;
+        self.rest = rest;
+        self.nr += count;
+        self.fnr += count;
+        count
     }
 }
 

@@ -1,2 +1,1 @@
 pub mod LeftLemmas
-pub mod RunLemmas

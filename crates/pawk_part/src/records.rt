@@ -1,19 +1,23 @@
 //! Records one after the other.
 
-ghost use Rattle.std.specs.Prelude.{◌≡◌, IfOk, None};
+ghost use Rattle.std.specs.Prelude.{◌≡◌, ◌≤◌, ℕ, length, IfOk, OnOk, None};
 ghost use Rattle.pawk_code.specs.ProgramViews.{code_view};
 ghost use Rattle.pawk_input.specs.Input.{item_of};
 ghost use Rattle.pawk_input.specs.Walk.{items_left};
 ghost use Rattle.pawk_meaning.specs.Runs.{records_from};
 ghost use Rattle.pawk_meaning.specs.Runs as spec;
+ghost use Rattle.pawk_part.specs.declared.left.Left.{Left};
 ghost use Rattle.pawk_part.specs.declared.left.Left.TheVariants.{Through};
 ghost use Rattle.pawk_part.specs.Ends.{end_view, left_view};
 ghost use Rattle.pawk_part.specs.Ends as ends;
+ghost use Rattle.pawk_code.specs.Programs.{Code};
+ghost use Rattle.pawk_passage.specs.Passages.{IsPassage};
 
 use crate::job::Job;
 use crate::left::Left;
 use crate::part::record;
 use pawk_input::{Item, Records};
+use pawk_passage::Passage;
 use pawk_places::Run;
 use pawk_world::World;
 use std::alloc::AllocError;
@@ -54,6 +58,30 @@ fn ends_records(left: Left) -> bool
     }
 }
 
+/// Passes over records that no rule is for, unless those of a file are left unread.
+#[inline(always)]
+fn pass_over<W: World>(
+    passage: &mut Passage,
+    skip: Option<usize>,
+    records: &mut Records<'_>,
+    world: &W,
+    run: &mut Run<'_>,
+) -> Result<(), AllocError>
+    ensures same { passage.new ≡ passage.old }
+    ensures fewer { length (items_left records.new) ≤ length (items_left records.old) }
+    ensures passed { OnOk result ((code : Code) → IsPassage code passage.old →
+        (budget : ℕ) (left : Left) →
+        records_from W.calls code.expressions code budget skip
+        (end_view (W.state world.now) run.new left) (items_left records.new)
+        ≡ records_from W.calls code.expressions code budget skip
+        (end_view (W.state world.now) run.old left) (items_left records.old)) }
+{
+    match skip {
+        Some(_) => Ok(()),
+        None => passage.pass_over(records, world, &mut run.state),
+    }
+}
+
 /// Runs the rules on each record, which may take so many steps; the output goes behind what is there.
 /// `nextfile` leaves the rest of its file unread.
 ///
@@ -69,9 +97,15 @@ pub fn run_records<'a, W: World>(
         (end_view (W.state world.old) run.old Through) (items_left records.entry)
         ≡ end_view (W.state world.new) run.new left) }
 {
+    let mut passage = Passage::of(run.alloc, job.code)?;
+    let mut records = records;
     let mut skip = None;
     let mut left = Left::Through;
-    for item in records {
+    loop {
+        pass_over(&mut passage, skip, &mut records, world, run)?;
+        let Some(item) = records.next() else {
+            return Ok(left);
+        };
         if is_skipped(skip, &item) {
             continue;
         }
@@ -82,5 +116,4 @@ pub fn run_records<'a, W: World>(
         }
         skip = file_left(left, &item);
     }
-    Ok(left)
 }

@@ -130,6 +130,9 @@ pub fn leaf_number<W: World>(
         (as_number (value_of_leaf W.calls (leaf_view leaf.now))
         (moment (W.state world.now) run.old)) result (moment (W.state world.now) run.new) }
 {
+    if let Leaf::Field(_) = leaf {
+        return lent_number(leaf, world, run);
+    }
     if let Some(number) = plain_number(leaf, world, run) {
         return Ok(Ok(number));
     }
@@ -149,6 +152,10 @@ pub fn lent_number<W: World>(
         (as_number (value_of_leaf W.calls (leaf_view leaf.now))
         (moment (W.state world.now) run.old)) result (moment (W.state world.now) run.new) }
 {
+    if let Leaf::Field(n) = leaf {
+        run.state.line.prepare(*n)?;
+        return Ok(to_num_lent(run.state.line.field(*n)));
+    }
     prepare_leaf(leaf, &mut run.state)?;
     Ok(to_num_lent(lend_leaf(leaf, world, run)))
 }
@@ -197,6 +204,11 @@ pub fn leaf_text<W: World>(
         (as_text out.old.items (value_of_leaf W.calls (leaf_view leaf.now))
         (moment (W.state world.now) run.old)) result (moment (W.state world.now) run.new) }
 {
+    if let Leaf::Field(n) = leaf {
+        run.state.line.prepare(*n)?;
+        push_text_lent(run.state.line.field(*n), out)?;
+        return Ok(());
+    }
     prepare_leaf(leaf, &mut run.state)?;
     push_text_lent(lend_leaf(leaf, world, run), out)?;
     Ok(())
@@ -274,6 +286,13 @@ fn compare_lent_leaves<W: World>(
         bind (value_of_leaf W.calls (leaf_view right.now)) (λ y. settle (related relation x y)))
         (moment (W.state world.now) run.old)) result (moment (W.state world.now) run.new) }
 {
+    if let Leaf::Field(n) = left {
+        if let Leaf::Number(y) = right {
+            run.state.line.prepare(*n)?;
+            let order = compare_lent(run.state.line.field(*n), ValueRef::Num(*y))?;
+            return Ok(holds_for(relation, order));
+        }
+    }
     prepare_leaf(left, &mut run.state)?;
     prepare_leaf(right, &mut run.state)?;
     let order = compare_lent(lend_leaf(left, world, run), lend_leaf(right, world, run))?;

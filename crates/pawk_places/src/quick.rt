@@ -31,9 +31,23 @@ fn quick_leaf<W: World>(leaf: &Leaf, world: &W, run: &mut Run<'_>) -> Option<i64
     ensures number { IfSome result (λ number. num_of (leaf_value W.calls (leaf_view leaf.now)
         (moment (W.state world.now) run.old)) ≡ Ok number) }
 {
+    if let Leaf::Field(_) = leaf {
+        return looked_number(leaf, world, run);
+    }
     if let Some(number) = plain_number(leaf, world, run) {
         return Some(number);
     }
+    looked_number(leaf, world, run)
+}
+
+/// The number of a leaf that is looked for, if there is one.
+#[inline(always)]
+fn looked_number<W: World>(leaf: &Leaf, world: &W, run: &mut Run<'_>) -> Option<i64>
+    ensures same { moment (W.state world.now) run.new ≡ moment (W.state world.now) run.old }
+    ensures left { run.new.left ≤ run.old.left }
+    ensures number { IfSome result (λ number. num_of (leaf_value W.calls (leaf_view leaf.now)
+        (moment (W.state world.now) run.old)) ≡ Ok number) }
+{
     match lent_number(leaf, world, run) {
         Ok(Ok(number)) => Some(number),
         _ => None,

@@ -1,5 +1,6 @@
 -- Fields that are laid out behind each other.
 use Rattle.std.proofs.Common.{◌≡◌, ℕ, zero, suc, ◌+◌, ◌-◌, ◌≤◌, arith, List, [], ◌∷◌, ◌++◌, length, map, drop, take, Some, refl, sym, ap, ◌∙◌, append_assoc, append-nil, length-append}
+use Rattle.std.proofs.Math.Seq.{take-append_seam}
 use Rattle.std.proofs.lemmas.List.{drop_at}
 use Rattle.std.specs.Prelude.{slice_get, slice_range}
 use Rattle.std.specs.declared.ops.Range.{Range}
@@ -106,14 +107,10 @@ same_value (Num z) = refl
 same_value (Text s) = refl
 same_value (Maybe s) = refl
 
-take_all : (t rest : List ℕ) → take (length t) (t ++ rest) ≡ t
-take_all [] rest = refl
-take_all (b ∷ t) rest = ap (λ s. b ∷ s) (take_all t rest)
-
 middle : (front t rest : List ℕ) (n : ℕ) → n ≡ length front → slice_range (front ++ (t ++ rest)) n (n + length t) ≡ t
 middle front t rest n h =
     let size : n + length t - n ≡ length t = omega arith in
-    ap (λ k. take k (drop n (front ++ (t ++ rest)))) size ∙ ap (take (length t)) (drop_at front (t ++ rest) n (sym h)) ∙ take_all t rest
+    ap (λ k. take k (drop n (front ++ (t ++ rest)))) size ∙ ap (take (length t)) (drop_at front (t ++ rest) n (sym h)) ∙ take-append_seam t rest
 
 values_behind : (vs : List Val) (front before ofs : List ℕ) (at : ℕ) → at ≡ length front → values (front ++ joined_from before ofs vs) (places_from at before ofs vs) (map kind_of vs) ≡ vs
 unfolding values

@@ -2,6 +2,7 @@
 use Rattle.std.proofs.Common.{◌≡◌, inl, inr, ℕ, ℤ, pos, suc, ◌+◌, ◌-◌, ◌*◌, ◌<◌, ◌≤◌, Bool, true, false, not, cond, eqb, ◌&&◌, ◌||◌, List, [], ◌∷◌, ◌++◌, length, take, drop, slice_range, Option, Some, None, IfSome, is_some, option_to_list, Result, Ok, Err, refl, ap, sym, ◌∙◌, subst, arith, append_assoc, length-append, length-drop, one-add, add-zero}
 use Rattle.std.proofs.lemmas.Bool.Decides.{nat_tests, eqb_tells}
 use Rattle.std.proofs.lemmas.List.{take-append-drop, length-take-le}
+use Rattle.std.proofs.Math.Seq.{take-append_seam}
 use Rattle.std.specs.List.{prefix_len}
 use Rattle.std.proofs.lemmas.Bool.{false≢true}
 use Rattle.std.proofs.lemmas.List.Sums.{prefix_len_is, prefix_len-le-length, prefix_len_passes, prefix_len_stops}
@@ -38,10 +39,6 @@ digits_prefix (d ∷ ds) r h = rw h.0 (omega (arith, digits_prefix ds r h.1))
 pub drop_front : (ds r : List ℕ) (n : ℕ) → drop (length ds + n) (ds ++ r) ≡ drop n r
 drop_front [] r n = let e : length {A = ℕ} [] + n ≡ n = omega arith in rw e refl
 drop_front (d ∷ ds) r n = let e : length (d ∷ ds) + n ≡ suc (length ds + n) = omega arith in rw e (drop_front ds r n)
-
-take_front : (ds r : List ℕ) → take (length ds) (ds ++ r) ≡ ds
-take_front [] r = refl
-take_front (d ∷ ds) r = ap (λ l. d ∷ l) (take_front ds r)
 
 pub digits_after : (ds r : List ℕ) → AreDigits ds → after_while is_digit (ds ++ r) ≡ after_while is_digit r
 digits_after ds r h = rw (digits_prefix ds r h) (drop_front ds r (prefix_len is_digit r))
@@ -164,7 +161,7 @@ digits_number n whole v w l p f e =
     let all : prefix_len is_digit (whole ++ v) ≡ length whole = rw (digits_prefix whole v w, p) (omega arith) in
     let here : drop (length whole) (whole ++ v) ≡ v = rw (← add-zero (length whole)) (drop_front whole v 0) in
     let some = some_length whole l in
-    rw (all, here, f, some, e, take_front whole v) refl
+    rw (all, here, f, some, e, take-append_seam whole v) refl
 
 digits_exponent : (n : Bool) (whole v : List ℕ) → AreDigits whole → 0 < length whole → prefix_len is_digit v ≡ 0 → has_fraction v ≡ false → has_exponent (without_point v) ≡ true → unsigned_number n (whole ++ v) ≡ Err Numeral
 digits_exponent n whole v w l p f e =
@@ -400,7 +397,7 @@ short_front : (t a r : List ℕ) → t ≡ a ++ r → length a ≤ length t
 short_front t a r e = rw e (omega (arith, length-append a r))
 
 front_is : (t a r : List ℕ) (n : ℕ) → t ≡ a ++ r → length a ≡ n → take n t ≡ a
-front_is t a r n e l = rw (e, ← l) (take_front a r)
+front_is t a r n e l = rw (e, ← l) (take-append_seam a r)
 
 -- the numeral that a digit makes
 there_is : (s : List ℕ) → has_digit (without_sign (past_blanks s)) ≡ true → (p : Parts) × IsNumeral s (prefix_len is_blank s) (prefix_len is_blank s + numeral_len (past_blanks s)) × Spells (slice_range s (prefix_len is_blank s) (prefix_len is_blank s + numeral_len (past_blanks s))) p

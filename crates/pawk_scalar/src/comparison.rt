@@ -5,7 +5,7 @@ ghost use Rattle.pawk_scalar.specs.Value.{shown, lent_value};
 ghost use Rattle.pawk_scalar.specs.Conversion.{text_of};
 ghost use Rattle.pawk_scalar.specs.Comparison.{comparison, text_order, TextOrderLaw};
 
-use crate::conversion::{numeric_number, text_in};
+use crate::conversion::{evident_number, numeric_number, text_in};
 use crate::faults::Fault;
 use crate::values::{Value, ValueRef, lend};
 use itoa::Buffer;
@@ -42,7 +42,8 @@ pub fn compare(left: &Value, right: &Value) -> Result<Ordering, Fault>
 
 /// How two lent values compare, as `compare`. A candidate is read as a numeral at most once, and not
 /// beside a text.
-pub fn compare_lent(left: ValueRef<'_>, right: ValueRef<'_>) -> Result<Ordering, Fault>
+#[inline(never)]
+fn compare_apart(left: ValueRef<'_>, right: ValueRef<'_>) -> Result<Ordering, Fault>
     ensures { result ≡ comparison (lent_value left.entry) (lent_value right.entry) }
 {
     if let ValueRef::Text(_) = right {
@@ -55,6 +56,19 @@ pub fn compare_lent(left: ValueRef<'_>, right: ValueRef<'_>) -> Result<Ordering,
             Some(right_number) => Ok(left_number?.cmp(&right_number?)),
         },
     }
+}
+
+/// How two lent values compare, as `compare`. Short numerals are compared at once.
+#[inline(always)]
+pub fn compare_lent(left: ValueRef<'_>, right: ValueRef<'_>) -> Result<Ordering, Fault>
+    ensures { result ≡ comparison (lent_value left.entry) (lent_value right.entry) }
+{
+    if let Some(right_number) = evident_number(right) {
+        if let Some(left_number) = evident_number(left) {
+            return Ok(left_number.cmp(&right_number));
+        }
+    }
+    compare_apart(left, right)
 }
 
 /// The order of texts: one precedes another as its proper beginning, or by a lesser byte where the

@@ -1,13 +1,13 @@
 //! The number, the truth and the text of a value.
 
-ghost use Rattle.std.specs.Prelude.{◌≡◌};
+ghost use Rattle.std.specs.Prelude.{◌≡◌, IfSome, Ok, Some};
 ghost use Rattle.pawk_scalar.specs.Value.{shown, lent_value};
 ghost use Rattle.pawk_scalar.specs.Conversion.{num_of, text_of, truth_of, truth_of_candidate};
 ghost use Rattle.pawk_scalar.specs.Conversion as spec;
 
 use crate::faults::Fault;
 use crate::look::{candidate_number, looks};
-use crate::numeral::number_of;
+use crate::numeral::{number_of, short_number};
 use crate::values::{Value, ValueRef, lend};
 use itoa::Buffer;
 
@@ -20,13 +20,17 @@ pub fn to_num(value: &Value) -> Result<i64, Fault>
 }
 
 /// The number of a lent value, as `to_num`.
+#[inline(always)]
 pub fn to_num_lent(value: ValueRef<'_>) -> Result<i64, Fault>
     ensures { result ≡ num_of (lent_value value.entry) }
 {
     match value {
         ValueRef::Uninit => Ok(0),
         ValueRef::Num(number) => Ok(number),
-        ValueRef::Text(text) | ValueRef::Maybe(text) => number_of(text),
+        ValueRef::Text(text) | ValueRef::Maybe(text) => match short_number(text) {
+            Some(number) => Ok(number),
+            None => number_of(text),
+        },
     }
 }
 
@@ -39,6 +43,19 @@ pub fn is_numeric(value: ValueRef<'_>) -> bool
         ValueRef::Uninit | ValueRef::Num(_) => true,
         ValueRef::Text(_) => false,
         ValueRef::Maybe(text) => looks(text),
+    }
+}
+
+/// The number of a lent value that is a number, or a candidate that is a short numeral.
+#[inline(always)]
+pub(crate) fn evident_number(value: ValueRef<'_>) -> Option<i64>
+    ensures { IfSome result (λ number.
+        spec.numeric_number (lent_value value.entry) ≡ Some (Ok number)) }
+{
+    match value {
+        ValueRef::Num(number) => Some(number),
+        ValueRef::Maybe(text) => short_number(text),
+        ValueRef::Uninit | ValueRef::Text(_) => None,
     }
 }
 

@@ -10,8 +10,8 @@ ghost use Rattle.pawk_scalar.specs.Look as spec;
 use crate::bytes::{is_blank_byte, is_digit_byte};
 use crate::faults::Fault;
 use crate::numeral::{
-    count_blanks, is_negative, leading_digits, number_of_digits, past_sign, shows_exponent,
-    shows_fraction,
+    count_blanks, is_negative, leading_digits, number_of_digits, past_sign, short_number,
+    shows_exponent, shows_fraction,
 };
 
 /// What follows the digits in front.
@@ -81,6 +81,9 @@ fn unsigned_candidate(negative: bool, text: &[u8]) -> Option<Result<i64, Fault>>
 pub fn candidate_number(text: &[u8]) -> Option<Result<i64, Fault>>
     ensures { result ≡ spec.candidate_number text.now }
 {
+    if let Some(number) = short_number(text) {
+        return Some(Ok(number));
+    }
     let numeral = &text[count_blanks(text)..];
     unsigned_candidate(is_negative(numeral), past_sign(numeral))
 }

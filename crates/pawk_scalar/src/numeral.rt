@@ -1,11 +1,12 @@
 //! The number that a text shows.
 
-ghost use Rattle.std.specs.Prelude.{◌≡◌, ℕ, ◌<◌, ◌≤◌, length, ◌*◌, ◌+◌, ◌-◌, drop, take, min};
+ghost use Rattle.std.specs.Prelude.{◌≡◌, ℕ, pos, true, ◌<◌, ◌≤◌, length, IfSome, OnSome, Ok, ◌*◌, ◌+◌, ◌-◌, ◌^◌, drop, take, min};
 ghost use Rattle.std.specs.List.{prefix_len};
 ghost use Rattle.pawk_scalar.specs.Bytes.{is_blank, is_digit, is_minus};
 ghost use Rattle.pawk_scalar.specs.Range.{in_range_or_fault};
 ghost use Rattle.pawk_scalar.specs.Numeral.{begins, without_sign, without_point, has_exponent, has_fraction, digits_value, signed, NumeralLaw};
 ghost use Rattle.pawk_scalar.specs.Numeral as spec;
+ghost use Rattle.pawk_scalar.specs.Look.{looks};
 
 use crate::bytes::{is_blank_byte, is_digit_byte};
 use crate::faults::Fault;
@@ -160,10 +161,49 @@ pub(crate) fn is_negative(text: &[u8]) -> bool
     }
 }
 
+/// The most digits of a short numeral.
+const SHORT: usize = 18;
+
+/// The number of a text that is 1 to 18 digits and nothing else.
+#[inline(always)]
+fn short_digits(text: &[u8]) -> Option<i64>
+    ensures some { OnSome result (0 < length text.now) }
+    ensures digits { OnSome result (prefix_len is_digit text.now ≡ length text.now) }
+    ensures value { IfSome result (λ number. number ≡ pos (digits_value text.now)) }
+    ensures bound { OnSome result (digits_value text.now < 10 ^ 18) }
+{
+    if text.is_empty() || text.len() > SHORT {
+        return None;
+    }
+    let mut size: u64 = 0;
+    for b in text {
+        if !is_digit_byte(*b) {
+            return None;
+        }
+        size = 10 * size + u64::from(*b - b'0');
+    }
+    match i64::try_from(size) {
+        Ok(number) => Some(number),
+        Err(_) => None,
+    }
+}
+
+/// The number of a text that is a sign or nothing, then 1 to 18 digits, and nothing else.
+#[inline(never)]
+#[tactic(auto, unfolding(crate::specs::Numeral::number_of, crate::specs::Look::looks))]
+pub(crate) fn short_number(text: &[u8]) -> Option<i64>
+    ensures number { IfSome result (λ number. spec.number_of text.now ≡ Ok number) }
+    ensures looks { OnSome result (looks text.now ≡ true) }
+{
+    let number = short_digits(past_sign(text))?;
+    Some(if is_negative(text) { -number } else { number })
+}
+
 /// The number of a text: that of the numeral in front, blanks before it aside, or 0 where there is
 /// none. The fault `numeral` where the numeral has a digit after the point or an exponent, else the
 /// fault `overflow` where the number is out of range. It takes no memory and reads each byte once.
 #[tactic(auto, unfolding(crate::specs::Numeral::number_of))]
+#[inline(never)]
 pub fn number_of(text: &[u8]) -> Result<i64, Fault>
     ensures { result ≡ spec.number_of text.now }
 {

@@ -1,0 +1,2 @@
+pub mod IdleLemmas
+pub mod PassLemmas
