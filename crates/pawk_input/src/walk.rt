@@ -14,7 +14,7 @@ use crate::lent::LentFiles;
 use crate::passing::passed_length;
 use memchr::memmem::Finder;
 use pawk_blocks::Pieces;
-use pawk_records::Separator;
+use pawk_records::{LineEnds, Separator};
 use std::marker::Model;
 
 /// The records that are left of the input or of a part of it, in order.
@@ -22,6 +22,7 @@ use std::marker::Model;
 pub struct Records<'a> {
     separator: Separator,
     rest: &'a [u8],
+    ends: LineEnds,
     pieces: Pieces<'a>,
     file: usize,
     name: &'a [u8],
@@ -32,6 +33,7 @@ pub struct Records<'a> {
 
 impl<'a> Model for Records<'a> {
     ghost use Rattle.std.specs.Prelude.{◌≤◌, ◌<◌, ◌+◌, ◌^◌, List, [], ◌∷◌, length};
+    ghost use Rattle.pawk_records.specs.LineEnds.{AreEnds};
     ghost use Rattle.pawk_records.specs.Separator.{rs_of};
     ghost use Rattle.pawk_input.specs.Limits.{most_bytes};
     ghost use Rattle.pawk_blocks.specs.Blocks.{joined};
@@ -51,7 +53,8 @@ impl<'a> Model for Records<'a> {
         × (r.fnr ≤ r.nr)
         × (r.file + length r.later < 2 ^ 64)
         × (length r.rest.now + length (joined r.pieces)
-        + total_size (files_of r.later) ≤ most_bytes) };
+        + total_size (files_of r.later) ≤ most_bytes)
+        × AreEnds (rs_of r.separator) r.ends r.rest.now };
 }
 
 impl<'a> Records<'a> {
@@ -66,6 +69,7 @@ impl<'a> Records<'a> {
             return Records {
                 separator,
                 rest: &[],
+                ends: LineEnds::none(),
                 pieces: Pieces::none(),
                 file: 0,
                 name: &[],
@@ -77,6 +81,7 @@ impl<'a> Records<'a> {
         Records {
             separator,
             rest: &[],
+            ends: LineEnds::none(),
             pieces: first.blocks.pieces(0, first.blocks.size()),
             file: 0,
             name: first.name,
@@ -105,6 +110,7 @@ impl<'a> Records<'a> {
         Records {
             separator,
             rest: &[],
+            ends: LineEnds::none(),
             pieces,
             file,
             name,
@@ -130,6 +136,7 @@ impl<'a> Records<'a> {
         let (passed, rest) = self.rest.split_at(length);
         let count = Separator::Byte(byte).count_records(passed) as u64;
         self.rest = rest;
+        self.ends = LineEnds::none();
         self.nr += count;
         self.fnr += count;
         count
@@ -146,7 +153,10 @@ impl<'a> Iterator for Records<'a> {
     #[inline(always)]
     fn next(&mut self) -> Option<Item<'a>> {
         loop {
-            if let Some((bytes, rest)) = self.separator.split_record(self.rest) {
+            if let Some((bytes, rest)) = self
+                .separator
+                .split_record_with(self.rest, &mut self.ends)
+            {
                 self.rest = rest;
                 self.nr += 1;
                 self.fnr += 1;
@@ -160,10 +170,12 @@ impl<'a> Iterator for Records<'a> {
             }
             if let Some(piece) = self.pieces.next_piece() {
                 self.rest = piece;
+                self.ends = LineEnds::none();
                 continue;
             }
             let first = self.later.next_file()?;
             self.rest = &[];
+            self.ends = LineEnds::none();
             self.pieces = first.blocks.pieces(0, first.blocks.size());
             self.name = first.name;
             self.file += 1;

@@ -1,10 +1,12 @@
 //! Leaves of expressions: what is read without an effect and without a fault.
 
-ghost use Rattle.std.specs.Prelude.{◌≡◌, ◌≤◌, ◌++◌, [], IfSome, Ok, OnOk, length, pos};
+ghost use Rattle.std.specs.Prelude.{◌≡◌, ◌≤◌, ◌++◌, [], IfOk, IfSome, Ok, OnOk, length, pos};
 ghost use Rattle.pawk_world.specs.Sums.{arith_by};
 ghost use Rattle.pawk_value.specs.Held.{added, held_value};
 ghost use Rattle.pawk_value.specs.Value.{Num, lent_value, shown};
 ghost use Rattle.pawk_code.specs.ExpressionViews.{leaf_view};
+ghost use Rattle.pawk_code.specs.declared.leaf.Special.TheVariants.{Nf};
+ghost use Rattle.pawk_store.specs.RecordStates.{special_value};
 ghost use Rattle.pawk_store.specs.StateViews.{state_of};
 ghost use Rattle.pawk_meaning.specs.Parts.{as_number, as_text, as_truth, bind, give, local_at, settle};
 ghost use Rattle.pawk_meaning.specs.Builtins.{related};
@@ -40,6 +42,20 @@ pub(crate) fn prepare_leaf(leaf: &Leaf, state: &mut RecordState<'_>) -> Result<(
         Leaf::Special(variable) => state.prepare_special(*variable),
         Leaf::Field(n) => state.line.prepare(*n),
         Leaf::Number(_) | Leaf::Text(_) | Leaf::Global(_) | Leaf::Local(_) => Ok(()),
+    }
+}
+
+/// How many fields the record has (`NF`); they need not be looked for. The state stays.
+///
+/// Memory is refused also where it is 2^63 or more, which no memory holds.
+fn field_count(state: &mut RecordState<'_>) -> Result<i64, AllocError>
+    ensures same { state_of state.new ≡ state_of state.old }
+    ensures number { IfOk result (λ number. special_value Nf (state_of state.old) ≡ Num number) }
+{
+    let count = state.line.field_count()?;
+    match i64::try_from(count) {
+        Ok(number) => Ok(number),
+        Err(_) => Err(AllocError),
     }
 }
 
@@ -156,6 +172,9 @@ pub fn lent_number<W: World>(
         run.state.line.prepare(*n)?;
         return Ok(to_num_lent(run.state.line.field(*n)));
     }
+    if let Leaf::Special(Special::Nf) = leaf {
+        return Ok(Ok(field_count(&mut run.state)?));
+    }
     prepare_leaf(leaf, &mut run.state)?;
     Ok(to_num_lent(lend_leaf(leaf, world, run)))
 }
@@ -171,6 +190,9 @@ pub fn leaf_truth<W: World>(
         (as_truth (value_of_leaf W.calls (leaf_view leaf.now))
         (moment (W.state world.now) run.old)) result (moment (W.state world.now) run.new) }
 {
+    if let Leaf::Special(Special::Nf) = leaf {
+        return Ok(truth_lent(ValueRef::Num(field_count(&mut run.state)?)));
+    }
     prepare_leaf(leaf, &mut run.state)?;
     Ok(truth_lent(lend_leaf(leaf, world, run)))
 }
@@ -209,6 +231,10 @@ pub fn leaf_text<W: World>(
         push_text_lent(run.state.line.field(*n), out)?;
         return Ok(());
     }
+    if let Leaf::Special(Special::Nf) = leaf {
+        push_text_lent(ValueRef::Num(field_count(&mut run.state)?), out)?;
+        return Ok(());
+    }
     prepare_leaf(leaf, &mut run.state)?;
     push_text_lent(lend_leaf(leaf, world, run), out)?;
     Ok(())
@@ -228,6 +254,9 @@ pub fn leaf_value<W: World>(
         (value_of_leaf W.calls (leaf_view leaf.now)
         (moment (W.state world.now) run.old)) result (moment (W.state world.now) run.new) }
 {
+    if let Leaf::Special(Special::Nf) = leaf {
+        return Ok(hold(ValueRef::Num(field_count(&mut run.state)?), out)?);
+    }
     prepare_leaf(leaf, &mut run.state)?;
     Ok(hold(lend_leaf(leaf, world, run), out)?)
 }
@@ -241,6 +270,9 @@ pub fn leaf_copy<W: World>(leaf: &Leaf, world: &W, run: &mut Run<'_>) -> Result<
 {
     if let Some(number) = plain_number(leaf, world, run) {
         return Ok(Value::Num(number));
+    }
+    if let Leaf::Special(Special::Nf) = leaf {
+        return Ok(Value::Num(field_count(&mut run.state)?));
     }
     prepare_leaf(leaf, &mut run.state)?;
     let mut bytes = take_buffer(run.alloc, &mut run.spare);
@@ -293,6 +325,10 @@ fn compare_lent_leaves<W: World>(
             return Ok(holds_for(relation, order));
         }
     }
+    if let Leaf::Special(Special::Nf) = left {
+        let x = field_count(&mut run.state)?;
+        return compare_number(relation, x, right, world, run);
+    }
     prepare_leaf(left, &mut run.state)?;
     prepare_leaf(right, &mut run.state)?;
     let order = compare_lent(lend_leaf(left, world, run), lend_leaf(right, world, run))?;
@@ -343,6 +379,10 @@ fn compare_lent_behind<W: World>(
         (bind (value_of_leaf W.calls (leaf_view right.now)) (λ y. settle (related relation (Num x) y))
         (moment (W.state world.now) run.old)) result (moment (W.state world.now) run.new) }
 {
+    if let Leaf::Special(Special::Nf) = right {
+        let y = field_count(&mut run.state)?;
+        return Ok(related_numbers(relation, x, y));
+    }
     prepare_leaf(right, &mut run.state)?;
     let value = lend_leaf(right, world, run);
     if let ValueRef::Num(y) = value {

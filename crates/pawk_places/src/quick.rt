@@ -15,7 +15,7 @@ use crate::leaves::{leaf_length, lent_number, place_in_leaf, plain_number, relat
 use crate::run::Run;
 use pawk_builtins::field_index;
 use pawk_code::expression::{Expr, Numeric, NumericFunction, Place, Test};
-use pawk_code::leaf::Leaf;
+use pawk_code::leaf::{Leaf, Special};
 use pawk_value::arith;
 use pawk_world::World;
 
@@ -80,7 +80,8 @@ pub fn quick_number<W: World>(e: &Expr, levels: u32, world: &W, run: &mut Run<'_
     }
 }
 
-/// The number of the field that an expression gives, where it is found so.
+/// The number of the field that an expression gives, where it is found so. For `$NF` all fields are looked for at once, and
+/// not counted before.
 #[cycle(quick)]
 pub fn quick_field<W: World>(
     index: &Expr,
@@ -97,6 +98,9 @@ pub fn quick_field<W: World>(
         ≡ gives (leaf_value W.calls (field n) (moment (W.state world.now) run.old))
         (moment (W.state world.now) run.old)) }
 {
+    if let Expr::Leaf(Leaf::Special(Special::Nf)) = index {
+        run.state.line.prepare_all().ok()?;
+    }
     let number = quick_number(index, levels, world, run)?;
     field_index(Ok(number)).ok()
 }

@@ -1,8 +1,9 @@
 -- What a record shows.
 use Rattle.std.proofs.Common.{◌≡◌, ◌⊎◌, ℕ, ◌-◌, ◌<◌, ◌≤◌, arith, zero, suc, Bool, cond, leb, List, [], ◌∷◌, ◌++◌, length, map, Option, Some, None, Result, Ok, Err, refl, sym, ap, ◌∙◌, subst, ⊎_elim, true, false, append-nil, length-append}
 use Rattle.std.proofs.lemmas.Bool.{cases_lt, le-leb, leb-true}
+use Rattle.std.proofs.lemmas.List.{length-map}
 use Rattle.std.proofs.lemmas.Option.{slice_get_past}
-use Rattle.std.specs.Prelude.{is_none, slice_get}
+use Rattle.std.specs.Prelude.{IfSome, is_none, slice_get}
 use Rattle.std.specs.declared.ops.Range.{Range}
 use Rattle.pawk_scalar.specs.Value.{Val}
 use Rattle.pawk_value.specs.Fault.{Fault}
@@ -70,8 +71,8 @@ none_more r h =
     ∙ ap (λ l. length (r.here.ranges.items ++ map range_of l)) (left_none r.splitter (text_of r))
     ∙ ap length (append-nil r.here.ranges.items)
 
-pub prepared_by : (r : Inside) (n : ℕ) → (n ≤ length r.here.ranges.items) ⊎ (r.next ≡ None) → IsPrepared (shown r) n
-prepared_by r n h = ⊎_elim (λ x. omega arith) (λ x. let all = none_more r x in omega (arith, all)) h
+pub prepared_by : (r : Inside) (n most : ℕ) → n ≤ most → (most ≤ length r.here.ranges.items) ⊎ (r.next ≡ None) → IsPrepared (shown r) n
+prepared_by r n most enough h = ⊎_elim (λ x. omega arith) (λ x. let all = none_more r x in omega (arith, all)) h
 
 pub all_found : (r : Inside) (most : ℕ) → length r.here.ranges.items < most → (most ≤ length r.here.ranges.items) ⊎ (r.next ≡ None) → length r.here.ranges.items ≡ length (record_of r).fields
 all_found r most few h = ⊎_elim (λ x. absurd (omega arith)) (λ x. sym (none_more r x)) h
@@ -83,6 +84,24 @@ count_found r h =
     let more = map range_of (left r.splitter (text_of r) r.next) in
     let long = length-values (text_of r) (rs ++ more) r.here.kinds.items in
     omega (arith, long, length-append rs more)
+
+-- where none was found the fields are as many as are left
+pub left_counted : (r : Inside) (text : List ℕ) (count : ℕ) → length r.here.ranges.items ≡ 0 → text ≡ text_of r → count ≡ length (left r.splitter text r.next) → count ≡ length (record_of r).fields
+left_counted r text count none same is =
+    let rs = r.here.ranges.items in
+    let rest = left r.splitter (text_of r) r.next in
+    let long = length-values (text_of r) (rs ++ map range_of rest) r.here.kinds.items in
+    let here : count ≡ length rest = is ∙ ap (λ t. length (left r.splitter t r.next)) same in
+    omega (arith, long, none, here, length-map rest range_of, length-append rs (map range_of rest))
+
+-- how many fields there are stays so while more are found
+pub counted_still : (r : Inside) (text : List ℕ) (ranges : List (Range ℕ)) (next : Option ℕ) (s : Splitter) → text ≡ text_of r
+    → ranges ++ map range_of (left s text next) ≡ r.here.ranges.items ++ map range_of (left r.splitter text r.next)
+    → IfSome r.counted (λ count. count ≡ length (record_of r).fields)
+    → IfSome r.counted (λ count. count ≡ length (values (text_of r) (ranges ++ map range_of (left s (text_of r) next)) r.here.kinds.items))
+counted_still r text ranges next s is same counted =
+    let all = subst (λ t. ranges ++ map range_of (left s t next) ≡ r.here.ranges.items ++ map range_of (left r.splitter t r.next)) is same in
+    subst (λ rs. IfSome r.counted (λ count. count ≡ length (values (text_of r) rs r.here.kinds.items))) (sym all) counted
 
 no_length : (rs : List (Range ℕ)) → length rs ≡ 0 → rs ≡ []
 no_length [] h = refl

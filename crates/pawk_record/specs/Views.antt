@@ -1,5 +1,5 @@
 -- What a record of the program shows, and what it keeps true.
-use Rattle.std.specs.Prelude.{◌≡◌, ℕ, ◌≤◌, ◌++◌, true, None, List, length, map}
+use Rattle.std.specs.Prelude.{◌≡◌, ℕ, ◌≤◌, ◌++◌, true, None, List, length, map, IfSome}
 use Rattle.std.specs.Option.{ForSome}
 use Rattle.pawk_fields.specs.FieldSeparator.{range_of}
 use Rattle.pawk_record.specs.Lines.{IsJoined, line_of, values}
@@ -20,11 +20,12 @@ record_of r = record {
 abbrev pub shown : Inside → SplitRecord
 shown r = record { record_now = record_of r; found = length r.here.ranges.items }
 
--- the splitter is one of its FS, and the next field is looked for within the line; where fields are joined the line is the
--- record's own, and none is left
+-- the splitter is one of its FS, and the next field is looked for within the line; what was counted is how many fields there
+-- are; where fields are joined the line is the record's own, and none is left
 pub record IsWhole (r : Inside) : Type 0 where
   pub splitter : IsSplitter r.splitter
   pub place : ForSome r.next (λ p. p ≤ length (text_of r))
+  pub counted : IfSome r.counted (λ count. count ≡ length (record_of r).fields)
   pub joined : r.here.is_joined ≡ true → IsJoined r.here
   pub own : r.here.is_joined ≡ true → r.is_own ≡ true
   pub done : r.here.is_joined ≡ true → r.next ≡ None

@@ -14,6 +14,9 @@ use std::alloc::{AllocError, Global};
 use std::marker::Model;
 use std::mem;
 
+/// Where the fields were counted, a loop up to `NF` may ask for each: then so many times as many are looked for at once.
+const AHEAD: usize = 4;
+
 /// The line: a text that is lent, or the record's own.
 #[inline]
 fn line<'a>(is_own: bool, own: &'a [u8], lent: &'a [u8]) -> &'a [u8]
@@ -38,6 +41,8 @@ pub struct Record<'a> {
     spare: Layout,
     /// Where the next field is looked for, if one may be left.
     next: Option<usize>,
+    /// How many fields there are, where they were counted while some were not looked for yet.
+    counted: Option<usize>,
     splitter: Splitter,
 }
 
@@ -66,6 +71,7 @@ impl<'a> Record<'a> {
             here: Layout::new(alloc),
             spare: Layout::new(alloc),
             next: None,
+            counted: None,
             splitter: Splitter::new(alloc),
         }
     }
@@ -89,6 +95,7 @@ impl<'a> Record<'a> {
         self.is_own = false;
         self.here.clear();
         self.next = None;
+        self.counted = None;
         answer?;
         if !text.is_empty() {
             self.next = Some(0);
@@ -105,6 +112,8 @@ impl<'a> Record<'a> {
     }
 
     /// Looks for the fields up to the one with index `n`, so that it may be lent, and those before it. The record stays.
+    ///
+    /// Where the fields were counted it looks for more at once, since a loop up to `NF` asks for each.
     #[inline]
     pub fn prepare(&mut self, n: usize) -> Result<(), AllocError>
         ensures same { self.new.record_now ≡ self.old.record_now }
@@ -117,9 +126,13 @@ impl<'a> Record<'a> {
         if n <= self.here.ranges.len() {
             return Ok(());
         }
+        let count = match self.counted {
+            Some(_) => n.saturating_mul(AHEAD),
+            None => n,
+        };
         let text = line(self.is_own, self.here.text.as_slice(), self.lent);
         self.splitter
-            .find(text, &mut self.here.ranges, &mut self.next, n)
+            .find(text, &mut self.here.ranges, &mut self.next, count)
     }
 
     /// Looks for all fields, so that each may be lent. The record stays.
@@ -166,6 +179,37 @@ impl<'a> Record<'a> {
         Ok(self.here.ranges.len())
     }
 
+    /// How many fields there are (`NF`); they need not be looked for. The record stays.
+    #[inline]
+    pub fn field_count(&mut self) -> Result<usize, AllocError>
+        ensures count { IfOk result (λ count. count ≡ length self.new.record_now.fields) }
+        ensures same { self.new.record_now ≡ self.old.record_now }
+        ensures more { self.old.found ≤ self.new.found }
+    {
+        if let Some(count) = self.found_count() {
+            return Ok(count);
+        }
+        self.count_anew()
+    }
+
+    /// The same, where they were neither counted nor all looked for: counts them by an FS of one byte where none was looked
+    /// for yet, and else looks for all.
+    fn count_anew(&mut self) -> Result<usize, AllocError>
+        ensures count { IfOk result (λ count. count ≡ length self.new.record_now.fields) }
+        ensures same { self.new.record_now ≡ self.old.record_now }
+        ensures more { self.old.found ≤ self.new.found }
+    {
+        if !self.here.ranges.is_empty() {
+            return self.count();
+        }
+        let text = line(self.is_own, self.here.text.as_slice(), self.lent);
+        let Some(count) = self.splitter.count_left(text, self.next) else {
+            return self.count();
+        };
+        self.counted = Some(count);
+        Ok(count)
+    }
+
     /// How many fields there are (`NF`), where all were looked for.
     #[inline]
     pub fn prepared_count(&self) -> usize
@@ -175,13 +219,13 @@ impl<'a> Record<'a> {
         self.here.ranges.len()
     }
 
-    /// How many fields there are (`NF`), if all were looked for.
+    /// How many fields there are (`NF`), if all were looked for, or they were counted.
     #[inline]
     pub fn found_count(&self) -> Option<usize>
         ensures { IfSome result (λ count. count ≡ length self.now.record_now.fields) }
     {
         match self.next {
-            Some(_) => None,
+            Some(_) => self.counted,
             None => Some(self.here.ranges.len()),
         }
     }
@@ -207,6 +251,7 @@ impl<'a> Record<'a> {
         }
         self.prepare_all()?;
         self.next = None;
+        self.counted = None;
         self.is_own = self.here.own(self.is_own, self.lent, ofs)?;
         if self.here.is_joined_by(ofs) && n - 1 <= self.here.ranges.len() {
             self.here.is_joined = false;
@@ -243,6 +288,7 @@ impl<'a> Record<'a> {
         self.here.clear();
         self.is_own = true;
         self.next = None;
+        self.counted = None;
         self.here.text.extend_from_slice(text)?;
         if !text.is_empty() {
             self.next = Some(0);

@@ -9,7 +9,7 @@ ghost use Rattle.pawk_split.specs.FieldWalks.{most_left};
 ghost use Rattle.pawk_record.specs.Splitting.{IsBy, IsSplitter, first_place, left, ranges_or_none};
 
 use pawk_ere::Matcher;
-use pawk_fields::{FieldSeparator, find_words};
+use pawk_fields::{FieldSeparator, count_split, find_words};
 use pawk_split::{append_fields, byte_separator, expression_matcher};
 use pawk_value::{Fault, Stop};
 use std::alloc::{AllocError, Global};
@@ -284,6 +284,20 @@ impl Splitter {
             Some(fault) => Err(Stop::Fault(fault)),
             None => Ok(()),
         }
+    }
+
+    /// How many fields of a record are left, if they are counted without looking for them: where none was looked for yet,
+    /// by an FS of one byte.
+    pub(crate) fn count_left(&self, text: &[u8], next: Option<usize>) -> Option<usize>
+        ensures { IfSome result (λ count. count ≡ length (left self.now text.now next)) }
+    {
+        let By::Plain(separator) = &self.by else {
+            return None;
+        };
+        if next != separator.first_place(text) {
+            return None;
+        }
+        Some(count_split(*separator, text))
     }
 
     /// Looks for fields of a record from the next one on, until there are so many or none is left. What was found and what is

@@ -10,6 +10,7 @@
 //! | `set`, an index, OFS, a kind, the value | assigns it to that field |
 //! | `get`, an index | tells the value of that field |
 //! | `count` | tells NF |
+//! | `size` | tells NF, for which no field has to be looked for |
 //! | `all` | tells the text of the record, NF, and the value of each field |
 //!
 //! A kind is `uninit`, `num`, `text` or `maybe`. What is told stands behind a space; a value is its kind, a colon and its
@@ -69,12 +70,23 @@ fn tell_field(
     push_value(alloc, record.field(n), out)
 }
 
+/// Tells a number.
+fn tell_number(number: usize, out: &mut Vec<u8>) -> Result<(), AllocError> {
+    out.push(b' ')?;
+    push_decimal(number as u64, out)
+}
+
 /// Tells NF.
 fn tell_count(record: &mut Record<'_>, out: &mut Vec<u8>) -> Result<usize, AllocError> {
     let count = record.count()?;
-    out.push(b' ')?;
-    push_decimal(count as u64, out)?;
+    tell_number(count, out)?;
     Ok(count)
+}
+
+/// Tells NF, for which no field has to be looked for.
+fn tell_size(record: &mut Record<'_>, out: &mut Vec<u8>) -> Result<(), AllocError> {
+    let size = record.field_count()?;
+    tell_number(size, out)
 }
 
 /// Tells the text of the record, NF, and the value of each field.
@@ -114,6 +126,7 @@ fn act<'a>(
             let _count = tell_count(record, out)?;
             Ok(())
         }
+        b"size" => Ok(tell_size(record, out)?),
         _ => Ok(tell_all(alloc, record, out)?),
     }
 }

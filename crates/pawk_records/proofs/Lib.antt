@@ -8,3 +8,5 @@ pub mod BeginsLemmas
 pub mod FindLemmas
 pub mod CountLemmas
 pub mod CensusLemmas
+pub mod BitLemmas
+pub mod LineEndsLemmas

@@ -1,12 +1,12 @@
 -- Records that end at one byte, parted at a place and counted.
-use Rattle.std.proofs.Common.{◌≡◌, ◌≢◌, ◌⊎◌, inl, inr, ℕ, zero, suc, ◌+◌, ◌-◌, ◌<◌, ◌≤◌, true, false, cond, eqb, eq-eqb, List, [], ◌∷◌, ◌++◌, length, take, drop, get_or, refl, ap, arith, sym, ◌∙◌, length-append}
+use Rattle.std.proofs.Common.{◌≡◌, ◌≢◌, ◌⊎◌, inl, inr, ℕ, zero, suc, ◌+◌, ◌-◌, ◌<◌, ◌≤◌, true, false, cond, eqb, eq-eqb, List, [], ◌∷◌, ◌++◌, length, take, drop, get_or, refl, ap, arith, sym, ◌∙◌, length-append, zero-add}
 use Rattle.std.proofs.lemmas.Bool.Decides.{eqb_tells}
 use Rattle.std.proofs.lemmas.List.{length-take-le, get_or-take, take-take, drop-take}
 use Rattle.std.proofs.lemmas.List.Sums.{sum_by-cons}
-use Rattle.std.specs.List.{onto_first, count_by}
+use Rattle.std.specs.List.{onto_first, count_by, prefix_len}
 use Rattle.memchr.specs.Find.{is_byte}
-use Rattle.pawk_records.specs.Records.{records}
-use Rattle.pawk_records.proofs.RecordsLemmas.{records_cut, some_records}
+use Rattle.pawk_records.specs.Records.{NoSeparator, records}
+use Rattle.pawk_records.proofs.RecordsLemmas.{is_other, records_cut, some_records}
 
 -- a text may be cut at p: at its begin, or after a separator
 abbrev pub IsCut : ℕ → List ℕ → ℕ → Type 0
@@ -76,3 +76,21 @@ module _ (e : ℕ) where
       let counts = sum_by-cons (λ y. cond (is_byte e y) 1 0) b (x ∷ s) in
       let step = length-records-cons b x s in
       omega arith
+
+  -- ---- bytes in which no line ends
+
+  -- the first line goes on behind them
+  pub past_none : (n : ℕ) (s : List ℕ) → n ≤ length s → NoSeparator e (take n s) → prefix_len (is_other e) s ≡ n + prefix_len (is_other e) (drop n s)
+  past_none zero s le none = sym (zero-add _)
+  past_none (suc n) [] le none = absurd (omega arith)
+  past_none (suc n) (b ∷ s) le none =
+      let more = past_none n s (omega arith) none.1 in
+      rw (apart b e none.0) (omega (arith, more))
+
+  -- more of them
+  pub none_on : (n m : ℕ) (s : List ℕ) → NoSeparator e (take n s) → NoSeparator e (take m (drop n s)) → NoSeparator e (take (n + m) s)
+  none_on zero m s none more = rw zero-add more
+  none_on (suc n) m [] none more = let on : suc n + m ≡ suc (n + m) = omega arith in rw on tt
+  none_on (suc n) m (b ∷ s) none more =
+      let on : suc n + m ≡ suc (n + m) = omega arith in
+      rw on (none.0, none_on n m s none.1 more)

@@ -3,3 +3,4 @@ pub mod Begins
 pub mod Separator
 pub mod Paragraph
 pub mod Census
+pub mod LineEnds

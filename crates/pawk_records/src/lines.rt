@@ -1,15 +1,19 @@
 //! Records that end at one byte.
 
-ghost use Rattle.std.specs.Prelude.{◌≡◌, ℕ, ◌+◌, ◌<◌, ◌≤◌, [], ◌∷◌, length, IfSome, MatchOption};
+ghost use Rattle.std.specs.Prelude.{◌≡◌, ℕ, ◌+◌, ◌<◌, ◌≤◌, [], ◌∷◌, length, take};
+ghost use Rattle.std.specs.Prelude.{IfSome, MatchOption};
 ghost use Rattle.memchr.specs.Find.{IsFirst};
-ghost use Rattle.pawk_records.specs.Records.{records};
+ghost use Rattle.pawk_records.specs.Records.{NoSeparator, records};
 ghost use Rattle.pawk_records.specs.Begins.{BeginsAt};
 
 use memchr::memchr;
 
-/// The first record of a text and what follows it, if there is one.
+/// The first record of a text and what follows it, if there is one. None ends within the first
+/// `from` bytes, which are not looked at.
 #[inline]
-pub(crate) fn split_line(text: &[u8], separator: u8) -> Option<(&[u8], &[u8])>
+pub(crate) fn split_line(text: &[u8], from: usize, separator: u8) -> Option<(&[u8], &[u8])>
+    requires within { from ≤ length text.now }
+    requires none { NoSeparator separator (take from text.now) }
     ensures cut { MatchOption result (records separator text.now ≡ [])
         (λ parts. records separator text.now ≡ parts.0.now ∷ records separator parts.1.now) }
     ensures short { IfSome result
@@ -19,8 +23,8 @@ pub(crate) fn split_line(text: &[u8], separator: u8) -> Option<(&[u8], &[u8])>
     if text.is_empty() {
         return None;
     }
-    match memchr(separator, text) {
-        Some(end) => Some((&text[..end], &text[end + 1..])),
+    match memchr(separator, &text[from..]) {
+        Some(end) => Some((&text[..from + end], &text[from + end + 1..])),
         None => Some((text, &[])),
     }
 }

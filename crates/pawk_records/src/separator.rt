@@ -5,8 +5,10 @@ ghost use Rattle.memchr.specs.Find.{IsFirst};
 ghost use Rattle.pawk_records.specs.Records.{records_by};
 ghost use Rattle.pawk_records.specs.Begins.{BeginsAt, begins_within};
 ghost use Rattle.pawk_records.specs.Begins as spec;
+ghost use Rattle.pawk_records.specs.LineEnds.{AreEnds};
 ghost use Rattle.pawk_records.specs.Separator.{rs_of};
 
+use crate::line_ends::LineEnds;
 use crate::{count, lines, paragraphs};
 
 /// What ends a record, as `RS` says it. POSIX.1-2017, awk, "Variables and Special Variables".
@@ -41,7 +43,31 @@ impl Separator {
         ensures less { IfSome result (λ parts. length parts.1.now < length text.now) }
     {
         match self {
-            Separator::Byte(byte) => lines::split_line(text, byte),
+            Separator::Byte(byte) => lines::split_line(text, 0, byte),
+            Separator::Paragraph => paragraphs::split_paragraph(text),
+        }
+    }
+
+    /// The same, with the ends of lines that were seen in the text; afterwards they are those of
+    /// what follows the record.
+    #[inline(always)]
+    pub fn split_record_with<'a>(
+        self,
+        text: &'a [u8],
+        ends: &mut LineEnds,
+    ) -> Option<(&'a [u8], &'a [u8])>
+        requires { AreEnds (rs_of self) ends.old text.now }
+        ensures cut { MatchOption result (records_by (rs_of self) text.now ≡ [])
+            (λ parts. records_by (rs_of self) text.now
+            ≡ parts.0.now ∷ records_by (rs_of self) parts.1.now) }
+        ensures short { IfSome result
+            (λ parts. length parts.0.now + length parts.1.now ≤ length text.now) }
+        ensures less { IfSome result (λ parts. length parts.1.now < length text.now) }
+        ensures ends { MatchOption result (AreEnds (rs_of self) ends.new text.now)
+            (λ parts. AreEnds (rs_of self) ends.new parts.1.now) }
+    {
+        match self {
+            Separator::Byte(byte) => ends.split_line(text, byte),
             Separator::Paragraph => paragraphs::split_paragraph(text),
         }
     }

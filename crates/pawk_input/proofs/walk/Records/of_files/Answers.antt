@@ -21,7 +21,7 @@ invariant_of-result-2 c =
     let limited : total_size (files_of (f ∷ later)) ≤ most_bytes = rw c.in-Some.ensures at c.requires.limited in
     let count = ap length c.in-Some.ensures in
     let held = ap (λ l. length (joined l)) (all ∙ parts_all c.size.result _ (omega (arith, c.size.ensures))) in
-    (omega (arith, ap length first, few, limited), omega arith, omega (arith, count), omega (arith, held, limited))
+    (omega (arith, ap length first, few, limited), omega arith, omega (arith, count), omega (arith, held, limited), c.none-2.ensures rs [])
 
 pub returns : goal.returns
 returns c =

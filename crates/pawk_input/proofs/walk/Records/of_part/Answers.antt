@@ -7,6 +7,6 @@ use Rattle.pawk_input.proofs.walk.Records.of_part.Goals as goal
 pub invariant_of-result : goal.invariant_of-result
 invariant_of-result c =
     let rs = rs_of c.args.separator in
-    let none = c.none.ensures in
+    let none = c.none-2.ensures in
     let passed = ap length (next_piece rs c.args.file c.args.name.now c.args.nr c.args.fnr [] c.args.pieces [] (no_records rs)) ∙ length-items_ahead_alone rs c.args.file c.args.name.now c.args.nr c.args.fnr c.args.pieces in
-    rw none (omega (arith, passed), c.requires.in_file, omega arith, omega arith)
+    rw none (omega (arith, passed), c.requires.in_file, omega arith, omega arith, c.none.ensures rs [])

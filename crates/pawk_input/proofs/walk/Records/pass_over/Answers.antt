@@ -24,6 +24,7 @@ invariant_of-self c =
       omega (arith, c.self.invariant.1),
       c.self.invariant.2,
       omega (arith, ensures.within some, c.split_at.ensures.back_len, c.self.invariant.3),
+      c.none-self-inside.ensures (rs_of s.separator) c.split_at.result.1.now,
     )
 
 pub returns : goal.returns

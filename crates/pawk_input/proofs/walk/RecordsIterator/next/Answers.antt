@@ -22,6 +22,7 @@ invariant_of-self-in_err-first c =
       c.loop-bytes.invariant.in_file,
       omega (arith, count, c.loop-bytes.invariant.few_files),
       omega (arith, held, total, c.loop-bytes.invariant.short),
+      c.in_default.ensures.ends,
     )
 
 pub returns-in_err-first-clause-steps : goal.returns-in_err-first-clause-steps
@@ -63,4 +64,5 @@ loop-bytes-preserved c =
       in_file = omega arith;
       few_files = omega (arith, count, c.loop-bytes.invariant.few_files);
       short = omega (arith, held, total, c.loop-bytes.invariant.short);
+      ends = c.none-self-inside-in-loop-bytes.ensures rs [];
     }

@@ -1,4 +1,5 @@
 use Rattle.std.proofs.Common.{◌≡◌, ◌+◌, ◌<◌, ◌≤◌, ◌^◌, ◌∷◌, length}
+use Rattle.pawk_records.specs.LineEnds.{AreEnds}
 use Rattle.pawk_records.specs.Separator.{rs_of}
 use Rattle.pawk_blocks.specs.Blocks.{joined}
 use Rattle.pawk_input.specs.Limits.{most_bytes}
@@ -18,6 +19,7 @@ invariant-loop-bytes l =
       in_file : s.fnr ≤ s.nr;
       few_files : s.file + length s.later < 2 ^ 64;
       short : length s.rest.now + length (joined s.pieces) + total_size (files_of s.later) ≤ most_bytes;
+      ends : AreEnds (rs_of s.separator) s.ends s.rest.now;
     }
 
 abbrev pub decreases-loop-bytes : goal.decreases-loop-bytes

@@ -74,6 +74,7 @@ invariant_of-self-2 c =
     record {
       splitter = c.self.invariant.splitter;
       place = λ x h. nowhere x _ h;
+      counted = tt;
       joined = λ _. subst (λ (x : Layout). IsJoined x) (sym c.swap.ensures.x_after) is;
       own = λ _. refl;
       done = λ _. refl;
@@ -87,6 +88,7 @@ invariant_of-self-in_err-assign c =
     record {
       splitter = c.self.invariant.splitter;
       place = λ x h. nowhere x _ h;
+      counted = tt;
       joined = λ e. absurd (never e);
       own = λ e. absurd (never e);
       done = λ e. refl;
@@ -100,6 +102,7 @@ invariant_of-self-then-n-len c =
     record {
       splitter = c.self.invariant.splitter;
       place = λ x h. nowhere x _ h;
+      counted = tt;
       joined = λ _. joined_of c.args.ofs.now _ c.assign.new.self _ c.in_ok-assign.ensures.line refl refl refl ofs;
       own = λ _. c.in_ok-self-inside.ensures.own is.0;
       done = λ _. refl;

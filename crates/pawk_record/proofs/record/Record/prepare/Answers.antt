@@ -6,11 +6,12 @@ use Rattle.pawk_record.specs.Records.{IsPrepared, SplitRecord}
 use Rattle.pawk_record.specs.Lines.{line_of}
 use Rattle.pawk_record.specs.Splitting.{IsSplitter}
 use Rattle.pawk_record.specs.Views.{text_of}
-use Rattle.pawk_record.proofs.ViewLemmas.{is_left, some_left, prepared_by}
+use Rattle.pawk_record.proofs.ViewLemmas.{counted_still, is_left, some_left, prepared_by}
 use Rattle.pawk_record.proofs.record.Record.prepare.Goals as goal
+use Rattle.pawk_record.proofs.record.Record.prepare.Goals.{in-Some, in-None}
 
 pub returns-clause-ready : goal.returns-clause-ready
-returns-clause-ready c = on_ok_weaker c.find.result (prepared_by (record c.self.inside { here = record c.self.inside.here { ranges = c.find.new.ranges }; next = c.find.new.next; splitter = c.find.new.self }) c.args.n) c.find.ensures.enough
+returns-clause-ready c = on_ok_weaker c.find.result (prepared_by (record c.self.inside { here = record c.self.inside.here { ranges = c.find.new.ranges }; next = c.find.new.next; splitter = c.find.new.self }) c.args.n _ (elim c.match-self.branch [ in-Some w ↦ omega (arith, w.count-is) | in-None w ↦ omega (arith, w.count-is) ])) c.find.ensures.enough
 
 pub returns-clause-more : goal.returns-clause-more
 returns-clause-more c = let same = ap (λ (v : SplitRecord). v.found) c.self.view_is in omega (arith, same, c.find.ensures.more)
@@ -24,6 +25,7 @@ invariant_of-self c =
     record {
       splitter = subst IsSplitter (sym c.find.ensures.splitter) c.self.invariant.splitter;
       place = subst (λ t. ForSome c.find.new.next (λ p. p ≤ length t)) text c.find.ensures.within;
+      counted = counted_still r c.line-text.result.now c.find.new.ranges.items c.find.new.next c.find.new.self text c.find.ensures.same c.self.invariant.counted;
       joined = λ e. absurd (never e);
       own = c.self.invariant.own;
       done = λ e. absurd (never e);
@@ -33,4 +35,4 @@ pub returns-then-is_none-clause-ready : goal.returns-then-is_none-clause-ready
 returns-then-is_none-clause-ready c =
     let r = c.self.inside in
     let none : is_none r.next ≡ true = search rules in
-    subst (λ (v : SplitRecord). IsPrepared v c.args.n) c.self.view_is (prepared_by r c.args.n (inr (is_left r.next none)))
+    subst (λ (v : SplitRecord). IsPrepared v c.args.n) c.self.view_is (prepared_by r c.args.n c.args.n (omega arith) (inr (is_left r.next none)))

@@ -6,7 +6,7 @@ use Rattle.pawk_record.specs.Records.{SplitRecord}
 use Rattle.pawk_record.specs.Lines.{line_of}
 use Rattle.pawk_record.specs.Splitting.{IsSplitter}
 use Rattle.pawk_record.specs.Views.{text_of}
-use Rattle.pawk_record.proofs.ViewLemmas.{is_left, none_more, some_left, all_found}
+use Rattle.pawk_record.proofs.ViewLemmas.{counted_still, is_left, none_more, some_left, all_found}
 use Rattle.pawk_record.proofs.record.Record.prepare_all.Goals as goal
 
 pub returns-clause-ready : goal.returns-clause-ready
@@ -24,6 +24,7 @@ invariant_of-self c =
     record {
       splitter = subst IsSplitter (sym c.find.ensures.splitter) c.self.invariant.splitter;
       place = subst (λ t. ForSome c.find.new.next (λ p. p ≤ length t)) text c.find.ensures.within;
+      counted = counted_still r c.line-text.result.now c.find.new.ranges.items c.find.new.next c.find.new.self text c.find.ensures.same c.self.invariant.counted;
       joined = λ e. absurd (never e);
       own = c.self.invariant.own;
       done = λ e. absurd (never e);
