@@ -3,7 +3,7 @@ use Rattle.std.proofs.Common.{◌≡◌, ℕ, zero, suc, ◌+◌, ◌*◌, ◌/�
 use native.Mathlib.Nat.{div-one, pow-suc, zero-div}
 use lib.Lanes.{mask_l}
 
-halved : (b : Bool) (n : ℕ) → (cond b 1 0 + 2 * n) / 2 ≡ n
+pub halved : (b : Bool) (n : ℕ) → (cond b 1 0 + 2 * n) / 2 ≡ n
 halved true n = omega arith
 halved false n = omega arith
 

@@ -10,3 +10,4 @@ pub mod CountLemmas
 pub mod CensusLemmas
 pub mod BitLemmas
 pub mod LineEndsLemmas
+pub mod PairLemmas

@@ -21,7 +21,7 @@ const PAIR: usize = 32;
 const BEHIND_PAIR: u64 = 4_294_967_296;
 
 /// How many bytes four looks take in: as many as there are bits.
-const BLOCK: usize = 64;
+pub(crate) const BLOCK: usize = 64;
 
 /// The ends of lines among the bytes that are looked at side by side from a place on.
 #[inline(always)]
@@ -46,7 +46,7 @@ fn pair_ends(text: &[u8], place: usize, separator: u8) -> u64
 
 /// The ends of lines among the bytes of four looks from a place on.
 #[inline(always)]
-fn block_ends(text: &[u8], place: usize, separator: u8) -> u64
+pub(crate) fn block_ends(text: &[u8], place: usize, separator: u8) -> u64
     requires { place + BLOCK ≤ length text.now }
     ensures { result ≡ end_bits separator (take BLOCK (drop place text.now)) }
 {

@@ -1,12 +1,13 @@
 //! Records between empty lines.
 
-ghost use Rattle.std.specs.Prelude.{◌≡◌, ℕ, ◌+◌, ◌<◌, ◌≤◌, [], ◌∷◌, length, IfSome, MatchOption};
+ghost use Rattle.std.specs.Prelude.{◌≡◌, ℕ, ◌+◌, ◌<◌, ◌≤◌, [], ◌∷◌, length, drop, IfSome, MatchOption};
 ghost use Rattle.std.specs.List.{prefix_len};
 ghost use Rattle.memchr.specs.Find.{IsFirst, is_byte};
 ghost use Rattle.pawk_records.specs.Records.{newline, paragraphs};
 ghost use Rattle.pawk_records.specs.Begins.{BeginsAt, begins_at};
 ghost use Rattle.pawk_records.specs.Paragraph as spec;
 
+use crate::line_ends::{BLOCK, block_ends};
 use memchr::memchr;
 
 pub(crate) const NEWLINE: u8 = b'\n';
@@ -26,13 +27,16 @@ fn newline_length(text: &[u8]) -> usize
 }
 
 /// How many bytes of a text are before the newline that ends it: one at its end, or before
-/// another.
-#[inline]
-fn paragraph_length(text: &[u8]) -> usize
+/// another. It is not among the first `start` bytes, and few are left behind them.
+#[inline(never)]
+fn late_length(text: &[u8], start: usize) -> usize
+    requires within { start ≤ length text.now }
+    requires none { spec.paragraph_length text.now
+        ≡ start + spec.paragraph_length (drop start text.now) }
     ensures value { result ≡ spec.paragraph_length text.now }
     ensures bound { result ≤ length text.now }
 {
-    let mut from = 0;
+    let mut from = start;
     while from < text.len() {
         let (_, rest) = text.split_at(from);
         let Some(line) = memchr(NEWLINE, rest) else {
@@ -45,6 +49,27 @@ fn paragraph_length(text: &[u8]) -> usize
         from = end + 1;
     }
     text.len()
+}
+
+/// How many bytes of a text are before the newline that ends it: one at its end, or before
+/// another.
+#[inline(always)]
+fn paragraph_length(text: &[u8]) -> usize
+    ensures value { result ≡ spec.paragraph_length text.now }
+    ensures bound { result ≤ length text.now }
+{
+    let mut from = 0;
+    while BLOCK <= text.len() - from {
+        let ends = block_ends(text, from, NEWLINE);
+        // A newline with another directly behind it.
+        let pairs = ends & (ends >> 1);
+        if pairs != 0 {
+            return from + pairs.trailing_zeros() as usize;
+        }
+        // The last byte is looked at again, as the one behind it was not seen.
+        from += BLOCK - 1;
+    }
+    late_length(text, from)
 }
 
 /// The first paragraph of a text and what follows it, if there is one.
