@@ -13,7 +13,7 @@ ghost use Rattle.pawk_builtins.specs.MatcherViews.{AreOfTheirTexts, IsReplaced};
 ghost use Rattle.pawk_ere.specs.Kept.{IsOfItsText};
 ghost use Rattle.pawk_split.specs.FieldsOf.{TellsNone};
 
-use crate::replacement::push_replacement;
+use crate::replacement::{push_piece, push_replacement};
 use crate::slot::{fill_slot, lend_matcher};
 use pawk_code::word::Count;
 use pawk_ere::{Cache, Loan, Matcher};
@@ -83,7 +83,7 @@ fn push_match(
     ensures { OnOk result (out.new.items ≡ out.old.items ++ slice_range text.now place found.0
         ++ spec.replacement (slice_range text.now found.0 found.1) replacement.now) }
 {
-    out.extend_from_slice(&text[place..found.0])?;
+    push_piece(out, &text[place..found.0])?;
     push_replacement(out, &text[found.0..found.1], replacement)
 }
 

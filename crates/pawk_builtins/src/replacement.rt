@@ -17,6 +17,19 @@ fn is_escaped(rest: &[u8]) -> bool
     }
 }
 
+/// Appends a text, which has often one byte or none.
+#[inline(always)]
+pub(crate) fn push_piece(out: &mut Vec<u8>, text: &[u8]) -> Result<(), AllocError>
+    ensures { OnOk result (out.new.items ≡ out.old.items ++ text.now) }
+{
+    match text {
+        [] => {}
+        [byte] => out.push(*byte)?,
+        _ => out.extend_from_slice(text)?,
+    }
+    Ok(())
+}
+
 /// Appends what the first byte of a replacement stands for, with the byte behind a backslash; gives
 /// the rest of the replacement.
 fn push_unit<'r>(
@@ -30,7 +43,7 @@ fn push_unit<'r>(
     ensures shorter { IfOk result (λ left. length left.now ≤ length rest.now) }
 {
     if first == b'&' {
-        out.extend_from_slice(found)?;
+        push_piece(out, found)?;
         return Ok(rest);
     }
     if first == b'\\' && is_escaped(rest) {

@@ -17,6 +17,7 @@ ghost use Rattle.pawk_places.specs.Moments.{holds_of, moment};
 ghost use Rattle.pawk_places.specs.Ready.{IsReady};
 ghost use Rattle.pawk_places.specs.Yields.{Yields};
 
+use crate::arithmetic::result_of;
 use crate::run::{Parameter, Run, take_buffer, value_with};
 use itoa::Buffer;
 use pawk_builtins::index;
@@ -24,7 +25,7 @@ use pawk_code::leaf::{Leaf, Special};
 use pawk_code::word::Relation;
 use pawk_store::RecordState;
 use pawk_value::{
-    Fault, Held, Op, Value, ValueRef, arith, compare_lent, hold, lend, push_text_lent, text_in,
+    Fault, Held, Op, Value, ValueRef, compare_lent, hold, lend, push_text_lent, text_in,
     to_num_lent, truth_lent,
 };
 use pawk_world::{Halt, World};
@@ -408,10 +409,10 @@ pub fn arithmetic_behind<W: World>(
         (moment (W.state world.now) run.old)) result (moment (W.state world.now) run.new) }
 {
     if let Some(y) = plain_number(right, world, run) {
-        return Ok(arith(op, x, y)?);
+        return Ok(result_of(op, x, y)?);
     }
     let y = lent_number(right, world, run)?;
-    Ok(arith(op, x, y?)?)
+    Ok(result_of(op, x, y?)?)
 }
 
 /// The place where one text first stands in another, in bytes counted from 1; 0 where it does not.

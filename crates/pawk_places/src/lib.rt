@@ -2,6 +2,7 @@
 #![tactic(auto)]
 
 mod append;
+mod arithmetic;
 mod arrays;
 mod leaves;
 mod letters;
@@ -18,6 +19,7 @@ mod texts;
 mod writing;
 
 pub use append::assign_in_place;
+pub use arithmetic::result_of;
 pub use arrays::{
     Separator, array_keys, clear_array, element_exists, field_exists, number_exists,
     remove_element, split_into,

@@ -11,12 +11,12 @@ ghost use Rattle.pawk_meaning.specs.Meaning.{eval, function_of, leaf_value, numb
 ghost use Rattle.pawk_meaning.specs.Parts.{Hold, Part, as_number, as_truth, gives};
 ghost use Rattle.pawk_places.specs.Moments.{moment};
 
+use crate::arithmetic::result_of;
 use crate::leaves::{leaf_length, lent_number, place_in_leaf, plain_number, related_numbers};
 use crate::run::Run;
 use pawk_builtins::field_index;
 use pawk_code::expression::{Expr, Numeric, NumericFunction, Place, Test};
 use pawk_code::leaf::{Leaf, Special};
-use pawk_value::arith;
 use pawk_world::World;
 
 /// So many levels of operations are tried at once in an operand, a place, a length or the number of a field, before they are
@@ -126,7 +126,7 @@ pub fn quick_numeric<W: World>(
             let below = levels.checked_sub(1)?;
             let x = quick_number(a, below, world, run)?;
             let y = quick_number(b, below, world, run)?;
-            arith(*op, x, y).ok()
+            result_of(*op, x, y).ok()
         }
         Numeric::Function(NumericFunction::Length(e)) => quick_length(e, world, run),
         Numeric::Function(NumericFunction::Index(e, sought)) => quick_index(e, sought, world, run),
@@ -200,7 +200,7 @@ pub fn plain_value<W: World>(e: &Expr, world: &W, run: &Run<'_>) -> Option<i64>
         Expr::Numeric(Numeric::Arithmetic(op, a, b)) => {
             let x = plain_leaf(a, world, run)?;
             let y = plain_leaf(b, world, run)?;
-            arith(*op, x, y).ok()
+            result_of(*op, x, y).ok()
         }
         _ => None,
     }
