@@ -132,7 +132,8 @@ body_in_list (g ∷ fs) (suc i) f h = let r = body_in_list fs i f h in omega ari
 
 -- the measure of a part that weighs so much, where so many calls may be nested
 abbrev pub rank : List Function → ℕ → ℕ → ℕ
-rank fs depth w = depth * (bodies_weight fs + 1) + w
+rank fs depth w = depth * (bodies_weight fs + 2) + w
 
-pub rank_falls : (fs : List Function) (depth d w : ℕ) → depth ≡ d + 1 → w ≤ bodies_weight fs → rank fs d w < rank fs depth 0
+-- a body, with room for a demand on it, where one call less may be nested
+pub rank_falls : (fs : List Function) (depth d w : ℕ) → depth ≡ d + 1 → w ≤ bodies_weight fs + 1 → rank fs d w < rank fs depth 0
 rank_falls fs depth d w e h = rw e (omega arith)

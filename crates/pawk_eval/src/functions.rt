@@ -6,7 +6,9 @@ ghost use Rattle.std.specs.Prelude.{◌≤◌, []};
 ghost use Rattle.pawk_value.specs.Value.{shown};
 ghost use Rattle.pawk_code.specs.Expressions as codes;
 ghost use Rattle.pawk_code.specs.ExpressionViews.{argument_view, argument_views};
-ghost use Rattle.pawk_meaning.specs.Meaning.{argument_of, arguments_of};
+ghost use Rattle.pawk_code.specs.StatementViews.{seen};
+ghost use Rattle.pawk_meaning.specs.Parts.{bind, give};
+ghost use Rattle.pawk_meaning.specs.Meaning.{argument_of, arguments_of, execs, value_of_way};
 ghost use Rattle.pawk_places.specs.Moments.{hold_of, holds_of, moment};
 ghost use Rattle.pawk_places.specs.Yields.{Yields};
 ghost use Rattle.pawk_eval.specs.Contexts.{enter_of, eres_of};
@@ -16,6 +18,7 @@ use crate::expressions::value;
 use crate::operations::array_parameter;
 use crate::statements::execute;
 use pawk_code::expression::Argument;
+use pawk_code::statement::{Leave, Statement};
 use pawk_places::{
     Parameter, Run, close_arrays, give_back_frame, parameters, table_of, take_frame, tick,
 };
@@ -99,11 +102,37 @@ pub(crate) fn call<W: World>(
             let open = run.arrays.len();
             let fresh = parameters(run.alloc, arguments, &function.kinds, &mut run.arrays)?;
             let saved = mem::replace(&mut run.frame, fresh);
-            let flow = execute(context, depth - 1, &function.body, world, run)?;
+            let value = body_value(context, depth - 1, &function.body, world, run)?;
             let frame = mem::replace(&mut run.frame, saved);
             give_back_frame(&mut run.spare, &mut run.frames, frame);
             close_arrays(&mut run.arrays, open);
-            Ok(flow.value())
+            Ok(value)
         }
     }
+}
+
+/// The value of a function with this body.
+///
+/// Where it only returns an expression, that is evaluated at once.
+#[cycle(evaluate)]
+#[inline(always)]
+pub(crate) fn body_value<W: World>(
+    context: Context<'_>,
+    depth: u64,
+    body: &[Statement],
+    world: &mut W,
+    run: &mut Run<'_>,
+) -> Result<Value, Halt>
+    ensures left { run.new.left ≤ run.old.left }
+    ensures outcome { Yields shown
+        (bind (execs W.calls (eres_of context.entry) (enter_of W.calls context.entry depth)
+        (seen body.now)) (λ way. give (value_of_way way))
+        (moment (W.state world.old) run.old)) result (moment (W.state world.new) run.new) }
+{
+    if let [Statement::Leave(Leave::Return(Some(e)))] = body {
+        tick(world, run)?;
+        return value(context, depth, e, world, run);
+    }
+    let flow = execute(context, depth, body, world, run)?;
+    Ok(flow.value())
 }

@@ -31,9 +31,10 @@ use pawk_code::name::Array;
 use pawk_code::word::Step;
 use pawk_places::{
     LEVELS, Run, Separator, arithmetic_behind, change_place, give_back, give_back_target,
-    leaf_length, place_in, place_in_leaf, quick_number, set_match_place, split_into, table_of,
+    leaf_length, place_in, place_in_leaf, quick_number, result_of, set_match_place, split_into,
+    table_of,
 };
-use pawk_value::{Op, arith};
+use pawk_value::Op;
 use pawk_world::{Halt, World, sum};
 
 /// What gives a number.
@@ -94,7 +95,7 @@ pub(crate) fn arithmetic<W: World>(
 {
     if let Some(x) = quick_number(a, LEVELS, world, run) {
         if let Some(y) = quick_number(b, LEVELS, world, run) {
-            return Ok(arith(op, x, y)?);
+            return Ok(result_of(op, x, y)?);
         }
         return arithmetic_with(context, depth, op, x, b, world, run);
     }
@@ -133,7 +134,7 @@ pub(crate) fn arithmetic_with<W: World>(
     }
     if let Expr::Numeric(n) = b {
         let y = numeric(context, depth, n, world, run)?;
-        return Ok(arith(op, x, y)?);
+        return Ok(result_of(op, x, y)?);
     }
     let y = number(context, depth, b, world, run)?;
     Ok(combine(op, Ok(x), y)?)

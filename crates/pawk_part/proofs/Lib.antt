@@ -1,1 +1,2 @@
 pub mod LeftLemmas
+mod RunLemmas

@@ -26,6 +26,7 @@ pub enum Left {
 }
 
 /// How a part is left that halted; `exit` gives the last status.
+#[inline(always)]
 fn left_of<W: World>(halt: Halt, world: &W, run: &mut Run<'_>) -> Result<Left, AllocError>
     ensures { IfOk result (λ left. (outcome : Outcome W.State (Unit {0})) →
         HaltsBy outcome halt (moment (W.state world.now) run.old)
@@ -45,6 +46,7 @@ fn left_of<W: World>(halt: Halt, world: &W, run: &mut Run<'_>) -> Result<Left, A
 }
 
 /// How a part is left whose result this is.
+#[inline(always)]
 pub(crate) fn left_by<W: World>(
     ending: Result<(), Halt>,
     world: &W,

@@ -21,6 +21,7 @@ use pawk_world::{Halt, World};
 use std::alloc::AllocError;
 
 /// Begins a part with so many steps: no parameters, no local arrays.
+#[inline(always)]
 fn begin_part<W: World>(world: &W, run: &mut Run<'_>, budget: u64)
     ensures { moment (W.state world.now) run.new
         ≡ opening_moment budget (W.state world.now) (state_of run.old.state) run.old.output.items }
@@ -34,6 +35,7 @@ fn begin_part<W: World>(world: &W, run: &mut Run<'_>, budget: u64)
 }
 
 /// Reads a record and runs the rules on it.
+#[inline(always)]
 fn do_record<'a, W: World>(
     context: Context<'_>,
     rules: &[Rule],
@@ -53,6 +55,7 @@ fn do_record<'a, W: World>(
 /// what is there.
 ///
 /// POSIX.1-2017, awk, "Overall Program Structure".
+#[inline(always)]
 pub fn record<'a, W: World>(
     context: Context<'_>,
     rules: &[Rule],

@@ -82,11 +82,8 @@ fn pass_over<W: World>(
     }
 }
 
-/// Runs the rules on each record, which may take so many steps; the output goes behind what is there.
-/// `nextfile` leaves the rest of its file unread.
-///
-/// POSIX.1-2017, awk, "Overall Program Structure".
-pub fn run_records<'a, W: World>(
+/// Runs the rules on each record, of which none is passed over.
+fn run_each<'a, W: World>(
     job: Job<'_>,
     records: Records<'a>,
     world: &mut W,
@@ -97,7 +94,38 @@ pub fn run_records<'a, W: World>(
         (end_view (W.state world.old) run.old Through) (items_left records.entry)
         ≡ end_view (W.state world.new) run.new left) }
 {
-    let mut passage = Passage::of(run.alloc, job.code)?;
+    let mut skip = None;
+    let mut left = Left::Through;
+    for item in records {
+        if is_skipped(skip, &item) {
+            continue;
+        }
+        let rules = job.code.rules.as_slice();
+        left = record(job.context(), rules, job.budget, &item, world, run)?;
+        if ends_records(left) {
+            return Ok(left);
+        }
+        skip = file_left(left, &item);
+    }
+    Ok(left)
+}
+
+/// Runs the rules on each record that they may be for; the others are passed over.
+#[inline(never)]
+fn run_needed<'a, W: World>(
+    job: Job<'_>,
+    passage: Passage,
+    records: Records<'a>,
+    world: &mut W,
+    run: &mut Run<'a>,
+) -> Result<Left, AllocError>
+    requires { IsPassage (code_view job.code.now) passage }
+    ensures { IfOk result (λ left. records_from W.calls (code_view job.entry.code.now).expressions
+        (code_view job.entry.code.now) job.entry.budget None
+        (end_view (W.state world.old) run.old Through) (items_left records.entry)
+        ≡ end_view (W.state world.new) run.new left) }
+{
+    let mut passage = passage;
     let mut records = records;
     let mut skip = None;
     let mut left = Left::Through;
@@ -116,4 +144,26 @@ pub fn run_records<'a, W: World>(
         }
         skip = file_left(left, &item);
     }
+}
+
+/// Runs the rules on each record, which may take so many steps; the output goes behind what is there.
+/// `nextfile` leaves the rest of its file unread.
+///
+/// POSIX.1-2017, awk, "Overall Program Structure".
+pub fn run_records<'a, W: World>(
+    job: Job<'_>,
+    records: Records<'a>,
+    world: &mut W,
+    run: &mut Run<'a>,
+) -> Result<Left, AllocError>
+    ensures { IfOk result (λ left. records_from W.calls (code_view job.entry.code.now).expressions
+        (code_view job.entry.code.now) job.entry.budget None
+        (end_view (W.state world.old) run.old Through) (items_left records.entry)
+        ≡ end_view (W.state world.new) run.new left) }
+{
+    let passage = Passage::of(run.alloc, job.code)?;
+    if passage.passes_none() {
+        return run_each(job, records, world, run);
+    }
+    run_needed(job, passage, records, world, run)
 }

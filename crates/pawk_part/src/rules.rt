@@ -26,6 +26,7 @@ use pawk_world::{Halt, World};
 const FS: usize = 0;
 
 /// Whether a pattern holds.
+#[inline(always)]
 fn pattern_holds<W: World>(
     context: Context<'_>,
     e: &Expr,
@@ -41,6 +42,7 @@ fn pattern_holds<W: World>(
 }
 
 /// Runs a body.
+#[inline(always)]
 fn do_body<W: World>(
     context: Context<'_>,
     body: &[Statement],
@@ -56,6 +58,7 @@ fn do_body<W: World>(
 }
 
 /// Reads a record: `NR`, `FNR`, `FILENAME`, `$0`, and the fields by the FS of this moment.
+#[inline(always)]
 pub(crate) fn read_record<'a, W: World>(
     context: Context<'_>,
     item: &Item<'a>,
@@ -73,6 +76,7 @@ pub(crate) fn read_record<'a, W: World>(
 }
 
 /// Whether a range is begun, which it is where it was begun before, or where its first pattern holds.
+#[inline(always)]
 fn range_begins<W: World>(
     context: Context<'_>,
     number: usize,
@@ -91,6 +95,7 @@ fn range_begins<W: World>(
 }
 
 /// Whether a record is in a range, which it may end.
+#[inline(always)]
 fn range_goes_on<W: World>(
     context: Context<'_>,
     number: usize,
@@ -115,6 +120,7 @@ fn range_goes_on<W: World>(
 }
 
 /// Whether the rule of this number is for the record.
+#[inline(always)]
 fn rule_applies<W: World>(
     context: Context<'_>,
     number: usize,
@@ -138,6 +144,7 @@ fn rule_applies<W: World>(
 }
 
 /// Runs a rule on the record, if it is for it.
+#[inline(always)]
 fn do_rule<W: World>(
     context: Context<'_>,
     number: usize,
@@ -157,6 +164,7 @@ fn do_rule<W: World>(
 }
 
 /// Runs the rules in order on the record.
+#[inline(always)]
 pub(crate) fn do_rules<W: World>(
     context: Context<'_>,
     rules: &[Rule],

@@ -1,6 +1,6 @@
 //! Passing over records that no rule is for.
 
-ghost use Rattle.std.specs.Prelude.{◌≡◌, ◌≤◌, List, ℕ, length, map, IfOk, IfSome, OnOk, IsTrue, None, false};
+ghost use Rattle.std.specs.Prelude.{◌≡◌, ◌≤◌, ◌↔◌, List, ℕ, length, map, IfOk, IfSome, OnOk, IsTrue, None, false};
 ghost use Rattle.pawk_code.specs.ProgramViews.{code_view, rule_view};
 ghost use Rattle.pawk_code.specs.Programs.{Code as Program};
 ghost use Rattle.pawk_input.specs.Walk.{items_left};
@@ -124,6 +124,13 @@ impl Passage {
             pause: 0,
             wait: 0,
         })
+    }
+
+    /// Whether no record is ever passed over, since no words are known.
+    pub fn passes_none(&self) -> bool
+        ensures { IsTrue result ↔ (self.now.words ≡ None) }
+    {
+        self.words.is_none()
     }
 
     /// Waits longer and longer behind searches that pass over fewer records than this.

@@ -298,32 +298,32 @@ functions::call-returns-in-None-clause-outcome g t c =
     let pos : 0 < c.args.depth = omega (arith, c.if-depth-eq0.false) in
     call_nothing g.W.World.calls (eres_of c.args.context) (functions_of c.args.context) c.args.depth c.args.f (holds_of c.args.arguments.items) (moment (g.W.World.state c.args.world.now) c.args.run.now) _ pos c.in_ok-tick.ensures.outcome c.in-None.ensures
 
-pub functions::call-execute-requires : goal.functions::call-execute-requires
-functions::call-execute-requires g t c =
+pub functions::call-body_value-requires : goal.functions::call-body_value-requires
+functions::call-body_value-requires g t c =
     let w = body_in_list (functions_of c.args.context) c.args.f (function_view c.in-Some.function.now) c.in-Some.ensures in
     let pos : 0 < c.args.depth = omega (arith, c.if-depth-eq0.false) in
     let one : c.args.depth ≡ c.args.depth - 1 + 1 = omega (arith, pos) in
-    let f : rank (functions_of c.args.context) (c.args.depth - 1) (body_weight (seen c.deref-in-Some.result.now)) < rank (functions_of c.args.context) c.args.depth 0 = rw c.deref-in-Some.ensures.value (rank_falls (functions_of c.args.context) c.args.depth (c.args.depth - 1) (body_weight (seen c.in-Some.function.now.body.items)) one w) in
+    let f : rank (functions_of c.args.context) (c.args.depth - 1) (body_weight (seen c.deref-in-Some.result.now) + 1) < rank (functions_of c.args.context) c.args.depth 0 = rw c.deref-in-Some.ensures.value (rank_falls (functions_of c.args.context) c.args.depth (c.args.depth - 1) (body_weight (seen c.in-Some.function.now.body.items) + 1) one (omega (arith, w))) in
     search rules
 
-pub functions::call-returns-in_err-flow-in-Some-clause-outcome : goal.functions::call-returns-in_err-flow-in-Some-clause-outcome
-functions::call-returns-in_err-flow-in-Some-clause-outcome g t c =
+pub functions::call-returns-in_err-value-in-Some-clause-outcome : goal.functions::call-returns-in_err-value-in-Some-clause-outcome
+functions::call-returns-in_err-value-in-Some-clause-outcome g t c =
     let pos : 0 < c.args.depth = omega (arith, c.if-depth-eq0.false) in
     let m1 = moment (g.W.World.state c.args.world.now) c.tick.new.run in
     let e : Entry = record { frame = holds_of c.replace-saved.new.dest.items; arrays = c.parameters.new.arrays.items } in
     let start : e ≡ entry_of c.in-Some.function.now.kinds.items (holds_of c.args.arguments.items) m1.arrays = ap (λ (x : Vec Parameter Global). let y : Entry = record { frame = holds_of x.items; arrays = c.parameters.new.arrays.items } in y) c.replace-saved.ensures.after ∙ sym c.in_ok-fresh-in-Some.ensures ∙ ap (λ ks. entry_of ks (holds_of c.args.arguments.items) m1.arrays) c.deref.ensures.value in
     let runs = call_runs g.W.World.calls (eres_of c.args.context) (functions_of c.args.context) c.args.depth c.args.f (holds_of c.args.arguments.items) (function_view c.in-Some.function.now) (seen c.deref-in-Some.result.now) (moment (g.W.World.state c.args.world.now) c.args.run.now) m1 e pos c.in_ok-tick.ensures.outcome c.in-Some.ensures (ap seen c.deref-in-Some.ensures.value) start in
-    let stops : (h : Halt) → halt_of c.in_err-flow-in-Some.field-0.0 ≡ Some h → enter_of g.W.World.calls c.args.context c.args.depth c.args.f (holds_of c.args.arguments.items) (moment (g.W.World.state c.args.world.now) c.args.run.now) ≡ halts h (g.W.World.state c.execute.new.world) (state_of c.execute.new.run.state) c.execute.new.run.output.items = λ h is. rw (runs, c.in_err-flow-in-Some.ensures.outcome h is) in
+    let stops : (h : Halt) → halt_of c.in_err-value-in-Some.field-0.0 ≡ Some h → enter_of g.W.World.calls c.args.context c.args.depth c.args.f (holds_of c.args.arguments.items) (moment (g.W.World.state c.args.world.now) c.args.run.now) ≡ halts h (g.W.World.state c.body_value.new.world) (state_of c.body_value.new.run.state) c.body_value.new.run.output.items = λ h is. rw (runs, c.in_err-value-in-Some.ensures.outcome h is) in
     search rules
 
-pub functions::call-returns-in_ok-flow-in-Some-clause-outcome : goal.functions::call-returns-in_ok-flow-in-Some-clause-outcome
-functions::call-returns-in_ok-flow-in-Some-clause-outcome g t c =
+pub functions::call-returns-in_ok-value-in-Some-clause-outcome : goal.functions::call-returns-in_ok-value-in-Some-clause-outcome
+functions::call-returns-in_ok-value-in-Some-clause-outcome g t c =
     let pos : 0 < c.args.depth = omega (arith, c.if-depth-eq0.false) in
     let m1 = moment (g.W.World.state c.args.world.now) c.tick.new.run in
     let e : Entry = record { frame = holds_of c.replace-saved.new.dest.items; arrays = c.parameters.new.arrays.items } in
     let start : e ≡ entry_of c.in-Some.function.now.kinds.items (holds_of c.args.arguments.items) m1.arrays = ap (λ (x : Vec Parameter Global). let y : Entry = record { frame = holds_of x.items; arrays = c.parameters.new.arrays.items } in y) c.replace-saved.ensures.after ∙ sym c.in_ok-fresh-in-Some.ensures ∙ ap (λ ks. entry_of ks (holds_of c.args.arguments.items) m1.arrays) c.deref.ensures.value in
     let runs = call_runs g.W.World.calls (eres_of c.args.context) (functions_of c.args.context) c.args.depth c.args.f (holds_of c.args.arguments.items) (function_view c.in-Some.function.now) (seen c.deref-in-Some.result.now) (moment (g.W.World.state c.args.world.now) c.args.run.now) m1 e pos c.in_ok-tick.ensures.outcome c.in-Some.ensures (ap seen c.deref-in-Some.ensures.value) start in
-    rw (runs, c.in_ok-flow-in-Some.ensures.outcome) (grind (arith, common_steps))
+    rw (runs, c.in_ok-value-in-Some.ensures.outcome) (grind (arith, common_steps))
 
 -- ---- choices
 

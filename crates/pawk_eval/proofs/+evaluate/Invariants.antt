@@ -148,6 +148,9 @@ decreases-operands::format_operand g l = rank (functions_of l.context) l.depth (
 abbrev pub decreases-functions::call : goal.decreases-functions::call
 decreases-functions::call g l = rank (functions_of l.context) l.depth (0)
 
+abbrev pub decreases-functions::body_value : goal.decreases-functions::body_value
+decreases-functions::body_value g l = rank (functions_of l.context) l.depth (body_weight (seen l.body.now) + 1)
+
 abbrev pub decreases-statements::perform : goal.decreases-statements::perform
 decreases-statements::perform g l = rank (functions_of l.context) l.depth (simple_weight (simple_view l.s.now))
 

@@ -5,7 +5,7 @@ use Rattle.pawk_meaning.specs.Runs.{records_from}
 use Rattle.pawk_passage.specs.Passages.{IsPassage}
 use Rattle.pawk_part.specs.declared.left.Left.TheVariants.{Through}
 use Rattle.pawk_part.specs.Ends.{end_view}
-use Rattle.pawk_part.proofs.records.run_records.Given as goal
+use Rattle.pawk_part.proofs.records.run_needed.Given as goal
 
 -- from where the walk is, the records that are left end as all of them do
 abbrev pub invariant-loop-passage : goal.invariant-loop-passage
