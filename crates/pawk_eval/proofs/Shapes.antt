@@ -1,5 +1,5 @@
 -- Code with rows that is known by an equation, as what it is seen to be.
-use Rattle.std.proofs.Common.{◌≡◌, ℕ, List, [], ◌∷◌, length, get_or, Some, ap, sym, ◌∙◌, arith, Vec, Global}
+use Rattle.std.proofs.Common.{◌≡◌, ℕ, List, ap, sym, ◌∙◌, Vec, Global}
 use Rattle.pawk_code.specs.declared.name.Array.{Array}
 use Rattle.pawk_code.specs.declared.expression.Place.{Place}
 use Rattle.pawk_code.specs.declared.expression.Place as code_place
@@ -12,15 +12,13 @@ use Rattle.pawk_code.specs.declared.expression.Expr.{Expr}
 use Rattle.pawk_code.specs.declared.expression.Expr as code
 use Rattle.pawk_code.specs.declared.expression.Argument.{Argument}
 use Rattle.pawk_code.specs.declared.statement.Simple.{Simple}
-use Rattle.pawk_code.specs.declared.statement.Leave.{Leave}
-use Rattle.pawk_code.specs.declared.statement.Leave.TheVariants as code_leave
 use Rattle.pawk_code.specs.declared.statement.Statement.{Statement}
 use Rattle.pawk_code.specs.declared.statement.Statement.TheVariants as statement
-use Rattle.pawk_code.specs.declared.statement.Statement.TheVariants.{rolls-Simple, rolls-Leave, rolls-If, rolls-Choose, rolls-Do}
+use Rattle.pawk_code.specs.declared.statement.Statement.TheVariants.{rolls-Simple, rolls-If, rolls-Choose, rolls-Do}
 use Rattle.pawk_code.specs.declared.statement.Statement.TheOpen.{Statement-F}
 use Rattle.pawk_code.specs.declared.statement.Statement.TheFolds.{fold-roll-Statement}
-use Rattle.pawk_code.specs.Statements.{Stmt, simple, leave, return, when, choose, do_while, done, next}
-use Rattle.pawk_code.specs.StatementViews.{seen, leave_view, simple_view, stmt_step, stmt_view}
+use Rattle.pawk_code.specs.Statements.{Stmt, simple, when, choose, do_while}
+use Rattle.pawk_code.specs.StatementViews.{seen, simple_view, stmt_step, stmt_view}
 use Rattle.pawk_code.specs.Expressions.{call, to_element, member, join, formatted, exprs, arguments}
 use Rattle.pawk_code.specs.ExpressionViews.{view, views, place_view, test_view, textual_view, format_view, argument_views}
 use Rattle.pawk_code.proofs.Rows.{view-Call, view-Element, view-In, view-Join, view-Format}
@@ -45,9 +43,6 @@ format_shape t f g v es is alike same = ap textual_view is ∙ view-Format f v �
 pub simple_shape : (s : Statement) (x : Simple) → s ≡ statement.Simple x → stmt_view s ≡ simple (simple_view x)
 simple_shape s x is = ap stmt_view (is ∙ sym (rolls-Simple x)) ∙ fold-roll-Statement Stmt stmt_step (Statement-F.Simple x)
 
-pub leave_shape : (s : Statement) (x : Leave) → s ≡ statement.Leave x → stmt_view s ≡ leave (leave_view x)
-leave_shape s x is = ap stmt_view (is ∙ sym (rolls-Leave x)) ∙ fold-roll-Statement Stmt stmt_step (Statement-F.Leave x)
-
 pub if_shape : (s : Statement) (e : Expr) (v : Vec Statement Global) (body : List Statement) → s ≡ statement.If e v → body ≡ v.items → stmt_view s ≡ when (view e) (seen body)
 if_shape s e v body is same =
     ap stmt_view (is ∙ sym (rolls-If e v)) ∙ fold-roll-Statement Stmt stmt_step (Statement-F.If e v) ∙ ap (λ xs. when (view e) (seen xs)) (sym same)
@@ -59,9 +54,3 @@ choose_shape s e v w a b is same alike =
 pub do_shape : (s : Statement) (v : Vec Statement Global) (e : Expr) (body : List Statement) → s ≡ statement.Do v e → body ≡ v.items → stmt_view s ≡ do_while (seen body) (view e)
 do_shape s v e body is same =
     ap stmt_view (is ∙ sym (rolls-Do v e)) ∙ fold-roll-Statement Stmt stmt_step (Statement-F.Do v e) ∙ ap (λ xs. do_while (seen xs) (view e)) (sym same)
-
--- a body that only returns an expression
-pub return_shape : (body : List Statement) (s : Statement) (e : Expr) → length body ≡ 1 → s ≡ get_or body 0 s → s ≡ statement.Leave (code_leave.Return (Some e)) → seen body ≡ next (leave (return (Some (view e)))) done
-return_shape [] s e one is only = cc
-return_shape (x ∷ []) s e one is only = ap (λ y. next (stmt_view y) done) (sym is) ∙ ap (λ y. next y done) (leave_shape s (code_leave.Return (Some e)) only)
-return_shape (x ∷ y ∷ ys) s e one is only = absurd (omega arith)

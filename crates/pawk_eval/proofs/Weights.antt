@@ -27,7 +27,7 @@ abbrev mutual
 
   pub numeric_weight : Numeric → ℕ
   numeric_weight (arithmetic op a b) = weight a + weight b + 5
-  numeric_weight (signed s a) = weight a + 3
+  numeric_weight (signed s a) = weight a + 4
   numeric_weight (change op p e) = place_weight p + weight e + 4
   numeric_weight (step s p) = place_weight p + 2
   numeric_weight (function f) = function_weight f + 1
@@ -78,9 +78,9 @@ abbrev mutual
 
 abbrev pub simple_weight : Simple → ℕ
 simple_weight (drop e) = weight e + 2
-simple_weight (set p e) = place_weight p + weight e + 2
-simple_weight (add s p e) = place_weight p + weight e + 4
-simple_weight (count s p) = place_weight p + 2
+simple_weight (set p e) = place_weight p + weight e + 3
+simple_weight (add s p e) = place_weight p + weight e + 5
+simple_weight (count s p) = place_weight p + 3
 simple_weight (print calm es) = row_weight es + 3
 simple_weight (printf f calm es) = format_weight f + row_weight es + 3
 simple_weight (delete a ks) = row_weight ks + 3

@@ -146,7 +146,7 @@ pub(crate) fn compare_values<W: World>(
 ///
 /// POSIX.1-2017, awk, "Regular Expressions".
 #[cycle(evaluate)]
-#[inline(always)]
+#[inline(never)]
 pub(crate) fn matches<W: World>(
     context: Context<'_>,
     depth: u64,
@@ -189,7 +189,7 @@ pub(crate) fn matches<W: World>(
 ///
 /// POSIX.1-2017, awk, "Expressions in awk" (`in`).
 #[cycle(evaluate)]
-#[inline(always)]
+#[inline(never)]
 pub(crate) fn member<W: World>(
     context: Context<'_>,
     depth: u64,

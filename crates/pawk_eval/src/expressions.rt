@@ -17,14 +17,15 @@ use crate::conditions::test;
 use crate::context::Context;
 use crate::functions::{call, pass};
 use crate::numbers::numeric;
-use crate::places::place;
+use crate::places::{field_element, place};
 use crate::strings::textual;
 use pawk_code::expression::{Argument, Expr, Place};
 use pawk_code::leaf::Leaf;
 use pawk_places::{
-    LEVELS, Run, give_back, give_back_target, give_back_value, leaf_copy, leaf_text, leaf_truth,
-    leaf_value, lent_number, plain_test, plain_value, push_place_text, quick_field, read_number,
-    read_place, take_buffer, text_of_value, value_with, write_place,
+    LEVELS, Run, field_element_number, give_back, give_back_target, give_back_value, leaf_copy,
+    leaf_text, leaf_truth, leaf_value, lent_number, plain_test, plain_value, push_field_element,
+    push_place_text, quick_field, read_field_element, read_number, read_place, table_of,
+    take_buffer, text_of_value, value_with, write_place,
 };
 use pawk_value::{
     Fault, Held, Value, ValueRef, hold, lend, lend_held, push_text_lent, to_num_lent, truth_lent,
@@ -75,7 +76,7 @@ pub(crate) fn eval<W: World>(
     }
 }
 
-/// Lays down the value of a place.
+/// Lays down the value of a place. A key that is a field is not copied.
 #[cycle(evaluate)]
 pub(crate) fn read<W: World>(
     context: Context<'_>,
@@ -93,6 +94,9 @@ pub(crate) fn read<W: World>(
         (codes.read (place_view from.now))
         (moment (W.state world.old) run.old)) result (moment (W.state world.new) run.new) }
 {
+    if let Some((array, n)) = field_element(from) {
+        return read_field_element(table_of(&run.frame, array), n, out, world, run);
+    }
     let target = place(context, depth, from, world, run)?;
     let held = read_place(&target, out, world, run)?;
     give_back_target(&mut run.spare, target);
@@ -145,28 +149,6 @@ pub(crate) fn lay_call<W: World>(
     let held = hold(lend(&value), out)?;
     give_back_value(&mut run.spare, value);
     Ok(held)
-}
-
-/// The number of the value of a call, or the fault of its conversion.
-#[cycle(evaluate)]
-pub(crate) fn number_of_call<W: World>(
-    context: Context<'_>,
-    depth: u64,
-    f: usize,
-    arguments: &[Argument],
-    world: &mut W,
-    run: &mut Run<'_>,
-) -> Result<Result<i64, Fault>, Halt>
-    ensures left { run.new.left ≤ run.old.left }
-    ensures outcome { Yields (λ number. number)
-        (as_number (eval W.calls (eres_of context.entry) (enter_of W.calls context.entry depth)
-        (codes.call f (codes.arguments (argument_views arguments.now))))
-        (moment (W.state world.old) run.old)) result (moment (W.state world.new) run.new) }
-{
-    let value = invoke(context, depth, f, arguments, world, run)?;
-    let number = to_num_lent(lend(&value));
-    give_back_value(&mut run.spare, value);
-    Ok(number)
 }
 
 /// Appends the text of the value of a call.
@@ -263,17 +245,41 @@ pub(crate) fn number<W: World>(
         Expr::Leaf(leaf) => lent_number(leaf, world, run),
         Expr::Numeric(n) => Ok(Ok(numeric(context, depth, n, world, run)?)),
         Expr::Read(from) => number_at(context, depth, from, world, run),
-        Expr::Call(f, arguments) => number_of_call(context, depth, *f, arguments, world, run),
-        e => {
-            let (held, bytes) = eval_apart(context, depth, e, world, run)?;
-            let number = to_num_lent(lend_held(held, &bytes));
-            give_back(&mut run.spare, bytes);
-            Ok(number)
-        }
+        e => number_beside(context, depth, e, world, run),
     }
 }
 
-/// The number of the value of a place, or the fault of its conversion.
+/// The same, where the value is laid down first.
+#[cycle(evaluate)]
+#[inline(never)]
+pub(crate) fn number_beside<W: World>(
+    context: Context<'_>,
+    depth: u64,
+    e: &Expr,
+    world: &mut W,
+    run: &mut Run<'_>,
+) -> Result<Result<i64, Fault>, Halt>
+    ensures left { run.new.left ≤ run.old.left }
+    ensures outcome { Yields (λ number. number)
+        (as_number (eval W.calls (eres_of context.entry) (enter_of W.calls context.entry depth)
+        (view e.now))
+        (moment (W.state world.old) run.old)) result (moment (W.state world.new) run.new) }
+{
+    if let Expr::Call(f, arguments) = e {
+        let value = invoke(context, depth, *f, arguments, world, run)?;
+        let number = to_num_lent(lend(&value));
+        give_back_value(&mut run.spare, value);
+        return Ok(number);
+    }
+    let mut bytes = take_buffer(run.alloc, &mut run.spare);
+    let held = eval(context, depth, e, &mut bytes, world, run)?;
+    let number = to_num_lent(lend_held(held, &bytes));
+    give_back(&mut run.spare, bytes);
+    Ok(number)
+}
+
+/// The number of the value of a place, or the fault of its conversion. A key that is a field is not
+/// copied.
 #[cycle(evaluate)]
 pub(crate) fn number_at<W: World>(
     context: Context<'_>,
@@ -292,6 +298,9 @@ pub(crate) fn number_at<W: World>(
         if let Some(field) = quick_field(index, LEVELS, world, run) {
             return lent_number(&Leaf::Field(field), world, run);
         }
+    }
+    if let Some((array, n)) = field_element(from) {
+        return field_element_number(table_of(&run.frame, array), n, world, run);
     }
     let target = place(context, depth, from, world, run)?;
     let number = read_number(&target, world, run)?;
@@ -374,7 +383,7 @@ pub(crate) fn text_into<W: World>(
     }
 }
 
-/// Appends the text of the value of a place.
+/// Appends the text of the value of a place. A key that is a field is not copied.
 #[cycle(evaluate)]
 pub(crate) fn text_at<W: World>(
     context: Context<'_>,
@@ -395,6 +404,9 @@ pub(crate) fn text_at<W: World>(
         if let Some(field) = quick_field(index, LEVELS, world, run) {
             return leaf_text(&Leaf::Field(field), out, world, run);
         }
+    }
+    if let Some((array, n)) = field_element(from) {
+        return push_field_element(table_of(&run.frame, array), n, out, world, run);
     }
     let target = place(context, depth, from, world, run)?;
     push_place_text(&target, out, world, run)?;

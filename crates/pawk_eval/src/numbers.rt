@@ -35,7 +35,7 @@ use pawk_places::{
     table_of,
 };
 use pawk_value::Op;
-use pawk_world::{Halt, World, sum};
+use pawk_world::{Halt, World};
 
 /// What gives a number.
 #[cycle(evaluate)]
@@ -56,8 +56,7 @@ pub(crate) fn numeric<W: World>(
     match n {
         Numeric::Arithmetic(op, a, b) => arithmetic(context, depth, *op, a, b, world, run),
         Numeric::Sign(sign, a) => {
-            let x = number(context, depth, a, world, run)?;
-            Ok(sum(*sign, Ok(0), x)?)
+            arithmetic_with(context, depth, sign_op(*sign), 0, a, world, run)
         }
         Numeric::Change(op, to, a) => change(context, depth, *op, to, a, world, run),
         Numeric::Step(step, to) => step_by(context, depth, *step, to, world, run),

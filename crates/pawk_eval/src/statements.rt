@@ -21,7 +21,7 @@ ghost use Rattle.pawk_meaning.specs.Meaning.{
   texts_of,
 };
 ghost use Rattle.pawk_meaning.specs.Meaning as spec;
-ghost use Rattle.pawk_meaning.specs.Places.{add_at, array_at, element_of, write_at};
+ghost use Rattle.pawk_meaning.specs.Places.{add_at, array_at, element_of};
 ghost use Rattle.pawk_places.specs.Moments.{moment};
 ghost use Rattle.pawk_places.specs.Yields.{Yields};
 ghost use Rattle.pawk_eval.specs.Contexts.{enter_of, eres_of};
@@ -33,7 +33,7 @@ use crate::flow::Flow;
 use crate::loops::{count, turns, turns_after, walk};
 use crate::numbers::numeric;
 use crate::operands::texts;
-use crate::places::{key, place};
+use crate::places::{key, leaf_element, place};
 use crate::strings::formatted;
 use pawk_array::Texts;
 use pawk_builtins::{exit_status, step_sign};
@@ -44,9 +44,9 @@ use pawk_code::statement::{Leave, Simple, Statement};
 use pawk_code::word::Sign;
 use pawk_places::{
     Run, Table, add_to_field_key, add_to_key, add_to_number, add_to_parameter, add_to_place,
-    are_plain, assign_in_place, clear_array, element_target, give_back, give_back_target,
-    leaf_number, plain_number, print_alone, print_bytes, print_line, print_plain, remove_element,
-    set_at_number, table_of, take_buffer, tick, write_place,
+    are_plain, assign_in_place, clear_array, give_back, give_back_target, leaf_number,
+    plain_number, print_alone, print_bytes, print_line, print_plain, remove_element, set_at_number,
+    table_of, take_buffer, tick, write_place,
 };
 use pawk_value::{Value, ValueRef, lend_held};
 use pawk_world::{Halt, World};
@@ -88,7 +88,6 @@ pub fn execute<W: World>(
 
 /// Runs a statement, after its step.
 #[cycle(evaluate)]
-#[inline(always)]
 pub(crate) fn statement<W: World>(
     context: Context<'_>,
     depth: u64,
@@ -219,6 +218,27 @@ pub(crate) fn add<W: World>(
     if let Place::Element(array, keys) = to {
         return add_element(context, depth, sign, *array, keys, e, world, run);
     }
+    add_elsewhere(context, depth, sign, to, e, world, run)
+}
+
+/// The same, where the place is laid down first.
+#[cycle(evaluate)]
+#[inline(never)]
+pub(crate) fn add_elsewhere<W: World>(
+    context: Context<'_>,
+    depth: u64,
+    sign: Sign,
+    to: &Place,
+    e: &Expr,
+    world: &mut W,
+    run: &mut Run<'_>,
+) -> Result<(), Halt>
+    ensures left { run.new.left ≤ run.old.left }
+    ensures outcome { Yields (λ _. tt)
+        (act W.calls (eres_of context.entry) (enter_of W.calls context.entry depth)
+        (actions.add sign (place_view to.now) (view e.now))
+        (moment (W.state world.old) run.old)) result (moment (W.state world.new) run.new) }
+{
     let target = place(context, depth, to, world, run)?;
     let amount = number(context, depth, e, world, run)?;
     add_to_place(sign, &target, amount, world, run)?;
@@ -288,6 +308,26 @@ pub(crate) fn tally<W: World>(
     if let Place::Element(array, keys) = to {
         return tally_element(context, depth, sign, *array, keys, world, run);
     }
+    tally_elsewhere(context, depth, sign, to, world, run)
+}
+
+/// The same, where the place is laid down first.
+#[cycle(evaluate)]
+#[inline(never)]
+pub(crate) fn tally_elsewhere<W: World>(
+    context: Context<'_>,
+    depth: u64,
+    sign: Sign,
+    to: &Place,
+    world: &mut W,
+    run: &mut Run<'_>,
+) -> Result<(), Halt>
+    ensures left { run.new.left ≤ run.old.left }
+    ensures outcome { Yields (λ _. tt)
+        (bind (aim_of W.calls (eres_of context.entry) (enter_of W.calls context.entry depth)
+        (place_view to.now)) (λ aim. add_at W.calls sign aim (Ok (pos 1)))
+        (moment (W.state world.old) run.old)) result (moment (W.state world.new) run.new) }
+{
     let target = place(context, depth, to, world, run)?;
     add_to_place(sign, &target, Ok(1), world, run)?;
     give_back_target(&mut run.spare, target);
@@ -352,40 +392,28 @@ pub(crate) fn set<W: World>(
     if assign_in_place(to, e, world, run)? {
         return Ok(());
     }
-    if let Place::Element(array, keys) = to {
-        return set_element(context, depth, *array, keys, e, world, run);
-    }
-    let target = place(context, depth, to, world, run)?;
-    let mut bytes = take_buffer(run.alloc, &mut run.spare);
-    let held = eval(context, depth, e, &mut bytes, world, run)?;
-    write_place(&target, lend_held(held, &bytes), world, run)?;
-    give_back(&mut run.spare, bytes);
-    give_back_target(&mut run.spare, target);
-    Ok(())
+    set_elsewhere(context, depth, to, e, world, run)
 }
 
-/// Assigns the value of an expression to an element of an array. A key that is a number is not copied where
-/// the value is one too.
+/// The same, whose value is laid down first. A key that is a number is not copied where the value is
+/// one too.
 #[cycle(evaluate)]
-pub(crate) fn set_element<W: World>(
+#[inline(never)]
+pub(crate) fn set_elsewhere<W: World>(
     context: Context<'_>,
     depth: u64,
-    array: Array,
-    keys: &[Expr],
+    to: &Place,
     e: &Expr,
     world: &mut W,
     run: &mut Run<'_>,
 ) -> Result<(), Halt>
     ensures left { run.new.left ≤ run.old.left }
     ensures outcome { Yields (λ _. tt)
-        (bind (subscripts W.calls (eres_of context.entry) (enter_of W.calls context.entry depth)
-        (exprs (views keys.now)))
-        (λ key m. bind (spec.eval W.calls (eres_of context.entry)
-        (enter_of W.calls context.entry depth) (view e.now))
-        (write_at W.calls (element_of (array_at m.frame array) key)) m)
+        (act W.calls (eres_of context.entry) (enter_of W.calls context.entry depth)
+        (actions.set (place_view to.now) (view e.now))
         (moment (W.state world.old) run.old)) result (moment (W.state world.new) run.new) }
 {
-    if let [Expr::Leaf(key)] = keys {
+    if let Some((array, key)) = leaf_element(to) {
         if let Expr::Leaf(value) = e {
             if let Table::Global(slot) = table_of(&run.frame, array) {
                 if let Some(key) = plain_number(key, world, run) {
@@ -396,8 +424,7 @@ pub(crate) fn set_element<W: World>(
             }
         }
     }
-    let key = key(context, depth, keys, world, run)?;
-    let target = element_target(table_of(&run.frame, array), key);
+    let target = place(context, depth, to, world, run)?;
     let mut bytes = take_buffer(run.alloc, &mut run.spare);
     let held = eval(context, depth, e, &mut bytes, world, run)?;
     write_place(&target, lend_held(held, &bytes), world, run)?;

@@ -101,7 +101,7 @@ impl<'a> World for Frozen<'a> {
         Ok(())
     }
 
-    #[inline]
+    #[inline(always)]
     fn add_scalar(
         &mut self,
         slot: usize,

@@ -94,14 +94,15 @@ fn run_each<'a, W: World>(
         (end_view (W.state world.old) run.old Through) (items_left records.entry)
         ≡ end_view (W.state world.new) run.new left) }
 {
+    let context = job.context();
+    let rules = job.code.rules.as_slice();
     let mut skip = None;
     let mut left = Left::Through;
     for item in records {
         if is_skipped(skip, &item) {
             continue;
         }
-        let rules = job.code.rules.as_slice();
-        left = record(job.context(), rules, job.budget, &item, world, run)?;
+        left = record(context, rules, job.budget, &item, world, run)?;
         if ends_records(left) {
             return Ok(left);
         }

@@ -32,7 +32,10 @@ pub use leaves::{
 pub use outputs::{key_of_texts, print_alone, print_bytes, print_line, tick};
 pub use plain::{are_plain, print_plain};
 pub use quick::{LEVELS, plain_test, plain_value, quick_field, quick_number, quick_numeric};
-pub use reading::{push_place_text, read_number, read_place};
+pub use reading::{
+    field_element_number, push_field_element, push_place_text, read_field_element, read_number,
+    read_place,
+};
 pub use run::{
     Parameter, Run, close_arrays, give_back, give_back_frame, give_back_value, parameters,
     take_buffer, take_frame, text_of_value, value_with,

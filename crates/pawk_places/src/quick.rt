@@ -122,14 +122,30 @@ pub fn quick_numeric<W: World>(
         ≡ gives number (moment (W.state world.now) run.old)) }
 {
     match n {
+        Numeric::Function(NumericFunction::Length(e)) => quick_length(e, world, run),
+        Numeric::Function(NumericFunction::Index(e, sought)) => quick_index(e, sought, world, run),
+        n => quick_result(n, levels, world, run),
+    }
+}
+
+/// The same of the result of an operation.
+#[cycle(quick)]
+#[inline(never)]
+fn quick_result<W: World>(n: &Numeric, levels: u32, world: &W, run: &mut Run<'_>) -> Option<i64>
+    ensures same { moment (W.state world.now) run.new ≡ moment (W.state world.now) run.old }
+    ensures left { run.new.left ≤ run.old.left }
+    ensures number { IfSome result (λ number. (eres : List (List ℕ))
+        → (enter : ℕ → List Hold → Part W.State Val)
+        → number_of W.calls eres enter (numeric_view n.now) (moment (W.state world.now) run.old)
+        ≡ gives number (moment (W.state world.now) run.old)) }
+{
+    match n {
         Numeric::Arithmetic(op, a, b) => {
             let below = levels.checked_sub(1)?;
             let x = quick_number(a, below, world, run)?;
             let y = quick_number(b, below, world, run)?;
             result_of(*op, x, y).ok()
         }
-        Numeric::Function(NumericFunction::Length(e)) => quick_length(e, world, run),
-        Numeric::Function(NumericFunction::Index(e, sought)) => quick_index(e, sought, world, run),
         _ => None,
     }
 }

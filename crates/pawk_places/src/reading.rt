@@ -1,19 +1,24 @@
 //! How places are read.
 
-ghost use Rattle.std.specs.Prelude.{◌≡◌, ◌≤◌, ◌++◌, OnOk};
+ghost use Rattle.std.specs.Prelude.{◌≡◌, ◌≤◌, ◌++◌, [], drop, length, take, OnOk};
+ghost use Rattle.pawk_value.specs.Conversion.{text_of};
 ghost use Rattle.pawk_value.specs.Held.{added, held_value};
-ghost use Rattle.pawk_meaning.specs.Parts.{as_number, as_text};
-ghost use Rattle.pawk_meaning.specs.Places.{cell, old_at, read_at};
+ghost use Rattle.pawk_code.specs.Expressions.{field};
+ghost use Rattle.pawk_meaning.specs.Parts.{as_number, as_text, bind};
+ghost use Rattle.pawk_meaning.specs.Meaning.{value_of_leaf};
+ghost use Rattle.pawk_meaning.specs.Places.{cell, element_of, old_at, read_at};
 ghost use Rattle.pawk_world.specs.Worlds.{element};
-ghost use Rattle.pawk_places.specs.Moments.{aim_view, moment};
+ghost use Rattle.pawk_places.specs.Moments.{aim_view, moment, table_view};
 ghost use Rattle.pawk_places.specs.Yields.{Yields};
 
 use crate::leaves::lend_parameter;
 use crate::locals;
 use crate::run::{Run, give_back, take_buffer};
-use crate::target::Target;
-use pawk_value::{Fault, Held, hold, lend_held, push_text_lent, to_num_lent};
+use crate::target::{Table, Target};
+use itoa::Buffer;
+use pawk_value::{Fault, Held, ValueRef, hold, lend_held, push_text_lent, text_in, to_num_lent};
 use pawk_world::{Halt, World};
+use std::alloc::AllocError;
 
 /// Lays down the value of a place, which creates an element: its bytes are appended to `out`.
 ///
@@ -90,7 +95,26 @@ pub fn read_number<W: World>(
     laid_number(target, world, run)
 }
 
-/// Appends the text of the value of a place, which is laid down.
+/// Leaves the text of a value whose bytes were appended behind `start` others.
+fn leave_text(held: Held, start: usize, out: &mut Vec<u8>) -> Result<(), AllocError>
+    requires { start ≤ length out.old.items }
+    ensures { OnOk result (out.new.items ≡ take start out.old.items
+        ++ text_of (held_value held (drop start out.old.items))) }
+{
+    match held {
+        Held::Text | Held::Maybe => Ok(()),
+        Held::Uninit => {
+            out.truncate(start);
+            Ok(())
+        }
+        Held::Num(number) => {
+            out.truncate(start);
+            push_text_lent(ValueRef::Num(number), out)
+        }
+    }
+}
+
+/// Appends the text of the value of a place, which is laid down there.
 fn push_laid_text<W: World>(
     target: &Target,
     out: &mut Vec<u8>,
@@ -102,10 +126,9 @@ fn push_laid_text<W: World>(
         (as_text out.old.items (read_at W.calls (aim_view target.now))
         (moment (W.state world.old) run.old)) result (moment (W.state world.new) run.new) }
 {
-    let mut bytes = take_buffer(run.alloc, &mut run.spare);
-    let held = read_place(target, &mut bytes, world, run)?;
-    push_text_lent(lend_held(held, bytes.as_slice()), out)?;
-    give_back(&mut run.spare, bytes);
+    let start = out.len();
+    let held = read_place(target, out, world, run)?;
+    leave_text(held, start, out)?;
     Ok(())
 }
 
@@ -129,6 +152,81 @@ pub fn push_place_text<W: World>(
         return Ok(());
     }
     push_laid_text(target, out, world, run)
+}
+
+/// Lays down the value of the element whose key is the text of a field, which is not copied: its
+/// bytes are appended to `out`. The element is created.
+///
+/// POSIX.1-2017, awk, "Variables and Special Variables".
+pub fn read_field_element<W: World>(
+    table: Table,
+    n: usize,
+    out: &mut Vec<u8>,
+    world: &mut W,
+    run: &mut Run<'_>,
+) -> Result<Held, Halt>
+    ensures appended { OnOk result
+        (out.new.items ≡ out.old.items ++ added out.old.items out.new.items) }
+    ensures left { run.new.left ≤ run.old.left }
+    ensures outcome { Yields (λ h. held_value h (added out.old.items out.new.items))
+        (bind (as_text [] (value_of_leaf W.calls (field n)))
+        (λ key. read_at W.calls (element_of (table_view table) key))
+        (moment (W.state world.old) run.old)) result (moment (W.state world.new) run.new) }
+{
+    run.state.line.prepare(n)?;
+    let mut buffer = Buffer::new();
+    let key = text_in(run.state.line.field(n), &mut buffer);
+    match table {
+        Table::None => Ok(Held::Uninit),
+        Table::Global(slot) => world.element(slot, key, out),
+        Table::Local(number) => { Ok(locals::read_element(&mut run.arrays, number, key, out)?) }
+    }
+}
+
+/// Appends the text of the element whose key is the text of a field, which is not copied. The element
+/// is created.
+///
+/// POSIX.1-2017, awk, "Variables and Special Variables".
+pub fn push_field_element<W: World>(
+    table: Table,
+    n: usize,
+    out: &mut Vec<u8>,
+    world: &mut W,
+    run: &mut Run<'_>,
+) -> Result<(), Halt>
+    ensures left { run.new.left ≤ run.old.left }
+    ensures outcome { Yields (λ _. out.new.items)
+        (bind (as_text [] (value_of_leaf W.calls (field n)))
+        (λ key. as_text out.old.items (read_at W.calls (element_of (table_view table) key)))
+        (moment (W.state world.old) run.old)) result (moment (W.state world.new) run.new) }
+{
+    let start = out.len();
+    let held = read_field_element(table, n, out, world, run)?;
+    leave_text(held, start, out)?;
+    Ok(())
+}
+
+/// The number of the element whose key is the text of a field, which is not copied, or the fault of its
+/// conversion. The element is created.
+///
+/// POSIX.1-2017, awk, "Variables and Special Variables".
+pub fn field_element_number<W: World>(
+    table: Table,
+    n: usize,
+    world: &mut W,
+    run: &mut Run<'_>,
+) -> Result<Result<i64, Fault>, Halt>
+    ensures left { run.new.left ≤ run.old.left }
+    ensures outcome { Yields (λ number. number)
+        (bind (as_text [] (value_of_leaf W.calls (field n)))
+        (λ key. as_number (read_at W.calls (element_of (table_view table) key)))
+        (moment (W.state world.old) run.old)) result (moment (W.state world.new) run.new) }
+{
+    let mut bytes = take_buffer(run.alloc, &mut run.spare);
+    let held = read_field_element(table, n, &mut bytes, world, run)?;
+    let number = to_num_lent(lend_held(held, bytes.as_slice()));
+    give_back(&mut run.spare, bytes);
+    Ok(number)
 }
 
 /// The number of the old value of an element that is assigned, which is created.

@@ -37,16 +37,21 @@ expressions::eval-returns-in-Call-clause-outcome g t c =
     let is = call_shape c.args.e.now c.in-Call.f c.in-Call.arguments c.deref-in-Call.result.now c.in-Call.is c.deref-in-Call.ensures.value in
     rw is c.lay_call.ensures.outcome
 
-pub expressions::number-number_of_call-requires : goal.expressions::number-number_of_call-requires
-expressions::number-number_of_call-requires g t c =
+pub expressions::number_beside-invoke-requires : goal.expressions::number_beside-invoke-requires
+expressions::number_beside-invoke-requires g t c =
     let is = call_shape c.args.e.now c.in-Call.f c.in-Call.arguments c.deref.result.now c.in-Call.is c.deref.ensures.value in
-    let falls : arguments_weight (arguments (argument_views c.deref.result.now)) + 2 < weight (view c.args.e.now) + 2 = rw is (omega arith) in
+    let falls : arguments_weight (arguments (argument_views c.deref.result.now)) + 1 < weight (view c.args.e.now) + 1 = rw is (omega arith) in
     search rules
 
-pub expressions::number-returns-in-Call-clause-outcome : goal.expressions::number-returns-in-Call-clause-outcome
-expressions::number-returns-in-Call-clause-outcome g t c =
+pub expressions::number_beside-returns-in_err-value-clause-outcome : goal.expressions::number_beside-returns-in_err-value-clause-outcome
+expressions::number_beside-returns-in_err-value-clause-outcome g t c =
     let is = call_shape c.args.e.now c.in-Call.f c.in-Call.arguments c.deref.result.now c.in-Call.is c.deref.ensures.value in
-    rw is c.number_of_call.ensures.outcome
+    rw is (search rules)
+
+pub expressions::number_beside-returns-in-Call-clause-outcome : goal.expressions::number_beside-returns-in-Call-clause-outcome
+expressions::number_beside-returns-in-Call-clause-outcome g t c =
+    let is = call_shape c.args.e.now c.in-Call.f c.in-Call.arguments c.deref.result.now c.in-Call.is c.deref.ensures.value in
+    rw (is, c.invoke.ensures.outcome) (grind (arith, common_steps))
 
 pub expressions::text_into-call_text_into-requires : goal.expressions::text_into-call_text_into-requires
 expressions::text_into-call_text_into-requires g t c =
@@ -100,7 +105,7 @@ places::place-returns-in_ok-key-in-Element-clause-outcome g t c =
 pub statements::add-add_element-requires : goal.statements::add-add_element-requires
 statements::add-add_element-requires g t c =
     let is = element_shape c.args.to.now c.in-Element.array c.in-Element.keys c.deref.result.now c.in-Element.is c.deref.ensures.value in
-    let falls : row_weight (exprs (views c.deref.result.now)) + weight (view c.args.e.now) + 4 < place_weight (place_view c.args.to.now) + weight (view c.args.e.now) + 3 = rw is (omega arith) in
+    let falls : row_weight (exprs (views c.deref.result.now)) + weight (view c.args.e.now) + 4 < place_weight (place_view c.args.to.now) + weight (view c.args.e.now) + 4 = rw is (omega arith) in
     search rules
 
 pub statements::add-returns-in-Element-clause-outcome : goal.statements::add-returns-in-Element-clause-outcome
@@ -111,22 +116,11 @@ statements::add-returns-in-Element-clause-outcome g t c =
 pub statements::tally-tally_element-requires : goal.statements::tally-tally_element-requires
 statements::tally-tally_element-requires g t c =
     let is = element_shape c.args.to.now c.in-Element.array c.in-Element.keys c.deref.result.now c.in-Element.is c.deref.ensures.value in
-    let falls : row_weight (exprs (views c.deref.result.now)) + 2 < place_weight (place_view c.args.to.now) + 1 = rw is (omega arith) in
+    let falls : row_weight (exprs (views c.deref.result.now)) + 2 < place_weight (place_view c.args.to.now) + 2 = rw is (omega arith) in
     search rules
 
 pub statements::tally-returns-in-Element-clause-outcome : goal.statements::tally-returns-in-Element-clause-outcome
 statements::tally-returns-in-Element-clause-outcome g t c =
-    let is = element_shape c.args.to.now c.in-Element.array c.in-Element.keys c.deref.result.now c.in-Element.is c.deref.ensures.value in
-    rw is (grind (arith, common_steps))
-
-pub statements::set-set_element-requires : goal.statements::set-set_element-requires
-statements::set-set_element-requires g t c =
-    let is = element_shape c.args.to.now c.in-Element.array c.in-Element.keys c.deref.result.now c.in-Element.is c.deref.ensures.value in
-    let falls : row_weight (exprs (views c.deref.result.now)) + weight (view c.args.e.now) + 2 < place_weight (place_view c.args.to.now) + weight (view c.args.e.now) + 1 = rw is (omega arith) in
-    search rules
-
-pub statements::set-returns-in-Element-clause-outcome : goal.statements::set-returns-in-Element-clause-outcome
-statements::set-returns-in-Element-clause-outcome g t c =
     let is = element_shape c.args.to.now c.in-Element.array c.in-Element.keys c.deref.result.now c.in-Element.is c.deref.ensures.value in
     rw is (grind (arith, common_steps))
 

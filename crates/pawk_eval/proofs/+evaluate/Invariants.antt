@@ -22,9 +22,6 @@ decreases-expressions::invoke g l = rank (functions_of l.context) l.depth (argum
 abbrev pub decreases-expressions::lay_call : goal.decreases-expressions::lay_call
 decreases-expressions::lay_call g l = rank (functions_of l.context) l.depth (arguments_weight (arguments (argument_views l.arguments.now)) + 2)
 
-abbrev pub decreases-expressions::number_of_call : goal.decreases-expressions::number_of_call
-decreases-expressions::number_of_call g l = rank (functions_of l.context) l.depth (arguments_weight (arguments (argument_views l.arguments.now)) + 2)
-
 abbrev pub decreases-expressions::call_text_into : goal.decreases-expressions::call_text_into
 decreases-expressions::call_text_into g l = rank (functions_of l.context) l.depth (arguments_weight (arguments (argument_views l.arguments.now)) + 2)
 
@@ -36,6 +33,9 @@ decreases-expressions::assign g l = rank (functions_of l.context) l.depth (place
 
 abbrev pub decreases-expressions::number : goal.decreases-expressions::number
 decreases-expressions::number g l = rank (functions_of l.context) l.depth (weight (view l.e.now) + 2)
+
+abbrev pub decreases-expressions::number_beside : goal.decreases-expressions::number_beside
+decreases-expressions::number_beside g l = rank (functions_of l.context) l.depth (weight (view l.e.now) + 1)
 
 abbrev pub decreases-expressions::number_at : goal.decreases-expressions::number_at
 decreases-expressions::number_at g l = rank (functions_of l.context) l.depth (place_weight (place_view l.from.now) + 1)
@@ -161,22 +161,28 @@ abbrev pub decreases-statements::delete : goal.decreases-statements::delete
 decreases-statements::delete g l = rank (functions_of l.context) l.depth (row_weight (exprs (views l.keys.now)) + 2)
 
 abbrev pub decreases-statements::add : goal.decreases-statements::add
-decreases-statements::add g l = rank (functions_of l.context) l.depth (place_weight (place_view l.to.now) + weight (view l.e.now) + 3)
+decreases-statements::add g l = rank (functions_of l.context) l.depth (place_weight (place_view l.to.now) + weight (view l.e.now) + 4)
+
+abbrev pub decreases-statements::add_elsewhere : goal.decreases-statements::add_elsewhere
+decreases-statements::add_elsewhere g l = rank (functions_of l.context) l.depth (place_weight (place_view l.to.now) + weight (view l.e.now) + 3)
 
 abbrev pub decreases-statements::add_element : goal.decreases-statements::add_element
 decreases-statements::add_element g l = rank (functions_of l.context) l.depth (row_weight (exprs (views l.keys.now)) + weight (view l.e.now) + 4)
 
 abbrev pub decreases-statements::tally : goal.decreases-statements::tally
-decreases-statements::tally g l = rank (functions_of l.context) l.depth (place_weight (place_view l.to.now) + 1)
+decreases-statements::tally g l = rank (functions_of l.context) l.depth (place_weight (place_view l.to.now) + 2)
+
+abbrev pub decreases-statements::tally_elsewhere : goal.decreases-statements::tally_elsewhere
+decreases-statements::tally_elsewhere g l = rank (functions_of l.context) l.depth (place_weight (place_view l.to.now) + 1)
 
 abbrev pub decreases-statements::tally_element : goal.decreases-statements::tally_element
 decreases-statements::tally_element g l = rank (functions_of l.context) l.depth (row_weight (exprs (views l.keys.now)) + 2)
 
-abbrev pub decreases-statements::set_element : goal.decreases-statements::set_element
-decreases-statements::set_element g l = rank (functions_of l.context) l.depth (row_weight (exprs (views l.keys.now)) + weight (view l.e.now) + 2)
+abbrev pub decreases-statements::set_elsewhere : goal.decreases-statements::set_elsewhere
+decreases-statements::set_elsewhere g l = rank (functions_of l.context) l.depth (place_weight (place_view l.to.now) + weight (view l.e.now) + 1)
 
 abbrev pub decreases-statements::set : goal.decreases-statements::set
-decreases-statements::set g l = rank (functions_of l.context) l.depth (place_weight (place_view l.to.now) + weight (view l.e.now) + 1)
+decreases-statements::set g l = rank (functions_of l.context) l.depth (place_weight (place_view l.to.now) + weight (view l.e.now) + 2)
 
 abbrev pub decreases-statements::print : goal.decreases-statements::print
 decreases-statements::print g l = rank (functions_of l.context) l.depth (row_weight (exprs (views l.es.now)) + 2)
