@@ -7,7 +7,7 @@
 #   make bench      compare its user time with that of mawk and gawk, its elapsed time by workers, the times of
 #                   expressions, of fields and of keys, and 24 programs beside mawk, gawk and original-awk
 #   make install    put it at $(PREFIX)/bin/pawk (PREFIX is /usr/local)
-#   make clean      remove what was built, and what the proofs keep
+#   make clean      remove what was built and what checks keep here (what the gate passed stays kept)
 
 PREFIX = /usr/local
 BENCH_DATA = bench/files
