@@ -11,7 +11,7 @@ abbrev mutual
   weight (test t) = test_weight t + 2
   weight (textual t) = textual_weight t + 2
   weight (read p) = place_weight p + 2
-  weight (choice c a b) = weight c + weight a + weight b + 3
+  weight (choice c a b) = weight c + weight a + weight b + 4
   weight (assign p e) = place_weight p + weight e + 2
   weight (call f as') = arguments_weight as' + 3
 
@@ -42,9 +42,9 @@ abbrev mutual
 
   pub test_weight : Test → ℕ
   test_weight (compare r a b) = weight a + weight b + 3
-  test_weight (both a b) = weight a + weight b + 3
-  test_weight (either a b) = weight a + weight b + 3
-  test_weight (negation a) = weight a + 3
+  test_weight (both a b) = weight a + weight b + 4
+  test_weight (either a b) = weight a + weight b + 4
+  test_weight (negation a) = weight a + 4
   test_weight (matches holds e p) = weight e + pattern_weight p + 5
   test_weight (member a ks) = row_weight ks + 3
 

@@ -6,7 +6,9 @@ ghost use Rattle.std.specs.Prelude.{◌≤◌};
 ghost use Rattle.pawk_code.specs.Expressions as codes;
 ghost use Rattle.pawk_code.specs.Expressions.{exprs};
 ghost use Rattle.pawk_code.specs.ExpressionViews.{pattern_view, test_view, view, views};
+ghost use Rattle.pawk_meaning.specs.Meaning as spec;
 ghost use Rattle.pawk_meaning.specs.Meaning.{truth_of};
+ghost use Rattle.pawk_meaning.specs.Parts.{as_truth, bind, settle};
 ghost use Rattle.pawk_places.specs.Moments.{moment};
 ghost use Rattle.pawk_places.specs.Yields.{Yields};
 ghost use Rattle.pawk_eval.specs.Contexts.{enter_of, eres_of};
@@ -29,6 +31,30 @@ use pawk_places::{
 use pawk_value::lend_held;
 use pawk_world::{Halt, World};
 
+/// Whether an expression is true, where `depth` calls may be nested.
+///
+/// It halts as [`execute`](crate::execute) does, and with the fault of its conversion.
+///
+/// POSIX.1-2017, awk, "Expressions in awk".
+#[cycle(evaluate)]
+#[inline(always)]
+pub fn holds<W: World>(
+    context: Context<'_>,
+    depth: u64,
+    e: &Expr,
+    world: &mut W,
+    run: &mut Run<'_>,
+) -> Result<bool, Halt>
+    ensures left { run.new.left ≤ run.old.left }
+    ensures outcome { Yields (λ holds. holds)
+        (bind (as_truth (spec.eval W.calls (eres_of context.entry)
+        (enter_of W.calls context.entry depth) (view e.now))) settle
+        (moment (W.state world.old) run.old)) result (moment (W.state world.new) run.new) }
+{
+    let truth = truth(context, depth, e, world, run)?;
+    Ok(truth?)
+}
+
 /// What gives 1 or 0.
 #[cycle(evaluate)]
 #[inline(always)]
@@ -48,27 +74,12 @@ pub(crate) fn test<W: World>(
     match t {
         Test::Compare(relation, a, b) => compare(context, depth, *relation, a, b, world, run),
         Test::And(a, b) => {
-            let truth_a = truth(context, depth, a, world, run)?;
-            let holds = truth_a?;
-            if !holds {
-                return Ok(false);
-            }
-            let truth_b = truth(context, depth, b, world, run)?;
-            Ok(truth_b?)
+            Ok(holds(context, depth, a, world, run)? && holds(context, depth, b, world, run)?)
         }
         Test::Or(a, b) => {
-            let truth_a = truth(context, depth, a, world, run)?;
-            let holds = truth_a?;
-            if holds {
-                return Ok(true);
-            }
-            let truth_b = truth(context, depth, b, world, run)?;
-            Ok(truth_b?)
+            Ok(holds(context, depth, a, world, run)? || holds(context, depth, b, world, run)?)
         }
-        Test::Not(a) => {
-            let truth_a = truth(context, depth, a, world, run)?;
-            Ok(!truth_a?)
-        }
+        Test::Not(a) => Ok(!holds(context, depth, a, world, run)?),
         Test::Match(wanted, a, pattern) => matches(context, depth, *wanted, a, pattern, world, run),
         Test::In(array, keys) => member(context, depth, *array, keys, world, run),
     }

@@ -13,7 +13,7 @@ ghost use Rattle.pawk_places.specs.Moments.{moment};
 ghost use Rattle.pawk_places.specs.Yields.{Yields};
 ghost use Rattle.pawk_eval.specs.Contexts.{enter_of, eres_of};
 
-use crate::conditions::test;
+use crate::conditions::{holds, test};
 use crate::context::Context;
 use crate::functions::{call, pass};
 use crate::numbers::numeric;
@@ -63,8 +63,7 @@ pub(crate) fn eval<W: World>(
         }
         Expr::Read(from) => read(context, depth, from, out, world, run),
         Expr::Choice(c, a, b) => {
-            let truth = truth(context, depth, c, world, run)?;
-            let holds = truth?;
+            let holds = holds(context, depth, c, world, run)?;
             if holds {
                 eval(context, depth, a, out, world, run)
             } else {
@@ -249,7 +248,7 @@ pub(crate) fn number<W: World>(
     }
 }
 
-/// The same, where the value is laid down first.
+/// The number of an expression whose value is laid down first, or the fault of its conversion.
 #[cycle(evaluate)]
 #[inline(never)]
 pub(crate) fn number_beside<W: World>(
@@ -314,7 +313,7 @@ pub(crate) fn number_at<W: World>(
 ///
 /// POSIX.1-2017, awk, "Expressions in awk".
 #[cycle(evaluate)]
-pub fn truth<W: World>(
+pub(crate) fn truth<W: World>(
     context: Context<'_>,
     depth: u64,
     e: &Expr,
@@ -459,8 +458,7 @@ pub(crate) fn value<W: World>(
         Expr::Leaf(leaf) => leaf_copy(leaf, world, run),
         Expr::Numeric(n) => Ok(Value::Num(numeric(context, depth, n, world, run)?)),
         Expr::Choice(c, a, b) => {
-            let truth = truth(context, depth, c, world, run)?;
-            let holds = truth?;
+            let holds = holds(context, depth, c, world, run)?;
             if holds {
                 value(context, depth, a, world, run)
             } else {

@@ -14,7 +14,7 @@ mod places;
 mod statements;
 mod strings;
 
+pub use conditions::holds;
 pub use context::Context;
-pub use expressions::truth;
 pub use flow::Flow;
-pub use statements::execute;
+pub use statements::{execute, run_body};

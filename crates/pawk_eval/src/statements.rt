@@ -3,12 +3,12 @@
 //! POSIX.1-2017, awk, "Actions".
 
 ghost use Rattle.std.specs.Prelude.{◌≤◌, [], Ok, pos};
-ghost use Rattle.pawk_code.specs.Expressions.{exprs};
+ghost use Rattle.pawk_code.specs.Expressions.{exprs, field};
 ghost use Rattle.pawk_code.specs.Expressions as codes;
-ghost use Rattle.pawk_code.specs.ExpressionViews.{format_view, place_view, view, views};
+ghost use Rattle.pawk_code.specs.ExpressionViews.{format_view, leaf_view, place_view, view, views};
 ghost use Rattle.pawk_code.specs.StatementViews.{leave_view, seen, simple_view, stmt_view};
 ghost use Rattle.pawk_code.specs.Statements as actions;
-ghost use Rattle.pawk_meaning.specs.Parts.{as_number, bind};
+ghost use Rattle.pawk_meaning.specs.Parts.{as_number, as_text, bind, give};
 ghost use Rattle.pawk_meaning.specs.Meaning.{
   act,
   aim_of,
@@ -19,10 +19,11 @@ ghost use Rattle.pawk_meaning.specs.Meaning.{
   subscripts,
   text_of_textual,
   texts_of,
+  value_of_leaf,
 };
 ghost use Rattle.pawk_meaning.specs.Meaning as spec;
 ghost use Rattle.pawk_meaning.specs.Places.{add_at, array_at, element_of};
-ghost use Rattle.pawk_places.specs.Moments.{moment};
+ghost use Rattle.pawk_places.specs.Moments.{moment, table_view};
 ghost use Rattle.pawk_places.specs.Yields.{Yields};
 ghost use Rattle.pawk_eval.specs.Contexts.{enter_of, eres_of};
 ghost use Rattle.pawk_eval.specs.Flows.{way_of};
@@ -33,7 +34,7 @@ use crate::flow::Flow;
 use crate::loops::{count, turns, turns_after, walk};
 use crate::numbers::numeric;
 use crate::operands::texts;
-use crate::places::{key, leaf_element, place};
+use crate::places::{field_element, key, leaf_element, place};
 use crate::strings::formatted;
 use pawk_array::Texts;
 use pawk_builtins::{exit_status, step_sign};
@@ -84,6 +85,54 @@ pub fn execute<W: World>(
         }
     }
     Ok(Flow::On)
+}
+
+/// Runs statements in turn, whatever way they leave.
+#[inline(always)]
+fn run_rest<W: World>(
+    context: Context<'_>,
+    depth: u64,
+    body: &[Statement],
+    world: &mut W,
+    run: &mut Run<'_>,
+) -> Result<(), Halt>
+    ensures left { run.new.left ≤ run.old.left }
+    ensures outcome { Yields (λ _. tt)
+        (bind (execs W.calls (eres_of context.entry) (enter_of W.calls context.entry depth)
+        (seen body.now)) (λ _. give (tt {0}))
+        (moment (W.state world.old) run.old)) result (moment (W.state world.new) run.new) }
+{
+    let _flow = execute(context, depth, body, world, run)?;
+    Ok(())
+}
+
+/// Runs the statements of a rule or of an action in turn, as [`execute`] does, whatever way they
+/// leave: those that have no body of their own need no [`Flow`].
+///
+/// POSIX.1-2017, awk, "Actions".
+pub fn run_body<W: World>(
+    context: Context<'_>,
+    depth: u64,
+    body: &[Statement],
+    world: &mut W,
+    run: &mut Run<'_>,
+) -> Result<(), Halt>
+    ensures left { run.new.left ≤ run.old.left }
+    ensures outcome { Yields (λ _. tt)
+        (bind (execs W.calls (eres_of context.entry) (enter_of W.calls context.entry depth)
+        (seen body.now)) (λ _. give (tt {0}))
+        (moment (W.state world.old) run.old)) result (moment (W.state world.new) run.new) }
+{
+    let mut done = 0;
+    while done < body.len() {
+        let Statement::Simple(simple) = &body[done] else {
+            return run_rest(context, depth, &body[done..], world, run);
+        };
+        tick(world, run)?;
+        perform(context, depth, simple, world, run)?;
+        done += 1;
+    }
+    Ok(())
 }
 
 /// Runs a statement, after its step.
@@ -215,13 +264,40 @@ pub(crate) fn add<W: World>(
         let amount = number(context, depth, e, world, run)?;
         return world.add_scalar(*slot, sign, amount);
     }
+    if let Some((array, n)) = field_element(to) {
+        if let Expr::Leaf(amount) = e {
+            return add_leaf(sign, table_of(&run.frame, array), n, amount, world, run);
+        }
+    }
     if let Place::Element(array, keys) = to {
         return add_element(context, depth, sign, *array, keys, e, world, run);
     }
     add_elsewhere(context, depth, sign, to, e, world, run)
 }
 
-/// The same, where the place is laid down first.
+/// Adds the number of a leaf to the element whose key is the text of a field, or takes it away. The key
+/// is not copied.
+#[inline(never)]
+fn add_leaf<W: World>(
+    sign: Sign,
+    table: Table,
+    n: usize,
+    amount: &Leaf,
+    world: &mut W,
+    run: &mut Run<'_>,
+) -> Result<(), Halt>
+    ensures left { run.new.left ≤ run.old.left }
+    ensures outcome { Yields (λ _. tt)
+        (bind (as_text [] (value_of_leaf W.calls (field n)))
+        (λ key. bind (as_number (value_of_leaf W.calls (leaf_view amount.now)))
+        (add_at W.calls sign (element_of (table_view table) key)))
+        (moment (W.state world.old) run.old)) result (moment (W.state world.new) run.new) }
+{
+    let amount = leaf_number(amount, world, run)?;
+    add_to_field_key(sign, table, n, amount, world, run)
+}
+
+/// Adds the number of an expression to a place that is laid down first, or takes it away.
 #[cycle(evaluate)]
 #[inline(never)]
 pub(crate) fn add_elsewhere<W: World>(
@@ -246,8 +322,7 @@ pub(crate) fn add_elsewhere<W: World>(
     Ok(())
 }
 
-/// Adds the number of an expression to an element of an array, or takes it away. A key that is a field is
-/// not copied where the expression is a leaf.
+/// Adds the number of an expression to an element of an array, or takes it away.
 #[cycle(evaluate)]
 pub(crate) fn add_element<W: World>(
     context: Context<'_>,
@@ -268,12 +343,6 @@ pub(crate) fn add_element<W: World>(
         (add_at W.calls sign (element_of (array_at m.frame array) key)) m)
         (moment (W.state world.old) run.old)) result (moment (W.state world.new) run.new) }
 {
-    if let [Expr::Leaf(Leaf::Field(n))] = keys {
-        if let Expr::Leaf(amount) = e {
-            let amount = leaf_number(amount, world, run)?;
-            return add_to_field_key(sign, table_of(&run.frame, array), *n, amount, world, run);
-        }
-    }
     let key = key(context, depth, keys, world, run)?;
     let table = table_of(&run.frame, array);
     let amount = number(context, depth, e, world, run)?;
@@ -305,13 +374,34 @@ pub(crate) fn tally<W: World>(
     if let Place::Local(number) = to {
         return add_to_parameter(sign, *number, Ok(1), world, run);
     }
+    if let Some((array, n)) = field_element(to) {
+        return tally_field(sign, table_of(&run.frame, array), n, world, run);
+    }
     if let Place::Element(array, keys) = to {
         return tally_element(context, depth, sign, *array, keys, world, run);
     }
     tally_elsewhere(context, depth, sign, to, world, run)
 }
 
-/// The same, where the place is laid down first.
+/// Adds 1 to the element whose key is the text of a field, or takes it away. The key is not copied.
+#[inline(never)]
+fn tally_field<W: World>(
+    sign: Sign,
+    table: Table,
+    n: usize,
+    world: &mut W,
+    run: &mut Run<'_>,
+) -> Result<(), Halt>
+    ensures left { run.new.left ≤ run.old.left }
+    ensures outcome { Yields (λ _. tt)
+        (bind (as_text [] (value_of_leaf W.calls (field n)))
+        (λ key. add_at W.calls sign (element_of (table_view table) key) (Ok (pos 1)))
+        (moment (W.state world.old) run.old)) result (moment (W.state world.new) run.new) }
+{
+    add_to_field_key(sign, table, n, Ok(1), world, run)
+}
+
+/// Adds 1 to a place that is laid down first, or takes it away.
 #[cycle(evaluate)]
 #[inline(never)]
 pub(crate) fn tally_elsewhere<W: World>(
@@ -334,8 +424,7 @@ pub(crate) fn tally_elsewhere<W: World>(
     Ok(())
 }
 
-/// Adds 1 to an element of an array, or takes it away. A key that is a field or a number is not
-/// copied.
+/// Adds 1 to an element of an array, or takes it away. A key that is a number is not copied.
 #[cycle(evaluate)]
 pub(crate) fn tally_element<W: World>(
     context: Context<'_>,
@@ -353,13 +442,32 @@ pub(crate) fn tally_element<W: World>(
         (λ key m. add_at W.calls sign (element_of (array_at m.frame array) key) (Ok (pos 1)) m)
         (moment (W.state world.old) run.old)) result (moment (W.state world.new) run.new) }
 {
-    if let [Expr::Leaf(Leaf::Field(n))] = keys {
-        return add_to_field_key(sign, table_of(&run.frame, array), *n, Ok(1), world, run);
-    }
     if let [Expr::Numeric(n)] = keys {
         let key = numeric(context, depth, n, world, run)?;
         return add_to_number(sign, table_of(&run.frame, array), key, Ok(1), world, run);
     }
+    tally_at_key(context, depth, sign, array, keys, world, run)
+}
+
+/// Adds 1 to an element whose key is laid down first, or takes it away.
+#[cycle(evaluate)]
+#[inline(always)]
+pub(crate) fn tally_at_key<W: World>(
+    context: Context<'_>,
+    depth: u64,
+    sign: Sign,
+    array: Array,
+    keys: &[Expr],
+    world: &mut W,
+    run: &mut Run<'_>,
+) -> Result<(), Halt>
+    ensures left { run.new.left ≤ run.old.left }
+    ensures outcome { Yields (λ _. tt)
+        (bind (subscripts W.calls (eres_of context.entry) (enter_of W.calls context.entry depth)
+        (exprs (views keys.now)))
+        (λ key m. add_at W.calls sign (element_of (array_at m.frame array) key) (Ok (pos 1)) m)
+        (moment (W.state world.old) run.old)) result (moment (W.state world.new) run.new) }
+{
     let key = key(context, depth, keys, world, run)?;
     add_to_key(sign, table_of(&run.frame, array), &key, Ok(1), world, run)?;
     give_back(&mut run.spare, key);
@@ -395,8 +503,8 @@ pub(crate) fn set<W: World>(
     set_elsewhere(context, depth, to, e, world, run)
 }
 
-/// The same, whose value is laid down first. A key that is a number is not copied where the value is
-/// one too.
+/// Assigns the value of an expression, which is laid down first, to a place. A key that is a number is
+/// not copied where the value is one too.
 #[cycle(evaluate)]
 #[inline(never)]
 pub(crate) fn set_elsewhere<W: World>(

@@ -1,6 +1,7 @@
 pub mod Bits
 pub mod Shift
 pub mod Leftmost
+pub mod Links
 pub mod Turns
 pub mod Rows
 pub mod Walks

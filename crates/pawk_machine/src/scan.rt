@@ -9,7 +9,7 @@ ghost use Rattle.std.specs.Prelude.{◌≡◌, ◌≢◌, ◌↔◌, ℕ, ◌+�
 ghost use Rattle.std.specs.Bool.{OnFalse};
 
 use crate::node::Node;
-use crate::table::{BYTES, FIRST, IDLE, LATER, OPEN, Table, close, state_after};
+use crate::table::{BYTES, FIRST, IDLE, LATER, OPEN, Table, close, found_after, state_after};
 use memchr::memchr;
 use std::alloc::{AllocError, Global};
 
@@ -103,7 +103,12 @@ pub fn first_start(
         if state.is_dead {
             return Ok(None);
         }
-        at = state_after(alloc, node, table, at, text[place])?;
+        let next = table.next[at * BYTES + text[place] as usize] as usize;
+        at = if next != 0 {
+            next
+        } else {
+            found_after(alloc, node, table, at, text[place])?
+        };
         place += 1;
         if at == IDLE {
             place = idle_end(node, table, first, text, place);

@@ -350,7 +350,7 @@ pub fn close(
 /// The state after one more byte, which was not known. An `Err` leaves a table too.
 #[cold]
 #[inline(never)]
-fn found_after(
+pub fn found_after(
     alloc: Global,
     node: &Node,
     table: &mut Table,

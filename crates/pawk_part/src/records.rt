@@ -126,6 +126,8 @@ fn run_needed<'a, W: World>(
         (end_view (W.state world.old) run.old Through) (items_left records.entry)
         ≡ end_view (W.state world.new) run.new left) }
 {
+    let context = job.context();
+    let rules = job.code.rules.as_slice();
     let mut passage = passage;
     let mut records = records;
     let mut skip = None;
@@ -138,8 +140,7 @@ fn run_needed<'a, W: World>(
         if is_skipped(skip, &item) {
             continue;
         }
-        let rules = job.code.rules.as_slice();
-        left = record(job.context(), rules, job.budget, &item, world, run)?;
+        left = record(context, rules, job.budget, &item, world, run)?;
         if ends_records(left) {
             return Ok(left);
         }

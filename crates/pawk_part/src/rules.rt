@@ -16,7 +16,7 @@ use itoa::Buffer;
 use pawk_code::expression::Expr;
 use pawk_code::program::{Rule, Selector};
 use pawk_code::statement::Statement;
-use pawk_eval::{Context, execute, truth};
+use pawk_eval::{Context, holds, run_body};
 use pawk_input::Item;
 use pawk_places::Run;
 use pawk_value::text_in;
@@ -37,8 +37,7 @@ fn pattern_holds<W: World>(
         (holds W.calls (eres_of context.entry) (functions_of context.entry) (view e.now)
         (moment (W.state world.old) run.old)) result (moment (W.state world.new) run.new) }
 {
-    let truth = truth(context, GREATEST_CALLS, e, world, run)?;
-    Ok(truth?)
+    holds(context, GREATEST_CALLS, e, world, run)
 }
 
 /// Runs a body.
@@ -53,8 +52,7 @@ fn do_body<W: World>(
         (does W.calls (eres_of context.entry) (functions_of context.entry) (seen body.now)
         (moment (W.state world.old) run.old)) result (moment (W.state world.new) run.new) }
 {
-    let _flow = execute(context, GREATEST_CALLS, body, world, run)?;
-    Ok(())
+    run_body(context, GREATEST_CALLS, body, world, run)
 }
 
 /// Reads a record: `NR`, `FNR`, `FILENAME`, `$0`, and the fields by the FS of this moment.

@@ -3,6 +3,7 @@
 ghost use Rattle.std.specs.Prelude.{◌≡◌, ◌≤◌, ◌++◌, [], IfOk, IfSome, Ok, OnOk, length, pos};
 ghost use Rattle.pawk_world.specs.Sums.{arith_by};
 ghost use Rattle.pawk_value.specs.Held.{added, held_value};
+ghost use Rattle.pawk_value.specs.Conversion.{text_of};
 ghost use Rattle.pawk_value.specs.Value.{Num, lent_value, shown};
 ghost use Rattle.pawk_code.specs.ExpressionViews.{leaf_view};
 ghost use Rattle.pawk_code.specs.declared.leaf.Special.TheVariants.{Nf};
@@ -214,6 +215,15 @@ pub fn leaf_length<W: World>(leaf: &Leaf, world: &W, run: &mut Run<'_>) -> Resul
     Ok(text_in(lend_leaf(leaf, world, run), &mut buffer).len() as i64)
 }
 
+/// Appends the text of a value that seldom stands in a field.
+#[inline(never)]
+fn push_other_text(value: ValueRef<'_>, out: &mut Vec<u8>) -> Result<(), AllocError>
+    ensures { OnOk result
+        (out.new.items ≡ out.old.items ++ text_of (lent_value value.entry)) }
+{
+    push_text_lent(value, out)
+}
+
 /// Appends the text of a leaf.
 #[inline(always)]
 pub fn leaf_text<W: World>(
@@ -229,7 +239,10 @@ pub fn leaf_text<W: World>(
 {
     if let Leaf::Field(n) = leaf {
         run.state.line.prepare(*n)?;
-        push_text_lent(run.state.line.field(*n), out)?;
+        match run.state.line.field(*n) {
+            ValueRef::Maybe(text) => out.extend_from_slice(text)?,
+            value => push_other_text(value, out)?,
+        }
         return Ok(());
     }
     if let Leaf::Special(Special::Nf) = leaf {

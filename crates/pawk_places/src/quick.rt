@@ -105,7 +105,7 @@ pub fn quick_field<W: World>(
     field_index(Ok(number)).ok()
 }
 
-/// The same of what gives a number.
+/// The number that is found without an effect, if it is, of what gives a number.
 #[cycle(quick)]
 #[inline(always)]
 pub fn quick_numeric<W: World>(
@@ -128,7 +128,7 @@ pub fn quick_numeric<W: World>(
     }
 }
 
-/// The same of the result of an operation.
+/// The number that is found without an effect, if it is, of an operation.
 #[cycle(quick)]
 #[inline(never)]
 fn quick_result<W: World>(n: &Numeric, levels: u32, world: &W, run: &mut Run<'_>) -> Option<i64>

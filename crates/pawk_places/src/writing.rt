@@ -27,11 +27,12 @@ use crate::locals;
 use crate::reading::old_number;
 use crate::run::{Parameter, Run, take_buffer};
 use crate::scalars::{FS, OFS, scalar_text};
-use crate::target::{Table, Target, element_target};
+use crate::target::{Table, Target, element_target, give_back_target};
 use itoa::Buffer;
 use pawk_code::word::Sign;
 use pawk_value::{
-    Fault, LENGTH_LIMIT, Op, Value, ValueRef, arith, assign, copy_lent, text_in, to_num_lent,
+    Fault, LENGTH_LIMIT, Op, Value, ValueRef, arith, assign, copy_lent, push_text_lent, text_in,
+    to_num_lent,
 };
 use pawk_world::{Halt, World};
 use std::alloc::{AllocError, Global};
@@ -317,14 +318,37 @@ pub fn add_to_field_key<W: World>(
         (moment (W.state world.old) run.old)) result (moment (W.state world.new) run.new) }
 {
     run.state.line.prepare(n)?;
-    let mut buffer = Buffer::new();
     if let Table::Global(slot) = table {
-        let key = text_in(run.state.line.field(n), &mut buffer);
-        return world.add_element(slot, key, sign, amount);
+        if let ValueRef::Maybe(key) = run.state.line.field(n) {
+            return world.add_element(slot, key, sign, amount);
+        }
     }
+    add_to_laid_key(sign, table, n, amount, world, run)
+}
+
+/// Adds an amount to the element of an array whose key is the text of a field, which is copied.
+#[inline(never)]
+fn add_to_laid_key<W: World>(
+    sign: Sign,
+    table: Table,
+    n: usize,
+    amount: Result<i64, Fault>,
+    world: &mut W,
+    run: &mut Run<'_>,
+) -> Result<(), Halt>
+    ensures left { run.new.left ≤ run.old.left }
+    ensures outcome { Yields (λ _. tt)
+        (bind (as_text [] (value_of_leaf W.calls (field n)))
+        (λ key. add_at W.calls sign (element_of (table_view table) key) amount)
+        (moment (W.state world.old) run.old)) result (moment (W.state world.new) run.new) }
+{
+    run.state.line.prepare(n)?;
     let mut bytes = take_buffer(run.alloc, &mut run.spare);
-    bytes.extend_from_slice(text_in(run.state.line.field(n), &mut buffer))?;
-    add_to_place(sign, &element_target(table, bytes), amount, world, run)
+    push_text_lent(run.state.line.field(n), &mut bytes)?;
+    let target = element_target(table, bytes);
+    add_to_place(sign, &target, amount, world, run)?;
+    give_back_target(&mut run.spare, target);
+    Ok(())
 }
 
 /// Assigns a number to the element of a global array whose key is the text of a number.

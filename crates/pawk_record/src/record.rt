@@ -120,19 +120,38 @@ impl<'a> Record<'a> {
         ensures ready { OnOk result (IsPrepared self.new n) }
         ensures more { self.old.found ≤ self.new.found }
     {
-        if self.next.is_none() {
-            return Ok(());
-        }
         if n <= self.here.ranges.len() {
             return Ok(());
         }
-        let count = match self.counted {
-            Some(_) => n.saturating_mul(AHEAD),
-            None => n,
-        };
+        if self.counted.is_some() {
+            return self.find_ahead(n);
+        }
+        self.find(n)
+    }
+
+    /// Looks for fields until there are so many, or none is left. The record stays.
+    #[inline(always)]
+    fn find(&mut self, count: usize) -> Result<(), AllocError>
+        ensures same { self.new.record_now ≡ self.old.record_now }
+        ensures ready { OnOk result (IsPrepared self.new count) }
+        ensures more { self.old.found ≤ self.new.found }
+    {
+        if self.next.is_none() {
+            return Ok(());
+        }
         let text = line(self.is_own, self.here.text.as_slice(), self.lent);
         self.splitter
             .find(text, &mut self.here.ranges, &mut self.next, count)
+    }
+
+    /// Looks for the fields up to the one with index `n`, and for more at once. The record stays.
+    #[inline(never)]
+    fn find_ahead(&mut self, n: usize) -> Result<(), AllocError>
+        ensures same { self.new.record_now ≡ self.old.record_now }
+        ensures ready { OnOk result (IsPrepared self.new n) }
+        ensures more { self.old.found ≤ self.new.found }
+    {
+        self.find(n.saturating_mul(AHEAD))
     }
 
     /// Looks for all fields, so that each may be lent. The record stays.
@@ -146,7 +165,7 @@ impl<'a> Record<'a> {
         }
         let text = line(self.is_own, self.here.text.as_slice(), self.lent);
         self.splitter
-            .find(text, &mut self.here.ranges, &mut self.next, usize::MAX)
+            .find_rest(text, &mut self.here.ranges, &mut self.next)
     }
 
     /// The value of the field with index `n`, which was prepared: field 0 is the record, and past the last one a field is

@@ -300,8 +300,43 @@ impl Splitter {
         Some(count_split(*separator, text))
     }
 
-    /// Looks for fields of a record from the next one on, until there are so many or none is left. What was found and what is
-    /// left are together what they were, also where memory was refused.
+    /// Looks for all fields of a record from the next one on. What was found and what is left are together what they were,
+    /// also where memory was refused.
+    #[inline(never)]
+    pub(crate) fn find_rest(
+        &mut self,
+        text: &[u8],
+        ranges: &mut Vec<Range<usize>>,
+        next: &mut Option<usize>,
+    ) -> Result<(), AllocError>
+        requires right { IsSplitter self.old }
+        requires within { ForSome next.old (λ p. p ≤ length text.now) }
+        ensures same { ranges.new.items ++ map range_of (left self.new text.now next.new)
+            ≡ ranges.old.items ++ map range_of (left self.old text.now next.old) }
+        ensures within { ForSome next.new (λ p. p ≤ length text.now) }
+        ensures none { OnOk result (next.new ≡ None) }
+        ensures more { length ranges.old.items ≤ length ranges.new.items }
+        ensures splitter { self.new ≡ self.old }
+    {
+        if next.is_none() {
+            return Ok(());
+        }
+        match &mut self.by {
+            By::Plain(separator) => find_fields(*separator, text, ranges, next, usize::MAX),
+            By::Expression(matcher) => {
+                find_all(matcher, ranges, text, self.fs.as_slice(), self.paragraph)?;
+                *next = None;
+                Ok(())
+            }
+            By::Bad(_) => {
+                *next = None;
+                Ok(())
+            }
+        }
+    }
+
+    /// Looks for fields of a record from the next one on, until there are so many or none is left; by an expression for all.
+    /// What was found and what is left are together what they were, also where memory was refused.
     #[inline]
     pub(crate) fn find(
         &mut self,
@@ -320,20 +355,9 @@ impl Splitter {
         ensures more { length ranges.old.items ≤ length ranges.new.items }
         ensures splitter { self.new ≡ self.old }
     {
-        if next.is_none() {
-            return Ok(());
+        if let By::Plain(separator) = &self.by {
+            return find_fields(*separator, text, ranges, next, count);
         }
-        match &mut self.by {
-            By::Plain(separator) => find_fields(*separator, text, ranges, next, count),
-            By::Expression(matcher) => {
-                find_all(matcher, ranges, text, self.fs.as_slice(), self.paragraph)?;
-                *next = None;
-                Ok(())
-            }
-            By::Bad(_) => {
-                *next = None;
-                Ok(())
-            }
-        }
+        self.find_rest(text, ranges, next)
     }
 }

@@ -104,24 +104,24 @@ places::place-returns-in_ok-key-in-Element-clause-outcome g t c =
 
 pub statements::add-add_element-requires : goal.statements::add-add_element-requires
 statements::add-add_element-requires g t c =
-    let is = element_shape c.args.to.now c.in-Element.array c.in-Element.keys c.deref.result.now c.in-Element.is c.deref.ensures.value in
-    let falls : row_weight (exprs (views c.deref.result.now)) + weight (view c.args.e.now) + 4 < place_weight (place_view c.args.to.now) + weight (view c.args.e.now) + 4 = rw is (omega arith) in
+    let is = element_shape c.args.to.now c.in-Element.array c.in-Element.keys c.deref-in-Element.result.now c.in-Element.is c.deref-in-Element.ensures.value in
+    let falls : row_weight (exprs (views c.deref-in-Element.result.now)) + weight (view c.args.e.now) + 4 < place_weight (place_view c.args.to.now) + weight (view c.args.e.now) + 4 = rw is (omega arith) in
     search rules
 
 pub statements::add-returns-in-Element-clause-outcome : goal.statements::add-returns-in-Element-clause-outcome
 statements::add-returns-in-Element-clause-outcome g t c =
-    let is = element_shape c.args.to.now c.in-Element.array c.in-Element.keys c.deref.result.now c.in-Element.is c.deref.ensures.value in
+    let is = element_shape c.args.to.now c.in-Element.array c.in-Element.keys c.deref-in-Element.result.now c.in-Element.is c.deref-in-Element.ensures.value in
     rw is (grind (arith, common_steps))
 
 pub statements::tally-tally_element-requires : goal.statements::tally-tally_element-requires
 statements::tally-tally_element-requires g t c =
-    let is = element_shape c.args.to.now c.in-Element.array c.in-Element.keys c.deref.result.now c.in-Element.is c.deref.ensures.value in
-    let falls : row_weight (exprs (views c.deref.result.now)) + 2 < place_weight (place_view c.args.to.now) + 2 = rw is (omega arith) in
+    let is = element_shape c.args.to.now c.in-Element.array c.in-Element.keys c.deref-in-Element.result.now c.in-Element.is c.deref-in-Element.ensures.value in
+    let falls : row_weight (exprs (views c.deref-in-Element.result.now)) + 3 < place_weight (place_view c.args.to.now) + 2 = rw is (omega arith) in
     search rules
 
 pub statements::tally-returns-in-Element-clause-outcome : goal.statements::tally-returns-in-Element-clause-outcome
 statements::tally-returns-in-Element-clause-outcome g t c =
-    let is = element_shape c.args.to.now c.in-Element.array c.in-Element.keys c.deref.result.now c.in-Element.is c.deref.ensures.value in
+    let is = element_shape c.args.to.now c.in-Element.array c.in-Element.keys c.deref-in-Element.result.now c.in-Element.is c.deref-in-Element.ensures.value in
     rw is (grind (arith, common_steps))
 
 pub statements::set-returns-in_err-assign_in_place-clause-outcome : goal.statements::set-returns-in_err-assign_in_place-clause-outcome

@@ -76,6 +76,9 @@ decreases-numbers::step_by g l = rank (functions_of l.context) l.depth (place_we
 abbrev pub decreases-numbers::place_of : goal.decreases-numbers::place_of
 decreases-numbers::place_of g l = rank (functions_of l.context) l.depth (weight (view l.e.now) + weight (view l.sought.now) + 4)
 
+abbrev pub decreases-conditions::holds : goal.decreases-conditions::holds
+decreases-conditions::holds g l = rank (functions_of l.context) l.depth (weight (view l.e.now) + 3)
+
 abbrev pub decreases-conditions::test : goal.decreases-conditions::test
 decreases-conditions::test g l = rank (functions_of l.context) l.depth (test_weight (test_view l.t.now))
 
@@ -176,7 +179,10 @@ abbrev pub decreases-statements::tally_elsewhere : goal.decreases-statements::ta
 decreases-statements::tally_elsewhere g l = rank (functions_of l.context) l.depth (place_weight (place_view l.to.now) + 1)
 
 abbrev pub decreases-statements::tally_element : goal.decreases-statements::tally_element
-decreases-statements::tally_element g l = rank (functions_of l.context) l.depth (row_weight (exprs (views l.keys.now)) + 2)
+decreases-statements::tally_element g l = rank (functions_of l.context) l.depth (row_weight (exprs (views l.keys.now)) + 3)
+
+abbrev pub decreases-statements::tally_at_key : goal.decreases-statements::tally_at_key
+decreases-statements::tally_at_key g l = rank (functions_of l.context) l.depth (row_weight (exprs (views l.keys.now)) + 2)
 
 abbrev pub decreases-statements::set_elsewhere : goal.decreases-statements::set_elsewhere
 decreases-statements::set_elsewhere g l = rank (functions_of l.context) l.depth (place_weight (place_view l.to.now) + weight (view l.e.now) + 1)

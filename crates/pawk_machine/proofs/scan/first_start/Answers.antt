@@ -1,8 +1,21 @@
-use Rattle.std.proofs.Common.{◌+◌, inl, inr, arith}
+use Rattle.std.proofs.Common.{◌≡◌, ℕ, ◌+◌, Some, arith, inl, inr, slice_get, slice_index, subst, sym}
+use Rattle.pawk_machine.specs.Table.{IsTable, LeadsTo}
+use Rattle.pawk_machine.specs.Regex.{Regex}
+use Rattle.pawk_machine.specs.declared.table.State.{State}
+use Rattle.pawk_machine.specs.declared.table.Table.{Table}
+use Rattle.pawk_machine.proofs.Links.{link_leads}
 use Rattle.pawk_machine.specs.Tree.{regex_of}
 use Rattle.pawk_machine.proofs.Walks.{all_start, none_start, next_all, found_inside, found_at_end, none_step, none_dead, none_at_all, idle_on}
 use Rattle.pawk_machine.proofs.scan.first_start.Goals as goal
-use Rattle.pawk_machine.proofs.scan.first_start.Goals.{then-from-eq0, else-from-eq0}
+use Rattle.pawk_machine.proofs.scan.first_start.Goals.{then-from-eq0, else-from-eq0, then-next-ne0, else-next-ne0+in_ok-at}
+
+-- the table after one more byte, and the state in it
+abbrev IsStep : Regex → Table → ℕ → ℕ → Table → ℕ → Type 0
+IsStep e old at byte new next = IsTable e new × ((s : State) → slice_get old.states.items at ≡ Some s → LeadsTo e new.states.items s byte next)
+
+-- a step that is told of what stands in the code's names for it
+named : (e : Regex) (old : Table) (at byte : ℕ) (new told : Table) (next link : ℕ) → told ≡ new → link ≡ next → IsStep e old at byte new next → IsStep e old at byte told link
+named e old at byte new told next link table place step = subst (λ t. IsStep e old at byte t link) (sym table) (subst (λ q. IsStep e old at byte new q) (sym place) step)
 
 pub loop-place-init : goal.loop-place-init
 loop-place-init c =
@@ -33,25 +46,35 @@ pub loop-place-preserved : goal.loop-place-preserved
 loop-place-preserved c =
     let i = c.loop-place.invariant in
     let n = i.none in
-    let k = next_all (regex_of c.args.node.now) c.args.text.now c.args.from c.loop-place.place c.loop-place.table.states.items c.state_after.new.table.states.items c.loop-place.at c.in_ok-at.at i.knows.0 (omega (arith, n.after, n.up_to)) c.loop-place-test.true i.knows.1 i.knows.2 c.in_ok-at.ensures.leads in
+    let e = regex_of c.args.node.now in
+    let step : IsStep e c.loop-place.table c.loop-place.at (slice_index c.args.text.now c.loop-place.place) c.if-next-ne0.table c.if-next-ne0.at = elim c.if-next-ne0.branch [
+      | then-next-ne0 w ↦ named e c.loop-place.table c.loop-place.at (slice_index c.args.text.now c.loop-place.place) _ _ _ _ w.table-is w.at-is (i.table, link_leads e c.loop-place.table c.loop-place.at (slice_index c.args.text.now c.loop-place.place) _ i.table i.within (omega arith) c.index.ensures w.if-next-ne0.true)
+      | else-next-ne0+in_ok-at w ↦ named e c.loop-place.table c.loop-place.at (slice_index c.args.text.now c.loop-place.place) _ _ _ _ w.table-is w.at-is (w.in_ok-at.ensures.table, w.in_ok-at.ensures.leads)
+    ] in
+    let k = next_all e c.args.text.now c.args.from c.loop-place.place c.loop-place.table.states.items c.if-next-ne0.table.states.items c.loop-place.at c.if-next-ne0.at i.knows.0 (omega (arith, n.after, n.up_to)) c.loop-place-test.true i.knows.1 i.knows.2 step.1 in
     record {
       inside = omega arith;
-      table = c.in_ok-at.ensures.table;
+      table = step.0;
       within = k.0;
       knows = k.1;
-      none = none_step (regex_of c.args.node.now) c.args.text.now c.args.from c.loop-place.place c.loop-place.begin c.loop-place.table.states.items c.loop-place.table.next.items c.loop-place.at i.knows.0 c.index-state.result.now c.loop-place-test.true i.table i.knows.1 c.index-state.ensures i.knows.2 n c.if-state.false;
+      none = none_step e c.args.text.now c.args.from c.loop-place.place c.loop-place.begin c.loop-place.table.states.items c.loop-place.table.next.items c.loop-place.at i.knows.0 c.index-state.result.now c.loop-place-test.true i.table i.knows.1 c.index-state.ensures i.knows.2 n c.if-state.false;
     }
 
 pub loop-place-preserved-then-at-eq-IDLE : goal.loop-place-preserved-then-at-eq-IDLE
 loop-place-preserved-then-at-eq-IDLE c =
     let i = c.loop-place.invariant in
     let n = i.none in
-    let k = next_all (regex_of c.args.node.now) c.args.text.now c.args.from c.loop-place.place c.loop-place.table.states.items c.state_after.new.table.states.items c.loop-place.at c.in_ok-at.at i.knows.0 (omega (arith, n.after, n.up_to)) c.loop-place-test.true i.knows.1 i.knows.2 c.in_ok-at.ensures.leads in
-    let m = none_step (regex_of c.args.node.now) c.args.text.now c.args.from c.loop-place.place c.loop-place.begin c.loop-place.table.states.items c.loop-place.table.next.items c.loop-place.at i.knows.0 c.index-state.result.now c.loop-place-test.true i.table i.knows.1 c.index-state.ensures i.knows.2 n c.if-state.false in
-    let on = idle_on (regex_of c.args.node.now) c.args.text.now c.args.from (c.loop-place.place + 1) c.idle_end-place.result c.loop-place.begin c.state_after.new.table.states.items c.state_after.new.table.next.items c.in_ok-at.at c.in_ok-at.ensures.table k.1 c.if-at-eq-IDLE.true m c.idle_end-place.ensures.after (omega arith) c.idle_end-place.ensures.none in
+    let e = regex_of c.args.node.now in
+    let step : IsStep e c.loop-place.table c.loop-place.at (slice_index c.args.text.now c.loop-place.place) c.if-next-ne0.table c.if-next-ne0.at = elim c.if-next-ne0.branch [
+      | then-next-ne0 w ↦ named e c.loop-place.table c.loop-place.at (slice_index c.args.text.now c.loop-place.place) _ _ _ _ w.table-is w.at-is (i.table, link_leads e c.loop-place.table c.loop-place.at (slice_index c.args.text.now c.loop-place.place) _ i.table i.within (omega arith) c.index.ensures w.if-next-ne0.true)
+      | else-next-ne0+in_ok-at w ↦ named e c.loop-place.table c.loop-place.at (slice_index c.args.text.now c.loop-place.place) _ _ _ _ w.table-is w.at-is (w.in_ok-at.ensures.table, w.in_ok-at.ensures.leads)
+    ] in
+    let k = next_all e c.args.text.now c.args.from c.loop-place.place c.loop-place.table.states.items c.if-next-ne0.table.states.items c.loop-place.at c.if-next-ne0.at i.knows.0 (omega (arith, n.after, n.up_to)) c.loop-place-test.true i.knows.1 i.knows.2 step.1 in
+    let m = none_step e c.args.text.now c.args.from c.loop-place.place c.loop-place.begin c.loop-place.table.states.items c.loop-place.table.next.items c.loop-place.at i.knows.0 c.index-state.result.now c.loop-place-test.true i.table i.knows.1 c.index-state.ensures i.knows.2 n c.if-state.false in
+    let on = idle_on e c.args.text.now c.args.from (c.loop-place.place + 1) c.idle_end-place.result c.loop-place.begin c.if-next-ne0.table.states.items c.if-next-ne0.table.next.items c.if-next-ne0.at step.0 k.1 c.if-at-eq-IDLE.true m c.idle_end-place.ensures.after (omega arith) c.idle_end-place.ensures.none in
     record {
       inside = c.idle_end-place.ensures.within;
-      table = c.in_ok-at.ensures.table;
+      table = step.0;
       within = k.0;
       knows = on.0;
       none = on.1;
@@ -61,9 +84,9 @@ pub returns-then-index-clause-start : goal.returns-then-index-clause-start
 returns-then-index-clause-start c =
     let i = c.loop-place.invariant in
     let n = i.none in
-    (found_at_end (regex_of c.args.node.now) c.args.text.now c.args.from c.loop-place.place c.loop-place.begin c.loop-place.table.states.items c.loop-place.table.next.items c.loop-place.at i.knows.0 c.index.result.now i.inside c.loop-place-test.false i.table i.knows.1 c.index.ensures i.knows.2 i.none c.if-index.true, n.up_to, i.inside)
+    (found_at_end (regex_of c.args.node.now) c.args.text.now c.args.from c.loop-place.place c.loop-place.begin c.loop-place.table.states.items c.loop-place.table.next.items c.loop-place.at i.knows.0 c.index-2.result.now i.inside c.loop-place-test.false i.table i.knows.1 c.index-2.ensures i.knows.2 i.none c.if-index.true, n.up_to, i.inside)
 
 pub returns-clause-start : goal.returns-clause-start
 returns-clause-start c =
     let i = c.loop-place.invariant in
-    none_at_all (regex_of c.args.node.now) c.args.text.now c.args.from c.loop-place.place c.loop-place.begin c.loop-place.table.states.items c.loop-place.table.next.items c.loop-place.at i.knows.0 c.index.result.now c.requires.within i.inside c.loop-place-test.false i.table i.knows.1 c.index.ensures i.knows.2 i.none c.if-index.false
+    none_at_all (regex_of c.args.node.now) c.args.text.now c.args.from c.loop-place.place c.loop-place.begin c.loop-place.table.states.items c.loop-place.table.next.items c.loop-place.at i.knows.0 c.index-2.result.now c.requires.within i.inside c.loop-place-test.false i.table i.knows.1 c.index-2.ensures i.knows.2 i.none c.if-index.false

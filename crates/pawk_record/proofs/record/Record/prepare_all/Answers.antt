@@ -6,14 +6,14 @@ use Rattle.pawk_record.specs.Records.{SplitRecord}
 use Rattle.pawk_record.specs.Lines.{line_of}
 use Rattle.pawk_record.specs.Splitting.{IsSplitter}
 use Rattle.pawk_record.specs.Views.{text_of}
-use Rattle.pawk_record.proofs.ViewLemmas.{counted_still, is_left, none_more, some_left, all_found}
+use Rattle.pawk_record.proofs.ViewLemmas.{counted_still, is_left, none_more, some_left}
 use Rattle.pawk_record.proofs.record.Record.prepare_all.Goals as goal
 
 pub returns-clause-ready : goal.returns-clause-ready
-returns-clause-ready c = on_ok_weaker c.find.result (all_found (record c.self.inside { here = record c.self.inside.here { ranges = c.find.new.ranges }; next = c.find.new.next; splitter = c.find.new.self }) _ (omega (arith, c.find.new.ranges.ok.0, c.find.new.ranges.small))) c.find.ensures.enough
+returns-clause-ready c = on_ok_weaker c.find_rest.result (λ none. sym (none_more (record c.self.inside { here = record c.self.inside.here { ranges = c.find_rest.new.ranges }; next = c.find_rest.new.next; splitter = c.find_rest.new.self }) none)) c.find_rest.ensures.none
 
 pub returns-clause-more : goal.returns-clause-more
-returns-clause-more c = let same = ap (λ (v : SplitRecord). v.found) c.self.view_is in omega (arith, same, c.find.ensures.more)
+returns-clause-more c = let same = ap (λ (v : SplitRecord). v.found) c.self.view_is in omega (arith, same, c.find_rest.ensures.more)
 
 pub invariant_of-self : goal.invariant_of-self
 invariant_of-self c =
@@ -22,9 +22,9 @@ invariant_of-self c =
     let some : is_none r.next ≡ false = search rules in
     let never : r.here.is_joined ≡ true → ⊥ = λ e. some_left r.next (c.self.invariant.done e) some in
     record {
-      splitter = subst IsSplitter (sym c.find.ensures.splitter) c.self.invariant.splitter;
-      place = subst (λ t. ForSome c.find.new.next (λ p. p ≤ length t)) text c.find.ensures.within;
-      counted = counted_still r c.line-text.result.now c.find.new.ranges.items c.find.new.next c.find.new.self text c.find.ensures.same c.self.invariant.counted;
+      splitter = subst IsSplitter (sym c.find_rest.ensures.splitter) c.self.invariant.splitter;
+      place = subst (λ t. ForSome c.find_rest.new.next (λ p. p ≤ length t)) text c.find_rest.ensures.within;
+      counted = counted_still r c.line-text.result.now c.find_rest.new.ranges.items c.find_rest.new.next c.find_rest.new.self text c.find_rest.ensures.same c.self.invariant.counted;
       joined = λ e. absurd (never e);
       own = c.self.invariant.own;
       done = λ e. absurd (never e);

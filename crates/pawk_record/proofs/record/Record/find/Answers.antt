@@ -7,11 +7,10 @@ use Rattle.pawk_record.specs.Lines.{line_of}
 use Rattle.pawk_record.specs.Splitting.{IsSplitter}
 use Rattle.pawk_record.specs.Views.{text_of}
 use Rattle.pawk_record.proofs.ViewLemmas.{counted_still, is_left, some_left, prepared_by}
-use Rattle.pawk_record.proofs.record.Record.prepare.Goals as goal
-use Rattle.pawk_record.proofs.record.Record.prepare.Goals.{in-Some, in-None}
+use Rattle.pawk_record.proofs.record.Record.find.Goals as goal
 
 pub returns-clause-ready : goal.returns-clause-ready
-returns-clause-ready c = on_ok_weaker c.find.result (prepared_by (record c.self.inside { here = record c.self.inside.here { ranges = c.find.new.ranges }; next = c.find.new.next; splitter = c.find.new.self }) c.args.n _ (elim c.match-self.branch [ in-Some w ↦ omega (arith, w.count-is) | in-None w ↦ omega (arith, w.count-is) ])) c.find.ensures.enough
+returns-clause-ready c = on_ok_weaker c.find.result (prepared_by (record c.self.inside { here = record c.self.inside.here { ranges = c.find.new.ranges }; next = c.find.new.next; splitter = c.find.new.self }) c.args.count c.args.count (omega arith)) c.find.ensures.enough
 
 pub returns-clause-more : goal.returns-clause-more
 returns-clause-more c = let same = ap (λ (v : SplitRecord). v.found) c.self.view_is in omega (arith, same, c.find.ensures.more)
@@ -35,4 +34,4 @@ pub returns-then-is_none-clause-ready : goal.returns-then-is_none-clause-ready
 returns-then-is_none-clause-ready c =
     let r = c.self.inside in
     let none : is_none r.next ≡ true = search rules in
-    subst (λ (v : SplitRecord). IsPrepared v c.args.n) c.self.view_is (prepared_by r c.args.n c.args.n (omega arith) (inr (is_left r.next none)))
+    subst (λ (v : SplitRecord). IsPrepared v c.args.count) c.self.view_is (prepared_by r c.args.count c.args.count (omega arith) (inr (is_left r.next none)))
