@@ -21,6 +21,6 @@ pub use formats::format_values;
 pub use letters::push_letters;
 pub use matchers::Matchers;
 pub use occurrence::index;
-pub use operators::{related, same_truth, step_side, step_sign};
+pub use operators::{holds_for, related, same_truth, step_side, step_sign};
 pub use substrings::{substring, suffix};
 pub use values::Values;

@@ -34,7 +34,10 @@ pub fn step_side(step: Step, old: i64, new: i64) -> i64
 }
 
 /// Whether a relation holds for two sides that compare so.
-fn holds_for(relation: Relation, order: Ordering) -> bool
+///
+/// POSIX.1-2017, awk, "Expressions in awk".
+#[inline(always)]
+pub fn holds_for(relation: Relation, order: Ordering) -> bool
     ensures { result ≡ spec.holds_for relation order }
 {
     match relation {

@@ -1,8 +1,6 @@
 -- Code with rows that is known by an equation, as what it is seen to be.
 use Rattle.std.proofs.Common.{◌≡◌, ℕ, List, ap, sym, ◌∙◌, Vec, Global}
 use Rattle.pawk_code.specs.declared.name.Array.{Array}
-use Rattle.pawk_code.specs.declared.expression.Place.{Place}
-use Rattle.pawk_code.specs.declared.expression.Place as code_place
 use Rattle.pawk_code.specs.declared.expression.Format.{Format}
 use Rattle.pawk_code.specs.declared.expression.Test.{Test}
 use Rattle.pawk_code.specs.declared.expression.Test as code_test
@@ -19,15 +17,12 @@ use Rattle.pawk_code.specs.declared.statement.Statement.TheOpen.{Statement-F}
 use Rattle.pawk_code.specs.declared.statement.Statement.TheFolds.{fold-roll-Statement}
 use Rattle.pawk_code.specs.Statements.{Stmt, simple, when, choose, do_while}
 use Rattle.pawk_code.specs.StatementViews.{seen, simple_view, stmt_step, stmt_view}
-use Rattle.pawk_code.specs.Expressions.{call, to_element, member, join, formatted, exprs, arguments}
-use Rattle.pawk_code.specs.ExpressionViews.{view, views, place_view, test_view, textual_view, format_view, argument_views}
-use Rattle.pawk_code.proofs.Rows.{view-Call, view-Element, view-In, view-Join, view-Format}
+use Rattle.pawk_code.specs.Expressions.{call, member, join, formatted, exprs, arguments}
+use Rattle.pawk_code.specs.ExpressionViews.{view, views, test_view, textual_view, format_view, argument_views}
+use Rattle.pawk_code.proofs.Rows.{view-Call, view-In, view-Join, view-Format}
 
 pub call_shape : (e : Expr) (f : ℕ) (v : Vec Argument Global) (as' : List Argument) → e ≡ code.Call f v → as' ≡ v.items → view e ≡ call f (arguments (argument_views as'))
 call_shape e f v as' is same = ap view is ∙ view-Call f v ∙ ap (λ xs. call f (arguments (argument_views xs))) (sym same)
-
-pub element_shape : (p : Place) (a : Array) (v : Vec Expr Global) (ks : List Expr) → p ≡ code_place.Element a v → ks ≡ v.items → place_view p ≡ to_element a (exprs (views ks))
-element_shape p a v ks is same = ap place_view is ∙ view-Element a v ∙ ap (λ xs. to_element a (exprs (views xs))) (sym same)
 
 pub member_shape : (t : Test) (a : Array) (v : Vec Expr Global) (ks : List Expr) → t ≡ code_test.In a v → ks ≡ v.items → test_view t ≡ member a (exprs (views ks))
 member_shape t a v ks is same = ap test_view is ∙ view-In a v ∙ ap (λ xs. member a (exprs (views xs))) (sym same)

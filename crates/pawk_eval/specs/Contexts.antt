@@ -16,7 +16,7 @@ use Rattle.pawk_builtins.specs.ExpressionViews.{texts_of}
 use Rattle.pawk_meaning.specs.Parts.{Hold, Part}
 use Rattle.pawk_meaning.specs.Meaning.{call_at}
 use Rattle.pawk_eval.specs.declared.context.Context.{Context}
-use Rattle.pawk_eval.specs.declared.operations.Replacement.{Replacement}
+use Rattle.pawk_eval.specs.declared.replacement.Replacement.{Replacement}
 
 -- the functions of the program
 abbrev pub functions_of : Context → List Function

@@ -17,7 +17,6 @@ use crate::context::Context;
 use crate::expressions::{eval, text, truth};
 use crate::numbers::numeric;
 use crate::operands::operand;
-use crate::operations::{find_first, matches_field};
 use crate::places::key;
 use pawk_builtins::{Expression, related, same_truth};
 use pawk_code::expression::{Expr, Pattern, Test};
@@ -25,8 +24,8 @@ use pawk_code::leaf::Leaf;
 use pawk_code::name::Array;
 use pawk_code::word::Relation;
 use pawk_places::{
-    Run, compare_leaves, compare_number, element_exists, field_exists, give_back, number_exists,
-    plain_number, related_numbers, table_of, take_buffer,
+    Run, compare_leaves, compare_number, element_exists, field_exists, find_first, give_back,
+    matches_field, number_exists, plain_number, quick_test, related_numbers, table_of, take_buffer,
 };
 use pawk_value::lend_held;
 use pawk_world::{Halt, World};
@@ -51,6 +50,9 @@ pub fn holds<W: World>(
         (enter_of W.calls context.entry depth) (view e.now))) settle
         (moment (W.state world.old) run.old)) result (moment (W.state world.new) run.new) }
 {
+    if let Some(holds) = quick_test(context.code.expressions.as_slice(), e, world, run) {
+        return Ok(holds);
+    }
     let truth = truth(context, depth, e, world, run)?;
     Ok(truth?)
 }

@@ -17,15 +17,15 @@ use crate::conditions::{holds, test};
 use crate::context::Context;
 use crate::functions::{call, pass};
 use crate::numbers::numeric;
-use crate::places::{field_element, place};
+use crate::places::place;
 use crate::strings::textual;
 use pawk_code::expression::{Argument, Expr, Place};
 use pawk_code::leaf::Leaf;
 use pawk_places::{
-    LEVELS, Run, field_element_number, give_back, give_back_target, give_back_value, leaf_copy,
-    leaf_text, leaf_truth, leaf_value, lent_number, plain_test, plain_value, push_field_element,
-    push_place_text, quick_field, read_field_element, read_number, read_place, table_of,
-    take_buffer, text_of_value, value_with, write_place,
+    LEVELS, Run, field_element, field_element_number, give_back, give_back_target, give_back_value,
+    leaf_copy, leaf_text, leaf_truth, leaf_value, lent_number, plain_test, plain_value,
+    push_field_element, push_place_text, quick_field, read_field_element, read_number, read_place,
+    table_of, take_buffer, text_of_value, value_with, write_place,
 };
 use pawk_value::{
     Fault, Held, Value, ValueRef, hold, lend, lend_held, push_text_lent, to_num_lent, truth_lent,

@@ -15,12 +15,12 @@ ghost use Rattle.pawk_eval.specs.Contexts.{enter_of, eres_of};
 
 use crate::context::Context;
 use crate::expressions::value;
-use crate::operations::array_parameter;
 use crate::statements::execute;
 use pawk_code::expression::Argument;
 use pawk_code::statement::{Leave, Statement};
 use pawk_places::{
-    Parameter, Run, close_arrays, give_back_frame, parameters, table_of, take_frame, tick,
+    Parameter, Run, array_parameter, close_arrays, give_back_frame, parameters, table_of,
+    take_frame, tick,
 };
 use pawk_value::{Fault, Value};
 use pawk_world::{Halt, World};

@@ -1,6 +1,7 @@
 //! Expressions and statements of a program, run over any world.
 #![tactic(auto)]
 
+mod assignments;
 mod conditions;
 mod context;
 mod expressions;
@@ -9,8 +10,8 @@ mod functions;
 mod loops;
 mod numbers;
 mod operands;
-mod operations;
 mod places;
+mod replacement;
 mod statements;
 mod strings;
 

@@ -25,13 +25,12 @@ ghost use Rattle.pawk_eval.specs.Flows.{way_of};
 use crate::context::Context;
 use crate::expressions::truth;
 use crate::flow::Flow;
-use crate::operations::set_key;
 use crate::statements::{execute, perform};
 use pawk_array::Texts;
 use pawk_code::expression::Expr;
 use pawk_code::name::{Array, Variable};
 use pawk_code::statement::{Head, Simple, Statement};
-use pawk_places::{Run, array_keys, table_of, tick};
+use pawk_places::{Run, array_keys, set_key, table_of, tick};
 use pawk_value::Fault;
 use pawk_world::{Halt, World};
 

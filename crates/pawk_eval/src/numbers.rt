@@ -22,17 +22,17 @@ ghost use Rattle.pawk_eval.specs.Contexts.{enter_of, eres_of, replacement_view};
 use crate::context::Context;
 use crate::expressions::{number, text};
 use crate::operands::{operand, separator};
-use crate::operations::{Replacement, combine, find_first, find_in_field, sign_op, substitute};
 use crate::places::place;
+use crate::replacement::Replacement;
 use pawk_builtins::{Expression, step_side, step_sign};
 use pawk_code::expression::{Expr, FieldsBy, Numeric, NumericFunction, Pattern, Place};
 use pawk_code::leaf::Leaf;
 use pawk_code::name::Array;
 use pawk_code::word::Step;
 use pawk_places::{
-    LEVELS, Run, Separator, arithmetic_behind, change_place, give_back, give_back_target,
-    leaf_length, place_in, place_in_leaf, quick_number, result_of, set_match_place, split_into,
-    table_of,
+    LEVELS, Run, Separator, arithmetic_behind, change_place, combine, find_first, find_in_field,
+    give_back, give_back_target, leaf_length, place_in, place_in_leaf, quick_number, result_of,
+    set_match_place, sign_op, split_into, substitute, table_of,
 };
 use pawk_value::Op;
 use pawk_world::{Halt, World};

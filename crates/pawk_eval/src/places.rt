@@ -2,9 +2,9 @@
 //!
 //! POSIX.1-2017, awk, "Variables and Special Variables".
 
-ghost use Rattle.std.specs.Prelude.{◌≡◌, ◌≤◌, IfSome};
-ghost use Rattle.pawk_code.specs.Expressions.{exprs, field, leaf, more, none, to_element};
-ghost use Rattle.pawk_code.specs.ExpressionViews.{leaf_view, place_view, views};
+ghost use Rattle.std.specs.Prelude.{◌≤◌};
+ghost use Rattle.pawk_code.specs.Expressions.{exprs};
+ghost use Rattle.pawk_code.specs.ExpressionViews.{place_view, views};
 ghost use Rattle.pawk_meaning.specs.Meaning.{aim_of, subscripts};
 ghost use Rattle.pawk_places.specs.Moments.{aim_view, moment};
 ghost use Rattle.pawk_places.specs.Yields.{Yields};
@@ -16,47 +16,8 @@ use crate::operands::texts;
 use pawk_array::Texts;
 use pawk_builtins::field_index;
 use pawk_code::expression::{Expr, Place};
-use pawk_code::leaf::Leaf;
-use pawk_code::name::Array;
 use pawk_places::{Run, Target, element_target, key_of_texts, table_of};
 use pawk_world::{Halt, World};
-
-/// The only subscript, if there is one alone and it is a leaf.
-#[inline(always)]
-fn only_leaf(keys: &[Expr]) -> Option<&Leaf>
-    ensures { IfSome result (λ only.
-        exprs (views keys.now) ≡ more (leaf (leaf_view only.now)) none) }
-{
-    match keys {
-        [Expr::Leaf(only)] => Some(only),
-        _ => None,
-    }
-}
-
-/// The array and the subscript of a place that is an element with one subscript, a leaf.
-#[inline(always)]
-pub(crate) fn leaf_element(place: &Place) -> Option<(Array, &Leaf)>
-    ensures { IfSome result (λ parts.
-        place_view place.now ≡ to_element parts.0 (more (leaf (leaf_view parts.1.now)) none)) }
-{
-    let Place::Element(array, keys) = place else {
-        return None;
-    };
-    let only = only_leaf(keys)?;
-    Some((*array, only))
-}
-
-/// The array and the number of the field whose text is the key of a place that is an element.
-#[inline(always)]
-pub(crate) fn field_element(place: &Place) -> Option<(Array, usize)>
-    ensures { IfSome result (λ parts.
-        place_view place.now ≡ to_element parts.0 (more (leaf (field parts.1)) none)) }
-{
-    match leaf_element(place)? {
-        (array, Leaf::Field(n)) => Some((array, *n)),
-        _ => None,
-    }
-}
 
 /// Where a place is.
 #[cycle(evaluate)]

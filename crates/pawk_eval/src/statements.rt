@@ -2,54 +2,46 @@
 //!
 //! POSIX.1-2017, awk, "Actions".
 
-ghost use Rattle.std.specs.Prelude.{◌≤◌, [], Ok, pos};
-ghost use Rattle.pawk_code.specs.Expressions.{exprs, field};
+ghost use Rattle.std.specs.Prelude.{◌≤◌, []};
+ghost use Rattle.pawk_code.specs.Expressions.{exprs};
 ghost use Rattle.pawk_code.specs.Expressions as codes;
-ghost use Rattle.pawk_code.specs.ExpressionViews.{format_view, leaf_view, place_view, view, views};
+ghost use Rattle.pawk_code.specs.ExpressionViews.{format_view, view, views};
 ghost use Rattle.pawk_code.specs.StatementViews.{leave_view, seen, simple_view, stmt_view};
 ghost use Rattle.pawk_code.specs.Statements as actions;
-ghost use Rattle.pawk_meaning.specs.Parts.{as_number, as_text, bind, give};
+ghost use Rattle.pawk_meaning.specs.Parts.{bind, give};
 ghost use Rattle.pawk_meaning.specs.Meaning.{
   act,
-  aim_of,
   exec,
   execs,
   leaves,
   print_text,
-  subscripts,
   text_of_textual,
   texts_of,
-  value_of_leaf,
 };
 ghost use Rattle.pawk_meaning.specs.Meaning as spec;
-ghost use Rattle.pawk_meaning.specs.Places.{add_at, array_at, element_of};
-ghost use Rattle.pawk_places.specs.Moments.{moment, table_view};
+ghost use Rattle.pawk_places.specs.Moments.{moment};
 ghost use Rattle.pawk_places.specs.Yields.{Yields};
 ghost use Rattle.pawk_eval.specs.Contexts.{enter_of, eres_of};
 ghost use Rattle.pawk_eval.specs.Flows.{way_of};
 
+use crate::assignments::{add, set, tally};
 use crate::context::Context;
 use crate::expressions::{eval, number, text, truth, value};
 use crate::flow::Flow;
 use crate::loops::{count, turns, turns_after, walk};
-use crate::numbers::numeric;
 use crate::operands::texts;
-use crate::places::{field_element, key, leaf_element, place};
+use crate::places::key;
 use crate::strings::formatted;
 use pawk_array::Texts;
 use pawk_builtins::{exit_status, step_sign};
-use pawk_code::expression::{Expr, Format, Place};
-use pawk_code::leaf::Leaf;
+use pawk_code::expression::{Expr, Format};
 use pawk_code::name::Array;
 use pawk_code::statement::{Leave, Simple, Statement};
-use pawk_code::word::Sign;
 use pawk_places::{
-    Run, Table, add_to_field_key, add_to_key, add_to_number, add_to_parameter, add_to_place,
-    are_plain, assign_in_place, clear_array, give_back, give_back_target, leaf_number,
-    plain_number, print_alone, print_bytes, print_line, print_plain, remove_element, set_at_number,
-    table_of, take_buffer, tick, write_place,
+    Run, are_plain, clear_array, give_back, print_alone, print_bytes, print_line, print_plain,
+    remove_element, table_of, take_buffer, tick,
 };
-use pawk_value::{Value, ValueRef, lend_held};
+use pawk_value::Value;
 use pawk_world::{Halt, World};
 
 /// Runs statements in turn, a step of the budget at the begin of each, where `depth` calls may be
@@ -239,305 +231,6 @@ pub(crate) fn delete<W: World>(
     let key = key(context, depth, keys, world, run)?;
     remove_element(table_of(&run.frame, array), &key, world, run)?;
     give_back(&mut run.spare, key);
-    Ok(())
-}
-
-/// Adds the number of an expression to a place, or takes it away.
-#[cycle(evaluate)]
-#[inline(always)]
-pub(crate) fn add<W: World>(
-    context: Context<'_>,
-    depth: u64,
-    sign: Sign,
-    to: &Place,
-    e: &Expr,
-    world: &mut W,
-    run: &mut Run<'_>,
-) -> Result<(), Halt>
-    ensures left { run.new.left ≤ run.old.left }
-    ensures outcome { Yields (λ _. tt)
-        (act W.calls (eres_of context.entry) (enter_of W.calls context.entry depth)
-        (actions.add sign (place_view to.now) (view e.now))
-        (moment (W.state world.old) run.old)) result (moment (W.state world.new) run.new) }
-{
-    if let Place::Global(slot) = to {
-        let amount = number(context, depth, e, world, run)?;
-        return world.add_scalar(*slot, sign, amount);
-    }
-    if let Some((array, n)) = field_element(to) {
-        if let Expr::Leaf(amount) = e {
-            return add_leaf(sign, table_of(&run.frame, array), n, amount, world, run);
-        }
-    }
-    if let Place::Element(array, keys) = to {
-        return add_element(context, depth, sign, *array, keys, e, world, run);
-    }
-    add_elsewhere(context, depth, sign, to, e, world, run)
-}
-
-/// Adds the number of a leaf to the element whose key is the text of a field, or takes it away. The key
-/// is not copied.
-#[inline(never)]
-fn add_leaf<W: World>(
-    sign: Sign,
-    table: Table,
-    n: usize,
-    amount: &Leaf,
-    world: &mut W,
-    run: &mut Run<'_>,
-) -> Result<(), Halt>
-    ensures left { run.new.left ≤ run.old.left }
-    ensures outcome { Yields (λ _. tt)
-        (bind (as_text [] (value_of_leaf W.calls (field n)))
-        (λ key. bind (as_number (value_of_leaf W.calls (leaf_view amount.now)))
-        (add_at W.calls sign (element_of (table_view table) key)))
-        (moment (W.state world.old) run.old)) result (moment (W.state world.new) run.new) }
-{
-    let amount = leaf_number(amount, world, run)?;
-    add_to_field_key(sign, table, n, amount, world, run)
-}
-
-/// Adds the number of an expression to a place that is laid down first, or takes it away.
-#[cycle(evaluate)]
-#[inline(never)]
-pub(crate) fn add_elsewhere<W: World>(
-    context: Context<'_>,
-    depth: u64,
-    sign: Sign,
-    to: &Place,
-    e: &Expr,
-    world: &mut W,
-    run: &mut Run<'_>,
-) -> Result<(), Halt>
-    ensures left { run.new.left ≤ run.old.left }
-    ensures outcome { Yields (λ _. tt)
-        (act W.calls (eres_of context.entry) (enter_of W.calls context.entry depth)
-        (actions.add sign (place_view to.now) (view e.now))
-        (moment (W.state world.old) run.old)) result (moment (W.state world.new) run.new) }
-{
-    let target = place(context, depth, to, world, run)?;
-    let amount = number(context, depth, e, world, run)?;
-    add_to_place(sign, &target, amount, world, run)?;
-    give_back_target(&mut run.spare, target);
-    Ok(())
-}
-
-/// Adds the number of an expression to an element of an array, or takes it away.
-#[cycle(evaluate)]
-pub(crate) fn add_element<W: World>(
-    context: Context<'_>,
-    depth: u64,
-    sign: Sign,
-    array: Array,
-    keys: &[Expr],
-    e: &Expr,
-    world: &mut W,
-    run: &mut Run<'_>,
-) -> Result<(), Halt>
-    ensures left { run.new.left ≤ run.old.left }
-    ensures outcome { Yields (λ _. tt)
-        (bind (subscripts W.calls (eres_of context.entry) (enter_of W.calls context.entry depth)
-        (exprs (views keys.now)))
-        (λ key m. bind (as_number (spec.eval W.calls (eres_of context.entry)
-        (enter_of W.calls context.entry depth) (view e.now)))
-        (add_at W.calls sign (element_of (array_at m.frame array) key)) m)
-        (moment (W.state world.old) run.old)) result (moment (W.state world.new) run.new) }
-{
-    let key = key(context, depth, keys, world, run)?;
-    let table = table_of(&run.frame, array);
-    let amount = number(context, depth, e, world, run)?;
-    add_to_key(sign, table, &key, amount, world, run)?;
-    give_back(&mut run.spare, key);
-    Ok(())
-}
-
-/// Adds 1 to a place, or takes it away.
-#[cycle(evaluate)]
-#[inline(always)]
-pub(crate) fn tally<W: World>(
-    context: Context<'_>,
-    depth: u64,
-    sign: Sign,
-    to: &Place,
-    world: &mut W,
-    run: &mut Run<'_>,
-) -> Result<(), Halt>
-    ensures left { run.new.left ≤ run.old.left }
-    ensures outcome { Yields (λ _. tt)
-        (bind (aim_of W.calls (eres_of context.entry) (enter_of W.calls context.entry depth)
-        (place_view to.now)) (λ aim. add_at W.calls sign aim (Ok (pos 1)))
-        (moment (W.state world.old) run.old)) result (moment (W.state world.new) run.new) }
-{
-    if let Place::Global(slot) = to {
-        return world.add_scalar(*slot, sign, Ok(1));
-    }
-    if let Place::Local(number) = to {
-        return add_to_parameter(sign, *number, Ok(1), world, run);
-    }
-    if let Some((array, n)) = field_element(to) {
-        return tally_field(sign, table_of(&run.frame, array), n, world, run);
-    }
-    if let Place::Element(array, keys) = to {
-        return tally_element(context, depth, sign, *array, keys, world, run);
-    }
-    tally_elsewhere(context, depth, sign, to, world, run)
-}
-
-/// Adds 1 to the element whose key is the text of a field, or takes it away. The key is not copied.
-#[inline(never)]
-fn tally_field<W: World>(
-    sign: Sign,
-    table: Table,
-    n: usize,
-    world: &mut W,
-    run: &mut Run<'_>,
-) -> Result<(), Halt>
-    ensures left { run.new.left ≤ run.old.left }
-    ensures outcome { Yields (λ _. tt)
-        (bind (as_text [] (value_of_leaf W.calls (field n)))
-        (λ key. add_at W.calls sign (element_of (table_view table) key) (Ok (pos 1)))
-        (moment (W.state world.old) run.old)) result (moment (W.state world.new) run.new) }
-{
-    add_to_field_key(sign, table, n, Ok(1), world, run)
-}
-
-/// Adds 1 to a place that is laid down first, or takes it away.
-#[cycle(evaluate)]
-#[inline(never)]
-pub(crate) fn tally_elsewhere<W: World>(
-    context: Context<'_>,
-    depth: u64,
-    sign: Sign,
-    to: &Place,
-    world: &mut W,
-    run: &mut Run<'_>,
-) -> Result<(), Halt>
-    ensures left { run.new.left ≤ run.old.left }
-    ensures outcome { Yields (λ _. tt)
-        (bind (aim_of W.calls (eres_of context.entry) (enter_of W.calls context.entry depth)
-        (place_view to.now)) (λ aim. add_at W.calls sign aim (Ok (pos 1)))
-        (moment (W.state world.old) run.old)) result (moment (W.state world.new) run.new) }
-{
-    let target = place(context, depth, to, world, run)?;
-    add_to_place(sign, &target, Ok(1), world, run)?;
-    give_back_target(&mut run.spare, target);
-    Ok(())
-}
-
-/// Adds 1 to an element of an array, or takes it away. A key that is a number is not copied.
-#[cycle(evaluate)]
-pub(crate) fn tally_element<W: World>(
-    context: Context<'_>,
-    depth: u64,
-    sign: Sign,
-    array: Array,
-    keys: &[Expr],
-    world: &mut W,
-    run: &mut Run<'_>,
-) -> Result<(), Halt>
-    ensures left { run.new.left ≤ run.old.left }
-    ensures outcome { Yields (λ _. tt)
-        (bind (subscripts W.calls (eres_of context.entry) (enter_of W.calls context.entry depth)
-        (exprs (views keys.now)))
-        (λ key m. add_at W.calls sign (element_of (array_at m.frame array) key) (Ok (pos 1)) m)
-        (moment (W.state world.old) run.old)) result (moment (W.state world.new) run.new) }
-{
-    if let [Expr::Numeric(n)] = keys {
-        let key = numeric(context, depth, n, world, run)?;
-        return add_to_number(sign, table_of(&run.frame, array), key, Ok(1), world, run);
-    }
-    tally_at_key(context, depth, sign, array, keys, world, run)
-}
-
-/// Adds 1 to an element whose key is laid down first, or takes it away.
-#[cycle(evaluate)]
-#[inline(always)]
-pub(crate) fn tally_at_key<W: World>(
-    context: Context<'_>,
-    depth: u64,
-    sign: Sign,
-    array: Array,
-    keys: &[Expr],
-    world: &mut W,
-    run: &mut Run<'_>,
-) -> Result<(), Halt>
-    ensures left { run.new.left ≤ run.old.left }
-    ensures outcome { Yields (λ _. tt)
-        (bind (subscripts W.calls (eres_of context.entry) (enter_of W.calls context.entry depth)
-        (exprs (views keys.now)))
-        (λ key m. add_at W.calls sign (element_of (array_at m.frame array) key) (Ok (pos 1)) m)
-        (moment (W.state world.old) run.old)) result (moment (W.state world.new) run.new) }
-{
-    let key = key(context, depth, keys, world, run)?;
-    add_to_key(sign, table_of(&run.frame, array), &key, Ok(1), world, run)?;
-    give_back(&mut run.spare, key);
-    Ok(())
-}
-
-/// Assigns the value of an expression to a place.
-#[cycle(evaluate)]
-#[inline(always)]
-pub(crate) fn set<W: World>(
-    context: Context<'_>,
-    depth: u64,
-    to: &Place,
-    e: &Expr,
-    world: &mut W,
-    run: &mut Run<'_>,
-) -> Result<(), Halt>
-    ensures left { run.new.left ≤ run.old.left }
-    ensures outcome { Yields (λ _. tt)
-        (act W.calls (eres_of context.entry) (enter_of W.calls context.entry depth)
-        (actions.set (place_view to.now) (view e.now))
-        (moment (W.state world.old) run.old)) result (moment (W.state world.new) run.new) }
-{
-    if let Place::Global(slot) = to {
-        if let Expr::Numeric(n) = e {
-            let number = numeric(context, depth, n, world, run)?;
-            return world.set_scalar(*slot, ValueRef::Num(number));
-        }
-    }
-    if assign_in_place(to, e, world, run)? {
-        return Ok(());
-    }
-    set_elsewhere(context, depth, to, e, world, run)
-}
-
-/// Assigns the value of an expression, which is laid down first, to a place. A key that is a number is
-/// not copied where the value is one too.
-#[cycle(evaluate)]
-#[inline(never)]
-pub(crate) fn set_elsewhere<W: World>(
-    context: Context<'_>,
-    depth: u64,
-    to: &Place,
-    e: &Expr,
-    world: &mut W,
-    run: &mut Run<'_>,
-) -> Result<(), Halt>
-    ensures left { run.new.left ≤ run.old.left }
-    ensures outcome { Yields (λ _. tt)
-        (act W.calls (eres_of context.entry) (enter_of W.calls context.entry depth)
-        (actions.set (place_view to.now) (view e.now))
-        (moment (W.state world.old) run.old)) result (moment (W.state world.new) run.new) }
-{
-    if let Some((array, key)) = leaf_element(to) {
-        if let Expr::Leaf(value) = e {
-            if let Table::Global(slot) = table_of(&run.frame, array) {
-                if let Some(key) = plain_number(key, world, run) {
-                    if let Some(value) = plain_number(value, world, run) {
-                        return set_at_number(slot, key, value, world, run);
-                    }
-                }
-            }
-        }
-    }
-    let target = place(context, depth, to, world, run)?;
-    let mut bytes = take_buffer(run.alloc, &mut run.spare);
-    let held = eval(context, depth, e, &mut bytes, world, run)?;
-    write_place(&target, lend_held(held, &bytes), world, run)?;
-    give_back(&mut run.spare, bytes);
-    give_back_target(&mut run.spare, target);
     Ok(())
 }
 

@@ -15,10 +15,9 @@ ghost use Rattle.pawk_eval.specs.Contexts.{enter_of, eres_of};
 use crate::context::Context;
 use crate::expressions::{number, text, text_into};
 use crate::operands::{format_operand, values};
-use crate::operations::fill_format;
 use pawk_builtins::{Values, both, push_letters, substring, suffix, within_limit};
 use pawk_code::expression::{Expr, Format, Textual};
-use pawk_places::{Run, give_back, quick_text};
+use pawk_places::{Run, fill_format, give_back, quick_text};
 use pawk_world::{Halt, World};
 
 /// Appends what gives a text. A leaf of which a part is taken, and a leaf or a field by a number whose letters change, are not

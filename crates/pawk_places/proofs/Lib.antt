@@ -3,3 +3,4 @@ pub mod Putting
 pub mod Pushing
 pub mod Appending
 pub mod Filling
+pub mod ElementShapes

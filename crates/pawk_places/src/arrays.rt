@@ -1,6 +1,6 @@
 //! What is done with whole arrays and with the keys of them.
 
-ghost use Rattle.std.specs.Prelude.{◌≡◌, ◌≤◌, [], IfOk};
+ghost use Rattle.std.specs.Prelude.{◌≤◌, [], IfOk};
 ghost use Rattle.pawk_value.specs.Conversion.{text_of};
 ghost use Rattle.pawk_value.specs.Value.{Num};
 ghost use Rattle.pawk_array.specs.Texts.{AreWithin};

@@ -21,7 +21,7 @@ ghost use Rattle.pawk_places.specs.Yields.{Yields};
 use crate::arithmetic::result_of;
 use crate::run::{Parameter, Run, take_buffer, value_with};
 use itoa::Buffer;
-use pawk_builtins::index;
+use pawk_builtins::{holds_for, index};
 use pawk_code::leaf::{Leaf, Special};
 use pawk_code::word::Relation;
 use pawk_store::RecordState;
@@ -31,7 +31,6 @@ use pawk_value::{
 };
 use pawk_world::{Halt, World};
 use std::alloc::AllocError;
-use std::cmp::Ordering;
 
 /// Makes a leaf ready to be lent. The state stays.
 #[inline(always)]
@@ -119,20 +118,6 @@ pub fn plain_number<W: World>(leaf: &Leaf, world: &W, run: &Run<'_>) -> Option<i
         Leaf::Special(Special::Fnr) => i64::try_from(run.state.fnr).ok(),
         Leaf::Special(Special::Nf) => i64::try_from(run.state.line.found_count()?).ok(),
         _ => None,
-    }
-}
-
-/// Whether a comparison holds of things in this order.
-fn holds_for(relation: Relation, order: Ordering) -> bool
-    ensures { result ≡ builtins.holds_for relation order }
-{
-    match relation {
-        Relation::Less => order == Ordering::Less,
-        Relation::LessEqual => order != Ordering::Greater,
-        Relation::Equal => order == Ordering::Equal,
-        Relation::NotEqual => order != Ordering::Equal,
-        Relation::Greater => order == Ordering::Greater,
-        Relation::GreaterEqual => order != Ordering::Less,
     }
 }
 

@@ -4,15 +4,18 @@
 mod append;
 mod arithmetic;
 mod arrays;
+mod conditions;
 mod leaves;
 mod letters;
 mod locals;
+mod operations;
 mod outputs;
 mod plain;
 mod quick;
 mod reading;
 mod run;
 mod scalars;
+mod shapes;
 mod substrings;
 mod target;
 mod texts;
@@ -24,10 +27,15 @@ pub use arrays::{
     Separator, array_keys, clear_array, element_exists, field_exists, number_exists,
     remove_element, split_into,
 };
+pub use conditions::quick_test;
 pub use leaves::{
     arithmetic_behind, compare_leaves, compare_number, leaf_copy, leaf_length, leaf_number,
     leaf_text, leaf_truth, leaf_value, lent_number, place_in, place_in_leaf, plain_number,
     related_numbers,
+};
+pub use operations::{
+    array_parameter, combine, fill_format, find_first, find_in_field, matches_field, set_key,
+    sign_op, substitute,
 };
 pub use outputs::{key_of_texts, print_alone, print_bytes, print_line, tick};
 pub use plain::{are_plain, print_plain};
@@ -40,9 +48,10 @@ pub use run::{
     Parameter, Run, close_arrays, give_back, give_back_frame, give_back_value, parameters,
     take_buffer, take_frame, text_of_value, value_with,
 };
+pub use shapes::{field_element, leaf_element};
 pub use target::{Table, Target, element_target, give_back_target, table_of, variable_target};
 pub use texts::quick_text;
 pub use writing::{
-    add_to_field_key, add_to_key, add_to_number, add_to_parameter, add_to_place, change_place,
-    put_text, set_at_number, set_match_place, write_place,
+    add_leaf_at_field, add_to_field_key, add_to_key, add_to_number, add_to_parameter, add_to_place,
+    change_place, put_text, set_at_number, set_match_place, tally_at_field, write_place,
 };

@@ -1,6 +1,6 @@
 //! Steps, keys and output.
 
-ghost use Rattle.std.specs.Prelude.{◌≡◌, ◌≤◌, ◌<◌, ◌∷◌, [], OnOk};
+ghost use Rattle.std.specs.Prelude.{◌≤◌, ◌<◌, ◌∷◌, [], OnOk};
 ghost use Rattle.pawk_meaning.specs.Meaning.{key_of, print_line, print_text};
 ghost use Rattle.pawk_meaning.specs.Parts.{tick};
 ghost use Rattle.pawk_places.specs.Moments.{moment};

@@ -1,9 +1,10 @@
 //! How places are changed.
 
-ghost use Rattle.std.specs.Prelude.{◌≡◌, ◌≤◌, ◌<◌, ◌^◌, [], IfSome, OnOk, slice_set};
+ghost use Rattle.std.specs.Prelude.{◌≡◌, ◌≤◌, ◌<◌, ◌^◌, [], IfSome, Ok, OnOk, pos, slice_set};
 ghost use Rattle.pawk_value.specs.Value.{Num, lent_value};
 ghost use Rattle.pawk_value.specs.Conversion.{text_of};
 ghost use Rattle.pawk_code.specs.Expressions.{field};
+ghost use Rattle.pawk_code.specs.ExpressionViews.{leaf_view};
 ghost use Rattle.pawk_meaning.specs.Builtins.{Replaced};
 ghost use Rattle.pawk_meaning.specs.Meaning.{place_of_match, put_replaced, set_match, value_of_leaf};
 ghost use Rattle.pawk_meaning.specs.Places.{
@@ -16,19 +17,20 @@ ghost use Rattle.pawk_meaning.specs.Places.{
   write_at,
 };
 ghost use Rattle.pawk_world.specs.Worlds.{element};
-ghost use Rattle.pawk_meaning.specs.Parts.{as_text, bind};
+ghost use Rattle.pawk_meaning.specs.Parts.{as_number, as_text, bind};
 ghost use Rattle.pawk_meaning.specs.Parts as parts;
 ghost use Rattle.pawk_world.specs.Sums as sums;
 ghost use Rattle.pawk_places.specs.Moments.{aim_view, hold_of, holds_of, moment, table_view};
 ghost use Rattle.pawk_places.specs.Yields.{Yields};
 
-use crate::leaves::lend_parameter;
+use crate::leaves::{leaf_number, lend_parameter};
 use crate::locals;
 use crate::reading::old_number;
 use crate::run::{Parameter, Run, take_buffer};
 use crate::scalars::{FS, OFS, scalar_text};
 use crate::target::{Table, Target, element_target, give_back_target};
 use itoa::Buffer;
+use pawk_code::leaf::Leaf;
 use pawk_code::word::Sign;
 use pawk_value::{
     Fault, LENGTH_LIMIT, Op, Value, ValueRef, arith, assign, copy_lent, push_text_lent, text_in,
@@ -324,6 +326,46 @@ pub fn add_to_field_key<W: World>(
         }
     }
     add_to_laid_key(sign, table, n, amount, world, run)
+}
+
+/// Adds the number of a leaf to the element whose key is the text of a field, or takes it away. The key
+/// is not copied.
+#[inline(never)]
+pub fn add_leaf_at_field<W: World>(
+    sign: Sign,
+    table: Table,
+    n: usize,
+    amount: &Leaf,
+    world: &mut W,
+    run: &mut Run<'_>,
+) -> Result<(), Halt>
+    ensures left { run.new.left ≤ run.old.left }
+    ensures outcome { Yields (λ _. tt)
+        (bind (as_text [] (value_of_leaf W.calls (field n)))
+        (λ key. bind (as_number (value_of_leaf W.calls (leaf_view amount.now)))
+        (add_at W.calls sign (element_of (table_view table) key)))
+        (moment (W.state world.old) run.old)) result (moment (W.state world.new) run.new) }
+{
+    let amount = leaf_number(amount, world, run)?;
+    add_to_field_key(sign, table, n, amount, world, run)
+}
+
+/// Adds 1 to the element whose key is the text of a field, or takes it away. The key is not copied.
+#[inline(never)]
+pub fn tally_at_field<W: World>(
+    sign: Sign,
+    table: Table,
+    n: usize,
+    world: &mut W,
+    run: &mut Run<'_>,
+) -> Result<(), Halt>
+    ensures left { run.new.left ≤ run.old.left }
+    ensures outcome { Yields (λ _. tt)
+        (bind (as_text [] (value_of_leaf W.calls (field n)))
+        (λ key. add_at W.calls sign (element_of (table_view table) key) (Ok (pos 1)))
+        (moment (W.state world.old) run.old)) result (moment (W.state world.new) run.new) }
+{
+    add_to_field_key(sign, table, n, Ok(1), world, run)
 }
 
 /// Adds an amount to the element of an array whose key is the text of a field, which is copied.

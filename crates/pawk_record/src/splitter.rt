@@ -98,7 +98,7 @@ fn find_until(
     Ok(())
 }
 
-/// The same. The place stands in a register meanwhile.
+/// Looks for fields until there are so many, or none is left. The place stands in a register meanwhile.
 #[inline(never)]
 fn find_each(
     separator: FieldSeparator,
@@ -120,7 +120,7 @@ fn find_each(
     answer
 }
 
-/// The same. Between blanks many fields are looked for at once.
+/// Looks for fields until there are so many, or none is left; between blanks for many at once.
 #[inline(always)]
 fn find_fields(
     separator: FieldSeparator,

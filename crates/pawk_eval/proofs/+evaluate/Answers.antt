@@ -19,7 +19,8 @@ use Rattle.pawk_eval.proofs.Behind.{operand_next, operand_halts, text_behind}
 use Rattle.pawk_eval.proofs.Bodies.{simple_next}
 use Rattle.pawk_eval.proofs.Calls.{call_no_step, call_too_deep, call_nothing, call_runs}
 use Rattle.pawk_eval.proofs.Rows.{expr_in_row, argument_in_row, statement_in_body, keys_left, text_in_row_halts, value_in_row_halts, argument_in_row_halts}
-use Rattle.pawk_eval.proofs.Shapes.{call_shape, element_shape, member_shape, join_shape, format_shape, simple_shape, if_shape, choose_shape, do_shape}
+use Rattle.pawk_places.proofs.ElementShapes.{element_shape}
+use Rattle.pawk_eval.proofs.Shapes.{call_shape, member_shape, join_shape, format_shape, simple_shape, if_shape, choose_shape, do_shape}
 use Rattle.pawk_eval.proofs.Turns.{turn_is, turn_no_step}
 use Rattle.pawk_eval.proofs.Weights.{rank, rank_falls, weight, row_weight, place_weight, test_weight, textual_weight, format_weight, argument_weight, arguments_weight, simple_weight, statement_weight, body_weight, body_in_list}
 use Rattle.pawk_eval.proofs.+evaluate.Goals as goal
@@ -102,30 +103,30 @@ places::place-returns-in_ok-key-in-Element-clause-outcome g t c =
     let is = element_shape c.args.p.now c.in-Element.array c.in-Element.keys c.deref.result.now c.in-Element.is c.deref.ensures.value in
     rw (is, c.in_ok-key-in-Element.ensures.outcome) (grind (arith, common_steps))
 
-pub statements::add-add_element-requires : goal.statements::add-add_element-requires
-statements::add-add_element-requires g t c =
+pub assignments::add-add_element-requires : goal.assignments::add-add_element-requires
+assignments::add-add_element-requires g t c =
     let is = element_shape c.args.to.now c.in-Element.array c.in-Element.keys c.deref-in-Element.result.now c.in-Element.is c.deref-in-Element.ensures.value in
     let falls : row_weight (exprs (views c.deref-in-Element.result.now)) + weight (view c.args.e.now) + 4 < place_weight (place_view c.args.to.now) + weight (view c.args.e.now) + 4 = rw is (omega arith) in
     search rules
 
-pub statements::add-returns-in-Element-clause-outcome : goal.statements::add-returns-in-Element-clause-outcome
-statements::add-returns-in-Element-clause-outcome g t c =
+pub assignments::add-returns-in-Element-clause-outcome : goal.assignments::add-returns-in-Element-clause-outcome
+assignments::add-returns-in-Element-clause-outcome g t c =
     let is = element_shape c.args.to.now c.in-Element.array c.in-Element.keys c.deref-in-Element.result.now c.in-Element.is c.deref-in-Element.ensures.value in
     rw is (grind (arith, common_steps))
 
-pub statements::tally-tally_element-requires : goal.statements::tally-tally_element-requires
-statements::tally-tally_element-requires g t c =
+pub assignments::tally-tally_element-requires : goal.assignments::tally-tally_element-requires
+assignments::tally-tally_element-requires g t c =
     let is = element_shape c.args.to.now c.in-Element.array c.in-Element.keys c.deref-in-Element.result.now c.in-Element.is c.deref-in-Element.ensures.value in
     let falls : row_weight (exprs (views c.deref-in-Element.result.now)) + 3 < place_weight (place_view c.args.to.now) + 2 = rw is (omega arith) in
     search rules
 
-pub statements::tally-returns-in-Element-clause-outcome : goal.statements::tally-returns-in-Element-clause-outcome
-statements::tally-returns-in-Element-clause-outcome g t c =
+pub assignments::tally-returns-in-Element-clause-outcome : goal.assignments::tally-returns-in-Element-clause-outcome
+assignments::tally-returns-in-Element-clause-outcome g t c =
     let is = element_shape c.args.to.now c.in-Element.array c.in-Element.keys c.deref-in-Element.result.now c.in-Element.is c.deref-in-Element.ensures.value in
     rw is (grind (arith, common_steps))
 
-pub statements::set-returns-in_err-assign_in_place-clause-outcome : goal.statements::set-returns-in_err-assign_in_place-clause-outcome
-statements::set-returns-in_err-assign_in_place-clause-outcome g t c =
+pub assignments::set-returns-in_err-assign_in_place-clause-outcome : goal.assignments::set-returns-in_err-assign_in_place-clause-outcome
+assignments::set-returns-in_err-assign_in_place-clause-outcome g t c =
     let stops = λ (h : Halt) (is : halt_of c.in_err-assign_in_place.field-0.0 ≡ Some h). c.in_err-assign_in_place.ensures.outcome h is (eres_of c.args.context) (enter_of g.W.World.calls c.args.context c.args.depth) in
     search rules
 

@@ -163,32 +163,32 @@ decreases-statements::drop_value g l = rank (functions_of l.context) l.depth (we
 abbrev pub decreases-statements::delete : goal.decreases-statements::delete
 decreases-statements::delete g l = rank (functions_of l.context) l.depth (row_weight (exprs (views l.keys.now)) + 2)
 
-abbrev pub decreases-statements::add : goal.decreases-statements::add
-decreases-statements::add g l = rank (functions_of l.context) l.depth (place_weight (place_view l.to.now) + weight (view l.e.now) + 4)
+abbrev pub decreases-assignments::add : goal.decreases-assignments::add
+decreases-assignments::add g l = rank (functions_of l.context) l.depth (place_weight (place_view l.to.now) + weight (view l.e.now) + 4)
 
-abbrev pub decreases-statements::add_elsewhere : goal.decreases-statements::add_elsewhere
-decreases-statements::add_elsewhere g l = rank (functions_of l.context) l.depth (place_weight (place_view l.to.now) + weight (view l.e.now) + 3)
+abbrev pub decreases-assignments::add_elsewhere : goal.decreases-assignments::add_elsewhere
+decreases-assignments::add_elsewhere g l = rank (functions_of l.context) l.depth (place_weight (place_view l.to.now) + weight (view l.e.now) + 3)
 
-abbrev pub decreases-statements::add_element : goal.decreases-statements::add_element
-decreases-statements::add_element g l = rank (functions_of l.context) l.depth (row_weight (exprs (views l.keys.now)) + weight (view l.e.now) + 4)
+abbrev pub decreases-assignments::add_element : goal.decreases-assignments::add_element
+decreases-assignments::add_element g l = rank (functions_of l.context) l.depth (row_weight (exprs (views l.keys.now)) + weight (view l.e.now) + 4)
 
-abbrev pub decreases-statements::tally : goal.decreases-statements::tally
-decreases-statements::tally g l = rank (functions_of l.context) l.depth (place_weight (place_view l.to.now) + 2)
+abbrev pub decreases-assignments::tally : goal.decreases-assignments::tally
+decreases-assignments::tally g l = rank (functions_of l.context) l.depth (place_weight (place_view l.to.now) + 2)
 
-abbrev pub decreases-statements::tally_elsewhere : goal.decreases-statements::tally_elsewhere
-decreases-statements::tally_elsewhere g l = rank (functions_of l.context) l.depth (place_weight (place_view l.to.now) + 1)
+abbrev pub decreases-assignments::tally_elsewhere : goal.decreases-assignments::tally_elsewhere
+decreases-assignments::tally_elsewhere g l = rank (functions_of l.context) l.depth (place_weight (place_view l.to.now) + 1)
 
-abbrev pub decreases-statements::tally_element : goal.decreases-statements::tally_element
-decreases-statements::tally_element g l = rank (functions_of l.context) l.depth (row_weight (exprs (views l.keys.now)) + 3)
+abbrev pub decreases-assignments::tally_element : goal.decreases-assignments::tally_element
+decreases-assignments::tally_element g l = rank (functions_of l.context) l.depth (row_weight (exprs (views l.keys.now)) + 3)
 
-abbrev pub decreases-statements::tally_at_key : goal.decreases-statements::tally_at_key
-decreases-statements::tally_at_key g l = rank (functions_of l.context) l.depth (row_weight (exprs (views l.keys.now)) + 2)
+abbrev pub decreases-assignments::tally_at_key : goal.decreases-assignments::tally_at_key
+decreases-assignments::tally_at_key g l = rank (functions_of l.context) l.depth (row_weight (exprs (views l.keys.now)) + 2)
 
-abbrev pub decreases-statements::set_elsewhere : goal.decreases-statements::set_elsewhere
-decreases-statements::set_elsewhere g l = rank (functions_of l.context) l.depth (place_weight (place_view l.to.now) + weight (view l.e.now) + 1)
+abbrev pub decreases-assignments::set_elsewhere : goal.decreases-assignments::set_elsewhere
+decreases-assignments::set_elsewhere g l = rank (functions_of l.context) l.depth (place_weight (place_view l.to.now) + weight (view l.e.now) + 1)
 
-abbrev pub decreases-statements::set : goal.decreases-statements::set
-decreases-statements::set g l = rank (functions_of l.context) l.depth (place_weight (place_view l.to.now) + weight (view l.e.now) + 2)
+abbrev pub decreases-assignments::set : goal.decreases-assignments::set
+decreases-assignments::set g l = rank (functions_of l.context) l.depth (place_weight (place_view l.to.now) + weight (view l.e.now) + 2)
 
 abbrev pub decreases-statements::print : goal.decreases-statements::print
 decreases-statements::print g l = rank (functions_of l.context) l.depth (row_weight (exprs (views l.es.now)) + 2)

@@ -1,6 +1,6 @@
 //! What a part of a run does once its operands are evaluated.
 
-ghost use Rattle.std.specs.Prelude.{◌≡◌, ◌≤◌, ◌<◌, ◌^◌, [], pos, is_some, IfOk, IfSome};
+ghost use Rattle.std.specs.Prelude.{◌≡◌, ◌≤◌, ◌<◌, ◌^◌, [], is_some, IfOk, IfSome};
 ghost use Rattle.pawk_value.specs.Value.{Text};
 ghost use Rattle.pawk_world.specs.Sums.{arith_by};
 ghost use Rattle.pawk_world.specs.Sums as spec;
@@ -15,28 +15,17 @@ ghost use Rattle.pawk_meaning.specs.Places.{read_at, variable_aim, write_at};
 ghost use Rattle.pawk_places.specs.Moments.{aim_view, hold_of, moment, table_view};
 ghost use Rattle.pawk_places.specs.Yields.{Yields};
 
+use crate::reading::read_place;
+use crate::run::{Parameter, Run, give_back, take_buffer};
+use crate::target::{Table, Target, variable_target};
+use crate::writing::{put_text, write_place};
 use itoa::Buffer;
 use pawk_builtins::{Expression, Values, format_values, same_truth};
-use pawk_code::expression::{Expr, Format, Pattern, Place};
+use pawk_code::expression::Format;
 use pawk_code::name::Variable;
 use pawk_code::word::{Count, Sign};
-use pawk_places::{
-    Parameter, Run, Table, Target, give_back, put_text, read_place, take_buffer, variable_target,
-    write_place,
-};
 use pawk_value::{Fault, Op, Value, ValueRef, arith, lend_held, text_in};
 use pawk_world::{Halt, World};
-
-/// The operands of `sub` and `gsub`.
-#[derive(Clone, Copy)]
-pub struct Replacement<'e> {
-    pub count: Count,
-    pub pattern: &'e Pattern,
-    /// What stands for a match.
-    pub text: &'e Expr,
-    /// Where the text stands in which matches are replaced.
-    pub place: &'e Place,
-}
 
 /// The operation of a sign.
 pub fn sign_op(sign: Sign) -> Op
@@ -144,6 +133,7 @@ pub fn matches_field<W: World>(
     world: &W,
     run: &mut Run<'_>,
 ) -> Result<bool, Halt>
+    ensures same { moment (W.state world.now) run.new ≡ moment (W.state world.now) run.old }
     ensures left { run.new.left ≤ run.old.left }
     ensures outcome { Yields (λ holds. holds)
         (bind (as_text [] (value_of_leaf W.calls (field n))) (λ s.

@@ -10,7 +10,7 @@ use Rattle.pawk_builtins.specs.Replaces.{Left}
 use Rattle.pawk_builtins.specs.ExpressionViews.{expression_of}
 use Rattle.pawk_places.specs.Moments.{aim_view, moment}
 use Rattle.pawk_places.specs.Yields.{Yields}
-use Rattle.pawk_eval.proofs.operations.substitute.Goals as goal
+use Rattle.pawk_places.proofs.operations.substitute.Goals as goal
 
 -- what is put for a text and a count is put for what was replaced
 put_for : {S : Type 0} (meant : Result Replaced Fault) (text : List ℕ) (count : ℕ) (put : Replaced → Part S ℤ) (m m' : Moment S) (result : Result ℤ Code) → Left text count meant → ((r : Replaced) → r.count ≡ count → (0 < count → r.text ≡ text) → Yields (λ (n : ℤ). n) (put r m) result m') → Yields (λ (n : ℤ). n) (bind (settle meant) put m) result m'

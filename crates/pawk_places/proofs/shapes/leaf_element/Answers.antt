@@ -1,7 +1,7 @@
 use Rattle.std.proofs.Common.{ap, ◌∙◌}
 use Rattle.pawk_code.specs.Expressions.{to_element}
-use Rattle.pawk_eval.proofs.Shapes.{element_shape}
-use Rattle.pawk_eval.proofs.places.leaf_element.Goals as goal
+use Rattle.pawk_places.proofs.ElementShapes.{element_shape}
+use Rattle.pawk_places.proofs.shapes.leaf_element.Goals as goal
 
 pub returns : goal.returns
 returns c =
