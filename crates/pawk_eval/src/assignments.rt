@@ -193,28 +193,6 @@ pub(crate) fn tally_element<W: World>(
         let key = numeric(context, depth, n, world, run)?;
         return add_to_number(sign, table_of(&run.frame, array), key, Ok(1), world, run);
     }
-    tally_at_key(context, depth, sign, array, keys, world, run)
-}
-
-/// Adds 1 to an element whose key is laid down first, or takes it away.
-#[cycle(evaluate)]
-#[inline(always)]
-pub(crate) fn tally_at_key<W: World>(
-    context: Context<'_>,
-    depth: u64,
-    sign: Sign,
-    array: Array,
-    keys: &[Expr],
-    world: &mut W,
-    run: &mut Run<'_>,
-) -> Result<(), Halt>
-    ensures left { run.new.left ≤ run.old.left }
-    ensures outcome { Yields (λ _. tt)
-        (bind (subscripts W.calls (eres_of context.entry) (enter_of W.calls context.entry depth)
-        (exprs (views keys.now)))
-        (λ key m. add_at W.calls sign (element_of (array_at m.frame array) key) (Ok (pos 1)) m)
-        (moment (W.state world.old) run.old)) result (moment (W.state world.new) run.new) }
-{
     let key = key(context, depth, keys, world, run)?;
     add_to_key(sign, table_of(&run.frame, array), &key, Ok(1), world, run)?;
     give_back(&mut run.spare, key);

@@ -4,7 +4,7 @@
 
 ghost use Rattle.std.specs.Prelude.{◌≤◌};
 ghost use Rattle.pawk_code.specs.ExpressionViews.{view};
-ghost use Rattle.pawk_code.specs.StatementViews.{head_view, seen};
+ghost use Rattle.pawk_code.specs.StatementViews.{seen};
 ghost use Rattle.pawk_code.specs.Statements as actions;
 ghost use Rattle.pawk_meaning.specs.Meaning.{
   act_or_none,
@@ -29,7 +29,7 @@ use crate::statements::{execute, perform};
 use pawk_array::Texts;
 use pawk_code::expression::Expr;
 use pawk_code::name::{Array, Variable};
-use pawk_code::statement::{Head, Simple, Statement};
+use pawk_code::statement::{Simple, Statement};
 use pawk_places::{Run, array_keys, set_key, table_of, tick};
 use pawk_value::Fault;
 use pawk_world::{Halt, World};
@@ -140,30 +140,6 @@ pub(crate) fn turns_after<W: World>(
         Some(end) => Ok(end),
         None => turns(context, depth, Some(test), None, body, world, run),
     }
-}
-
-/// Runs a loop with a head.
-///
-/// POSIX.1-2017, awk, "Actions" (`for`).
-#[cycle(evaluate)]
-pub(crate) fn count<W: World>(
-    context: Context<'_>,
-    depth: u64,
-    head: &Head,
-    body: &[Statement],
-    world: &mut W,
-    run: &mut Run<'_>,
-) -> Result<Flow, Halt>
-    ensures left { run.new.left ≤ run.old.left }
-    ensures outcome { Yields way_of
-        (exec W.calls (eres_of context.entry) (enter_of W.calls context.entry depth)
-        (actions.loop (head_view head.now) (seen body.now))
-        (moment (W.state world.old) run.old)) result (moment (W.state world.new) run.new) }
-{
-    perform_or_none(context, depth, head.first.as_ref(), world, run)?;
-    let test = head.test.as_ref();
-    let last = head.last.as_ref();
-    turns(context, depth, test, last, body, world, run)
 }
 
 /// Runs a body for each key that an array has when the loop begins.

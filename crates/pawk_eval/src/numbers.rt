@@ -21,7 +21,7 @@ ghost use Rattle.pawk_eval.specs.Contexts.{enter_of, eres_of, replacement_view};
 
 use crate::context::Context;
 use crate::expressions::{number, text};
-use crate::operands::{operand, separator};
+use crate::operands::operand;
 use crate::places::place;
 use crate::replacement::Replacement;
 use pawk_builtins::{Expression, step_side, step_sign};
@@ -273,16 +273,19 @@ pub(crate) fn split<W: World>(
         (codes.split (view e.now) array (fields_view by.now))
         (moment (W.state world.old) run.old)) result (moment (W.state world.new) run.new) }
 {
-    let text = text(context, depth, e, world, run)?;
-    let separator = separator(context, depth, by, world, run)?;
+    let subject = text(context, depth, e, world, run)?;
+    let separator = match by {
+        FieldsBy::Fs | FieldsBy::Fixed(_) => Vec::new(run.alloc),
+        FieldsBy::Value(e) => text(context, depth, e, world, run)?,
+    };
     let table = table_of(&run.frame, array);
     let by = Separator {
         eres: context.code.expressions.as_slice(),
         by,
         text: &separator,
     };
-    let count = split_into(table, by, &text, world, run)?;
-    give_back(&mut run.spare, text);
+    let count = split_into(table, by, &subject, world, run)?;
+    give_back(&mut run.spare, subject);
     give_back(&mut run.spare, separator);
     Ok(count)
 }

@@ -2,15 +2,8 @@
 
 ghost use Rattle.std.specs.Prelude.{◌≤◌};
 ghost use Rattle.pawk_code.specs.Expressions.{exprs};
-ghost use Rattle.pawk_code.specs.ExpressionViews.{fields_view, format_view, pattern_view, views};
-ghost use Rattle.pawk_builtins.specs.FormatViews.{format_text};
-ghost use Rattle.pawk_meaning.specs.Meaning.{
-  format_of,
-  operand_of,
-  separator_of,
-  texts_of,
-  values_of,
-};
+ghost use Rattle.pawk_code.specs.ExpressionViews.{pattern_view, views};
+ghost use Rattle.pawk_meaning.specs.Meaning.{operand_of, texts_of, values_of};
 ghost use Rattle.pawk_places.specs.Moments.{moment};
 ghost use Rattle.pawk_places.specs.Yields.{Yields};
 ghost use Rattle.pawk_eval.specs.Contexts.{enter_of, eres_of};
@@ -19,7 +12,7 @@ use crate::context::Context;
 use crate::expressions::{eval, text, text_into};
 use pawk_array::Texts;
 use pawk_builtins::Values;
-use pawk_code::expression::{Expr, FieldsBy, Format, Pattern};
+use pawk_code::expression::{Expr, Pattern};
 use pawk_places::Run;
 use pawk_world::{Halt, World};
 
@@ -91,48 +84,5 @@ pub(crate) fn operand<W: World>(
     match pattern {
         Pattern::Fixed(_) => Ok(Vec::new(run.alloc)),
         Pattern::Value(e) => text(context, depth, e, world, run),
-    }
-}
-
-/// The text of a separator, where it is a value.
-#[cycle(evaluate)]
-pub(crate) fn separator<W: World>(
-    context: Context<'_>,
-    depth: u64,
-    by: &FieldsBy,
-    world: &mut W,
-    run: &mut Run<'_>,
-) -> Result<Vec<u8>, Halt>
-    ensures left { run.new.left ≤ run.old.left }
-    ensures outcome { Yields (λ text. text.items)
-        (separator_of W.calls (eres_of context.entry) (enter_of W.calls context.entry depth)
-        (fields_view by.now)
-        (moment (W.state world.old) run.old)) result (moment (W.state world.new) run.new) }
-{
-    match by {
-        FieldsBy::Fs => Ok(Vec::new(run.alloc)),
-        FieldsBy::Fixed(_) => Ok(Vec::new(run.alloc)),
-        FieldsBy::Value(e) => text(context, depth, e, world, run),
-    }
-}
-
-/// The text of a format, where it is a value.
-#[cycle(evaluate)]
-pub(crate) fn format_operand<W: World>(
-    context: Context<'_>,
-    depth: u64,
-    format: &Format,
-    world: &mut W,
-    run: &mut Run<'_>,
-) -> Result<Vec<u8>, Halt>
-    ensures left { run.new.left ≤ run.old.left }
-    ensures outcome { Yields (λ text. format_text (format_view format.now) text.items)
-        (format_of W.calls (eres_of context.entry) (enter_of W.calls context.entry depth)
-        (format_view format.now)
-        (moment (W.state world.old) run.old)) result (moment (W.state world.new) run.new) }
-{
-    match format {
-        Format::Fixed(_) => Ok(Vec::new(run.alloc)),
-        Format::Value(e) => text(context, depth, e, world, run),
     }
 }

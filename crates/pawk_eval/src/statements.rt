@@ -6,7 +6,7 @@ ghost use Rattle.std.specs.Prelude.{◌≤◌, []};
 ghost use Rattle.pawk_code.specs.Expressions.{exprs};
 ghost use Rattle.pawk_code.specs.Expressions as codes;
 ghost use Rattle.pawk_code.specs.ExpressionViews.{format_view, view, views};
-ghost use Rattle.pawk_code.specs.StatementViews.{leave_view, seen, simple_view, stmt_view};
+ghost use Rattle.pawk_code.specs.StatementViews.{seen, simple_view, stmt_view};
 ghost use Rattle.pawk_code.specs.Statements as actions;
 ghost use Rattle.pawk_meaning.specs.Parts.{bind, give};
 ghost use Rattle.pawk_meaning.specs.Meaning.{
@@ -28,7 +28,7 @@ use crate::assignments::{add, set, tally};
 use crate::context::Context;
 use crate::expressions::{eval, number, text, truth, value};
 use crate::flow::Flow;
-use crate::loops::{count, turns, turns_after, walk};
+use crate::loops::{perform_or_none, turns, turns_after, walk};
 use crate::operands::texts;
 use crate::places::key;
 use crate::strings::formatted;
@@ -147,12 +147,28 @@ pub(crate) fn statement<W: World>(
             perform(context, depth, simple, world, run)?;
             Ok(Flow::On)
         }
-        Statement::Leave(leave) => go_out(context, depth, leave, world, run),
+        Statement::Leave(Leave::Break) => Ok(Flow::Break),
+        Statement::Leave(Leave::Continue) => Ok(Flow::Continue),
+        Statement::Leave(Leave::Next) => Err(Halt::Next),
+        Statement::Leave(Leave::NextFile) => Err(Halt::NextFile),
+        Statement::Leave(Leave::Exit(None)) => Err(Halt::Exit(run.state.status)),
+        Statement::Leave(Leave::Exit(Some(e))) => {
+            let status = number(context, depth, e, world, run)?;
+            Err(Halt::Exit(exit_status(status)?))
+        }
+        Statement::Leave(Leave::Return(None)) => Ok(Flow::Return(Value::Uninit)),
+        Statement::Leave(Leave::Return(Some(e))) => {
+            Ok(Flow::Return(value(context, depth, e, world, run)?))
+        }
         Statement::If(test, body) => choose(context, depth, test, body, &[], world, run),
         Statement::Choose(test, a, b) => choose(context, depth, test, a, b, world, run),
         Statement::While(test, body) => turns(context, depth, Some(test), None, body, world, run),
         Statement::Do(body, test) => turns_after(context, depth, body, test, world, run),
-        Statement::For(head, body) => count(context, depth, head, body, world, run),
+        Statement::For(head, body) => {
+            perform_or_none(context, depth, head.first.as_ref(), world, run)?;
+            let last = head.last.as_ref();
+            turns(context, depth, head.test.as_ref(), last, body, world, run)
+        }
         Statement::ForIn(variable, array, body) => {
             walk(context, depth, *variable, *array, body, world, run)
         }
@@ -313,39 +329,6 @@ pub(crate) fn printf<W: World>(
     print_bytes(&text, world, run)?;
     give_back(&mut run.spare, text);
     Ok(())
-}
-
-/// Runs a statement that leaves what it stands in.
-///
-/// POSIX.1-2017, awk, "Actions" and "User-Defined Functions".
-#[cycle(evaluate)]
-#[inline(always)]
-pub(crate) fn go_out<W: World>(
-    context: Context<'_>,
-    depth: u64,
-    leave: &Leave,
-    world: &mut W,
-    run: &mut Run<'_>,
-) -> Result<Flow, Halt>
-    ensures left { run.new.left ≤ run.old.left }
-    ensures outcome { Yields way_of
-        (leaves W.calls (eres_of context.entry) (enter_of W.calls context.entry depth)
-        (leave_view leave.now)
-        (moment (W.state world.old) run.old)) result (moment (W.state world.new) run.new) }
-{
-    match leave {
-        Leave::Break => Ok(Flow::Break),
-        Leave::Continue => Ok(Flow::Continue),
-        Leave::Next => Err(Halt::Next),
-        Leave::NextFile => Err(Halt::NextFile),
-        Leave::Exit(None) => Err(Halt::Exit(run.state.status)),
-        Leave::Exit(Some(e)) => {
-            let status = number(context, depth, e, world, run)?;
-            Err(Halt::Exit(exit_status(status)?))
-        }
-        Leave::Return(None) => Ok(Flow::Return(Value::Uninit)),
-        Leave::Return(Some(e)) => Ok(Flow::Return(value(context, depth, e, world, run)?)),
-    }
 }
 
 /// Runs the statements that a test chooses.

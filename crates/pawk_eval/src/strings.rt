@@ -14,7 +14,7 @@ ghost use Rattle.pawk_eval.specs.Contexts.{enter_of, eres_of};
 
 use crate::context::Context;
 use crate::expressions::{number, text, text_into};
-use crate::operands::{format_operand, values};
+use crate::operands::values;
 use pawk_builtins::{Values, both, push_letters, substring, suffix, within_limit};
 use pawk_code::expression::{Expr, Format, Textual};
 use pawk_places::{Run, fill_format, give_back, quick_text};
@@ -113,7 +113,10 @@ pub(crate) fn formatted<W: World>(
         (codes.formatted (format_view format.now) (exprs (views es.now)))
         (moment (W.state world.old) run.old)) result (moment (W.state world.new) run.new) }
 {
-    let text = format_operand(context, depth, format, world, run)?;
+    let text = match format {
+        Format::Fixed(_) => Vec::new(run.alloc),
+        Format::Value(e) => text(context, depth, e, world, run)?,
+    };
     let mut parts = Values::new(run.alloc);
     let mut scratch = Vec::new(run.alloc);
     values(context, depth, es, &mut parts, &mut scratch, world, run)?;

@@ -1,13 +1,13 @@
 use Rattle.std.proofs.Common.{◌≡◌, ◌≤◌, ℕ, ◌+◌, [], drop, take, length}
 use Rattle.pawk_code.specs.Expressions.{exprs, arguments}
 use Rattle.pawk_code.specs.ExpressionViews.{view, views, argument_view, argument_views, fields_view, format_view, function_view, numeric_view, pattern_view, place_view, test_view, textual_view}
-use Rattle.pawk_code.specs.StatementViews.{leave_view, head_view, seen, simple_view, stmt_view}
+use Rattle.pawk_code.specs.StatementViews.{seen, simple_view, stmt_view}
 use Rattle.pawk_meaning.specs.Meaning.{texts_of, values_of, arguments_of, suffixed, execs, turns, while_loop, visit_keys, act_or_none, test_or_true}
 use Rattle.pawk_meaning.specs.Places.{variable_aim}
 use Rattle.pawk_places.specs.Moments.{holds_of, moment}
 use Rattle.pawk_eval.specs.Contexts.{functions_of, eres_of, enter_of, last_view}
 use Rattle.pawk_eval.specs.Contexts as contexts
-use Rattle.pawk_eval.proofs.Weights.{rank, weight, row_weight, place_weight, numeric_weight, function_weight, test_weight, textual_weight, pattern_weight, separator_weight, format_weight, argument_weight, arguments_weight, simple_weight, option_weight, option_simple_weight, head_weight, leave_weight, statement_weight, body_weight}
+use Rattle.pawk_eval.proofs.Weights.{rank, weight, row_weight, place_weight, numeric_weight, function_weight, test_weight, textual_weight, pattern_weight, separator_weight, format_weight, argument_weight, arguments_weight, simple_weight, option_weight, option_simple_weight, statement_weight, body_weight}
 use Rattle.pawk_eval.proofs.+evaluate.Given as goal
 
 abbrev pub decreases-expressions::eval : goal.decreases-expressions::eval
@@ -142,12 +142,6 @@ decreases-operands::values g l = rank (functions_of l.context) l.depth (row_weig
 abbrev pub decreases-operands::operand : goal.decreases-operands::operand
 decreases-operands::operand g l = rank (functions_of l.context) l.depth (pattern_weight (pattern_view l.pattern.now))
 
-abbrev pub decreases-operands::separator : goal.decreases-operands::separator
-decreases-operands::separator g l = rank (functions_of l.context) l.depth (separator_weight (fields_view l.by.now))
-
-abbrev pub decreases-operands::format_operand : goal.decreases-operands::format_operand
-decreases-operands::format_operand g l = rank (functions_of l.context) l.depth (format_weight (format_view l.format.now))
-
 abbrev pub decreases-functions::call : goal.decreases-functions::call
 decreases-functions::call g l = rank (functions_of l.context) l.depth (0)
 
@@ -181,9 +175,6 @@ decreases-assignments::tally_elsewhere g l = rank (functions_of l.context) l.dep
 abbrev pub decreases-assignments::tally_element : goal.decreases-assignments::tally_element
 decreases-assignments::tally_element g l = rank (functions_of l.context) l.depth (row_weight (exprs (views l.keys.now)) + 3)
 
-abbrev pub decreases-assignments::tally_at_key : goal.decreases-assignments::tally_at_key
-decreases-assignments::tally_at_key g l = rank (functions_of l.context) l.depth (row_weight (exprs (views l.keys.now)) + 2)
-
 abbrev pub decreases-assignments::set_elsewhere : goal.decreases-assignments::set_elsewhere
 decreases-assignments::set_elsewhere g l = rank (functions_of l.context) l.depth (place_weight (place_view l.to.now) + weight (view l.e.now) + 1)
 
@@ -198,9 +189,6 @@ decreases-statements::print_values g l = rank (functions_of l.context) l.depth (
 
 abbrev pub decreases-statements::printf : goal.decreases-statements::printf
 decreases-statements::printf g l = rank (functions_of l.context) l.depth (format_weight (format_view l.format.now) + row_weight (exprs (views l.es.now)) + 2)
-
-abbrev pub decreases-statements::go_out : goal.decreases-statements::go_out
-decreases-statements::go_out g l = rank (functions_of l.context) l.depth (leave_weight (leave_view l.leave.now))
 
 abbrev pub decreases-statements::statement : goal.decreases-statements::statement
 decreases-statements::statement g l = rank (functions_of l.context) l.depth (statement_weight (stmt_view l.s.now))
@@ -222,9 +210,6 @@ decreases-loops::perform_or_none g l = rank (functions_of l.context) l.depth (op
 
 abbrev pub decreases-loops::turns_after : goal.decreases-loops::turns_after
 decreases-loops::turns_after g l = rank (functions_of l.context) l.depth (weight (view l.test.now) + body_weight (seen l.body.now) + 6)
-
-abbrev pub decreases-loops::count : goal.decreases-loops::count
-decreases-loops::count g l = rank (functions_of l.context) l.depth (head_weight (head_view l.head.now) + body_weight (seen l.body.now) + 2)
 
 abbrev pub decreases-loops::walk : goal.decreases-loops::walk
 decreases-loops::walk g l = rank (functions_of l.context) l.depth (body_weight (seen l.body.now) + 2)
