@@ -6,11 +6,12 @@ use Rattle.pawk_world.specs.Worlds.{Calls}
 use Rattle.pawk_store.specs.RecordStates.{RecordState}
 use Rattle.pawk_code.specs.declared.expression.Expr.{Expr}
 use Rattle.pawk_code.specs.declared.expression.Argument.{Argument}
+use Rattle.pawk_code.specs.declared.expression.Argument as code_argument
 use Rattle.pawk_code.specs.declared.statement.Statement.{Statement}
 use Rattle.pawk_code.specs.Expressions.{exprs, arguments}
 use Rattle.pawk_code.specs.ExpressionViews.{view, views, argument_view, argument_views}
 use Rattle.pawk_code.specs.StatementViews.{seen, stmt_view}
-use Rattle.pawk_meaning.specs.Parts.{Hold, Moment, halts, Part, then_do, as_text}
+use Rattle.pawk_meaning.specs.Parts.{Hold, value, Moment, halts, Part, give, then_do, as_text}
 use Rattle.pawk_meaning.specs.Meaning.{eval, texts_of, values_of, argument_of, arguments_of}
 use Rattle.pawk_eval.proofs.Behind.{text_halts}
 use Rattle.pawk_eval.proofs.Weights.{weight, row_weight, argument_weight, arguments_weight, statement_weight, body_weight}
@@ -48,6 +49,11 @@ module _ {S : Type 0} (calls : Calls S) (eres : List (List ℕ)) (enter : ℕ �
   value_in_row_halts es i e front m x s st t lt is h =
       ap (λ xs. values_of calls eres enter (exprs (views xs)) front m) (drop-cons es i e lt ∙ ap (λ y. y ∷ drop (suc i) es) (sym is))
       ∙ ap (λ o. then_do o (λ v. values_of calls eres enter (exprs (views (drop (suc i) es))) (front ++ v ∷ []))) h
+
+  -- an argument whose value halts
+  pub value_argument_halts : (a : Argument) (e : Expr) (m : Moment S) (x : Halt) (s : S) (st : RecordState) (t : List ℕ) → a ≡ code_argument.Value e → eval calls eres enter (view e) m ≡ halts x s st t → argument_of calls eres enter (argument_view a) m ≡ halts x s st t
+  value_argument_halts a e m x s st t is h =
+      ap (λ b. argument_of calls eres enter (argument_view b) m) is ∙ ap (λ o. then_do o (λ v. give (value v))) h
 
   -- an argument that halts
   pub argument_in_row_halts : (as' : List Argument) (i : ℕ) (a : Argument) (front : List Hold) (m : Moment S) (x : Halt) (s : S) (st : RecordState) (t : List ℕ) → i < length as' → a ≡ get_or as' i a → argument_of calls eres enter (argument_view a) m ≡ halts x s st t → arguments_of calls eres enter (arguments (argument_views (drop i as'))) front m ≡ halts x s st t

@@ -6,9 +6,8 @@ ghost use Rattle.std.specs.Prelude.{◌≤◌, Ok, pos};
 ghost use Rattle.pawk_code.specs.Expressions.{exprs};
 ghost use Rattle.pawk_code.specs.ExpressionViews.{place_view, view, views};
 ghost use Rattle.pawk_code.specs.Statements as actions;
-ghost use Rattle.pawk_meaning.specs.Parts.{as_number, bind};
+ghost use Rattle.pawk_meaning.specs.Parts.{bind};
 ghost use Rattle.pawk_meaning.specs.Meaning.{act, aim_of, subscripts};
-ghost use Rattle.pawk_meaning.specs.Meaning as spec;
 ghost use Rattle.pawk_meaning.specs.Places.{add_at, array_at, element_of};
 ghost use Rattle.pawk_places.specs.Moments.{moment};
 ghost use Rattle.pawk_places.specs.Yields.{Yields};
@@ -56,9 +55,6 @@ pub(crate) fn add<W: World>(
             return add_leaf_at_field(sign, table_of(&run.frame, array), n, amount, world, run);
         }
     }
-    if let Place::Element(array, keys) = to {
-        return add_element(context, depth, sign, *array, keys, e, world, run);
-    }
     add_elsewhere(context, depth, sign, to, e, world, run)
 }
 
@@ -84,35 +80,6 @@ pub(crate) fn add_elsewhere<W: World>(
     let amount = number(context, depth, e, world, run)?;
     add_to_place(sign, &target, amount, world, run)?;
     give_back_target(&mut run.spare, target);
-    Ok(())
-}
-
-/// Adds the number of an expression to an element of an array, or takes it away.
-#[cycle(evaluate)]
-pub(crate) fn add_element<W: World>(
-    context: Context<'_>,
-    depth: u64,
-    sign: Sign,
-    array: Array,
-    keys: &[Expr],
-    e: &Expr,
-    world: &mut W,
-    run: &mut Run<'_>,
-) -> Result<(), Halt>
-    ensures left { run.new.left ≤ run.old.left }
-    ensures outcome { Yields (λ _. tt)
-        (bind (subscripts W.calls (eres_of context.entry) (enter_of W.calls context.entry depth)
-        (exprs (views keys.now)))
-        (λ key m. bind (as_number (spec.eval W.calls (eres_of context.entry)
-        (enter_of W.calls context.entry depth) (view e.now)))
-        (add_at W.calls sign (element_of (array_at m.frame array) key)) m)
-        (moment (W.state world.old) run.old)) result (moment (W.state world.new) run.new) }
-{
-    let key = key(context, depth, keys, world, run)?;
-    let table = table_of(&run.frame, array);
-    let amount = number(context, depth, e, world, run)?;
-    add_to_key(sign, table, &key, amount, world, run)?;
-    give_back(&mut run.spare, key);
     Ok(())
 }
 

@@ -5,11 +5,11 @@
 ghost use Rattle.std.specs.Prelude.{◌≤◌, []};
 ghost use Rattle.pawk_value.specs.Value.{shown};
 ghost use Rattle.pawk_code.specs.Expressions as codes;
-ghost use Rattle.pawk_code.specs.ExpressionViews.{argument_view, argument_views};
+ghost use Rattle.pawk_code.specs.ExpressionViews.{argument_views};
 ghost use Rattle.pawk_code.specs.StatementViews.{seen};
 ghost use Rattle.pawk_meaning.specs.Parts.{bind, give};
-ghost use Rattle.pawk_meaning.specs.Meaning.{argument_of, arguments_of, execs, value_of_way};
-ghost use Rattle.pawk_places.specs.Moments.{hold_of, holds_of, moment};
+ghost use Rattle.pawk_meaning.specs.Meaning.{arguments_of, execs, value_of_way};
+ghost use Rattle.pawk_places.specs.Moments.{holds_of, moment};
 ghost use Rattle.pawk_places.specs.Yields.{Yields};
 ghost use Rattle.pawk_eval.specs.Contexts.{enter_of, eres_of};
 
@@ -44,32 +44,13 @@ pub(crate) fn pass<W: World>(
 {
     let mut values = take_frame(run.alloc, &mut run.frames);
     for argument in arguments {
-        let value = parameter(context, depth, argument, world, run)?;
+        let value = match argument {
+            Argument::Value(e) => Parameter::Value(value(context, depth, e, world, run)?),
+            Argument::Array(array) => array_parameter(table_of(&run.frame, *array)),
+        };
         values.push(value)?;
     }
     Ok(values)
-}
-
-/// What an argument gives to its parameter: a value, or an array by reference.
-#[cycle(evaluate)]
-#[inline(always)]
-pub(crate) fn parameter<W: World>(
-    context: Context<'_>,
-    depth: u64,
-    argument: &Argument,
-    world: &mut W,
-    run: &mut Run<'_>,
-) -> Result<Parameter, Halt>
-    ensures left { run.new.left ≤ run.old.left }
-    ensures outcome { Yields hold_of
-        (argument_of W.calls (eres_of context.entry) (enter_of W.calls context.entry depth)
-        (argument_view argument.now)
-        (moment (W.state world.old) run.old)) result (moment (W.state world.new) run.new) }
-{
-    match argument {
-        Argument::Value(e) => Ok(Parameter::Value(value(context, depth, e, world, run)?)),
-        Argument::Array(array) => Ok(array_parameter(table_of(&run.frame, *array))),
-    }
 }
 
 /// Calls a function, where so many calls more may be nested: its value.

@@ -3,12 +3,9 @@
 //! POSIX.1-2017, awk, "Actions".
 
 ghost use Rattle.std.specs.Prelude.{◌≤◌};
-ghost use Rattle.pawk_code.specs.ExpressionViews.{view};
 ghost use Rattle.pawk_code.specs.StatementViews.{seen};
-ghost use Rattle.pawk_code.specs.Statements as actions;
 ghost use Rattle.pawk_meaning.specs.Meaning.{
   act_or_none,
-  exec,
   execs,
   for_keys,
   test_or_true,
@@ -70,7 +67,9 @@ pub(crate) fn turns<W: World>(
         if let Some(end) = flow.loop_end() {
             return Ok(end);
         }
-        perform_or_none(context, depth, last, world, run)?;
+        if let Some(last) = last {
+            perform(context, depth, last, world, run)?;
+        }
     }
 }
 
@@ -92,53 +91,6 @@ pub(crate) fn truth_or_true<W: World>(
     match test {
         None => Ok(Ok(true)),
         Some(e) => truth(context, depth, e, world, run),
-    }
-}
-
-/// Runs a statement that may be missing.
-#[cycle(evaluate)]
-#[inline(always)]
-pub(crate) fn perform_or_none<W: World>(
-    context: Context<'_>,
-    depth: u64,
-    s: Option<&Simple>,
-    world: &mut W,
-    run: &mut Run<'_>,
-) -> Result<(), Halt>
-    ensures left { run.new.left ≤ run.old.left }
-    ensures outcome { Yields (λ _. tt)
-        (act_or_none W.calls (eres_of context.entry) (enter_of W.calls context.entry depth)
-        (last_view s.entry)
-        (moment (W.state world.old) run.old)) result (moment (W.state world.new) run.new) }
-{
-    match s {
-        None => Ok(()),
-        Some(s) => perform(context, depth, s, world, run),
-    }
-}
-
-/// Runs a body, and again while a test holds.
-///
-/// POSIX.1-2017, awk, "Actions" (`do`).
-#[cycle(evaluate)]
-pub(crate) fn turns_after<W: World>(
-    context: Context<'_>,
-    depth: u64,
-    body: &[Statement],
-    test: &Expr,
-    world: &mut W,
-    run: &mut Run<'_>,
-) -> Result<Flow, Halt>
-    ensures left { run.new.left ≤ run.old.left }
-    ensures outcome { Yields way_of
-        (exec W.calls (eres_of context.entry) (enter_of W.calls context.entry depth)
-        (actions.do_while (seen body.now) (view test.now))
-        (moment (W.state world.old) run.old)) result (moment (W.state world.new) run.new) }
-{
-    let flow = execute(context, depth, body, world, run)?;
-    match flow.loop_end() {
-        Some(end) => Ok(end),
-        None => turns(context, depth, Some(test), None, body, world, run),
     }
 }
 

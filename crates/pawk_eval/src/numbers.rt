@@ -190,7 +190,10 @@ pub(crate) fn step_by<W: World>(
     Ok(step_side(step, numbers.0, numbers.1))
 }
 
-/// The number that a built-in function of values gives.
+/// The number that a built-in function of values gives. Nothing is copied where `length` has a leaf, and
+/// where `index` has two.
+///
+/// POSIX.1-2017, awk, "Arithmetic Functions" and "String Functions".
 #[cycle(evaluate)]
 pub(crate) fn function<W: World>(
     context: Context<'_>,
@@ -215,43 +218,24 @@ pub(crate) fn function<W: World>(
             give_back(&mut run.spare, text);
             Ok(length)
         }
-        NumericFunction::Index(e, sought) => place_of(context, depth, e, sought, world, run),
+        NumericFunction::Index(e, sought) => {
+            if let Expr::Leaf(x) = &**e {
+                if let Expr::Leaf(y) = &**sought {
+                    return place_in_leaf(x, y, world, run);
+                }
+            }
+            let text_e = text(context, depth, e, world, run)?;
+            let text_sought = text(context, depth, sought, world, run)?;
+            let place = place_in(&text_e, &text_sought);
+            give_back(&mut run.spare, text_e);
+            give_back(&mut run.spare, text_sought);
+            Ok(place)
+        }
         NumericFunction::Whole(e) => {
             let whole = number(context, depth, e, world, run)?;
             Ok(whole?)
         }
     }
-}
-
-/// The place where one text first stands in another. Nothing of two leaves is copied.
-///
-/// POSIX.1-2017, awk, "String Functions" (`index`).
-#[cycle(evaluate)]
-pub(crate) fn place_of<W: World>(
-    context: Context<'_>,
-    depth: u64,
-    e: &Expr,
-    sought: &Expr,
-    world: &mut W,
-    run: &mut Run<'_>,
-) -> Result<i64, Halt>
-    ensures left { run.new.left ≤ run.old.left }
-    ensures outcome { Yields (λ number. number)
-        (function_of W.calls (eres_of context.entry) (enter_of W.calls context.entry depth)
-        (codes.index_of (view e.now) (view sought.now))
-        (moment (W.state world.old) run.old)) result (moment (W.state world.new) run.new) }
-{
-    if let Expr::Leaf(x) = e {
-        if let Expr::Leaf(y) = sought {
-            return place_in_leaf(x, y, world, run);
-        }
-    }
-    let text_e = text(context, depth, e, world, run)?;
-    let text_sought = text(context, depth, sought, world, run)?;
-    let place = place_in(&text_e, &text_sought);
-    give_back(&mut run.spare, text_e);
-    give_back(&mut run.spare, text_sought);
-    Ok(place)
 }
 
 /// Splits a text into an array, and gives how many pieces there are.

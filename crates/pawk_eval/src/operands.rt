@@ -1,4 +1,4 @@
-//! Operands in rows, and those that may be fixed.
+//! Operands in rows, and the text of a pattern.
 
 ghost use Rattle.std.specs.Prelude.{◌≤◌};
 ghost use Rattle.pawk_code.specs.Expressions.{exprs};

@@ -28,7 +28,7 @@ use crate::assignments::{add, set, tally};
 use crate::context::Context;
 use crate::expressions::{eval, number, text, truth, value};
 use crate::flow::Flow;
-use crate::loops::{perform_or_none, turns, turns_after, walk};
+use crate::loops::{turns, walk};
 use crate::operands::texts;
 use crate::places::key;
 use crate::strings::formatted;
@@ -115,14 +115,14 @@ pub fn run_body<W: World>(
         (seen body.now)) (λ _. give (tt {0}))
         (moment (W.state world.old) run.old)) result (moment (W.state world.new) run.new) }
 {
-    let mut done = 0;
-    while done < body.len() {
-        let Statement::Simple(simple) = &body[done] else {
-            return run_rest(context, depth, &body[done..], world, run);
+    let mut next = 0;
+    while next < body.len() {
+        let Statement::Simple(simple) = &body[next] else {
+            return run_rest(context, depth, &body[next..], world, run);
         };
         tick(world, run)?;
         perform(context, depth, simple, world, run)?;
-        done += 1;
+        next += 1;
     }
     Ok(())
 }
@@ -163,9 +163,17 @@ pub(crate) fn statement<W: World>(
         Statement::If(test, body) => choose(context, depth, test, body, &[], world, run),
         Statement::Choose(test, a, b) => choose(context, depth, test, a, b, world, run),
         Statement::While(test, body) => turns(context, depth, Some(test), None, body, world, run),
-        Statement::Do(body, test) => turns_after(context, depth, body, test, world, run),
+        Statement::Do(body, test) => {
+            let flow = execute(context, depth, body, world, run)?;
+            match flow.loop_end() {
+                Some(end) => Ok(end),
+                None => turns(context, depth, Some(test), None, body, world, run),
+            }
+        }
         Statement::For(head, body) => {
-            perform_or_none(context, depth, head.first.as_ref(), world, run)?;
+            if let Some(first) = &head.first {
+                perform(context, depth, first, world, run)?;
+            }
             let last = head.last.as_ref();
             turns(context, depth, head.test.as_ref(), last, body, world, run)
         }
@@ -268,12 +276,11 @@ pub(crate) fn print<W: World>(
         (exprs (views es.now)) []) (spec.print_line W.calls)
         (moment (W.state world.old) run.old)) result (moment (W.state world.new) run.new) }
 {
-    if !are_plain(es) {
-        return print_values(context, depth, es, world, run);
-    }
-    let printed = print_plain(es, world, run)?;
-    if printed {
-        return Ok(());
+    if are_plain(es) {
+        let printed = print_plain(es, world, run)?;
+        if printed {
+            return Ok(());
+        }
     }
     print_values(context, depth, es, world, run)
 }

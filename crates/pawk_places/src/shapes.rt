@@ -1,4 +1,4 @@
-//! Expressions and places that are seen at once to be of some form.
+//! Places that are seen at once to be of some form.
 //!
 //! POSIX.1-2017, awk, "Variables and Special Variables".
 

@@ -8,7 +8,7 @@ use Rattle.pawk_code.specs.ExpressionViews.{view, views, argument_view, argument
 use Rattle.pawk_code.specs.StatementViews.{seen, simple_view, stmt_view}
 use Rattle.pawk_code.specs.ProgramViews.{function_view}
 use Rattle.pawk_meaning.specs.Builtins.{within_limit}
-use Rattle.pawk_meaning.specs.Parts.{halts, then_do, Entry, entry_of, settle}
+use Rattle.pawk_meaning.specs.Parts.{gives, halts, then_do, Entry, entry_of, settle}
 use Rattle.pawk_meaning.specs.Meaning.{eval, execs, texts_of, values_of, arguments_of, suffixed, while_loop, visit_keys, test_or_true, act_or_none}
 use Rattle.pawk_meaning.specs.Places.{variable_aim}
 use Rattle.pawk_places.specs.declared.run.Parameter.{Parameter}
@@ -18,7 +18,7 @@ use Rattle.pawk_eval.specs.Contexts as contexts
 use Rattle.pawk_eval.proofs.Behind.{operand_next, operand_halts, text_behind}
 use Rattle.pawk_eval.proofs.Bodies.{simple_next}
 use Rattle.pawk_eval.proofs.Calls.{call_no_step, call_too_deep, call_nothing, call_runs}
-use Rattle.pawk_eval.proofs.Rows.{expr_in_row, argument_in_row, statement_in_body, keys_left, text_in_row_halts, value_in_row_halts, argument_in_row_halts}
+use Rattle.pawk_eval.proofs.Rows.{expr_in_row, argument_in_row, statement_in_body, keys_left, text_in_row_halts, value_in_row_halts, argument_in_row_halts, value_argument_halts}
 use Rattle.pawk_places.proofs.ElementShapes.{element_shape}
 use Rattle.pawk_eval.proofs.Shapes.{call_shape, member_shape, join_shape, format_shape, simple_shape, if_shape, choose_shape, do_shape}
 use Rattle.pawk_eval.proofs.Turns.{turn_is, turn_no_step}
@@ -103,17 +103,6 @@ places::place-returns-in_ok-key-in-Element-clause-outcome g t c =
     let is = element_shape c.args.p.now c.in-Element.array c.in-Element.keys c.deref.result.now c.in-Element.is c.deref.ensures.value in
     rw (is, c.in_ok-key-in-Element.ensures.outcome) (grind (arith, common_steps))
 
-pub assignments::add-add_element-requires : goal.assignments::add-add_element-requires
-assignments::add-add_element-requires g t c =
-    let is = element_shape c.args.to.now c.in-Element.array c.in-Element.keys c.deref-in-Element.result.now c.in-Element.is c.deref-in-Element.ensures.value in
-    let falls : row_weight (exprs (views c.deref-in-Element.result.now)) + weight (view c.args.e.now) + 4 < place_weight (place_view c.args.to.now) + weight (view c.args.e.now) + 4 = rw is (omega arith) in
-    search rules
-
-pub assignments::add-returns-in-Element-clause-outcome : goal.assignments::add-returns-in-Element-clause-outcome
-assignments::add-returns-in-Element-clause-outcome g t c =
-    let is = element_shape c.args.to.now c.in-Element.array c.in-Element.keys c.deref-in-Element.result.now c.in-Element.is c.deref-in-Element.ensures.value in
-    rw is (grind (arith, common_steps))
-
 pub assignments::tally-tally_element-requires : goal.assignments::tally-tally_element-requires
 assignments::tally-tally_element-requires g t c =
     let is = element_shape c.args.to.now c.in-Element.array c.in-Element.keys c.deref-in-Element.result.now c.in-Element.is c.deref-in-Element.ensures.value in
@@ -178,16 +167,21 @@ statements::statement-returns-in-Choose-clause-outcome g t c =
     let is = choose_shape c.args.s.now c.in-Choose.test c.in-Choose.a c.in-Choose.b c.deref-in-Choose.result.now c.deref-in-Choose-2.result.now c.in-Choose.is c.deref-in-Choose.ensures.value c.deref-in-Choose-2.ensures.value in
     rw is c.choose-in-Choose.ensures.outcome
 
-pub statements::statement-returns-in-Do-clause-outcome : goal.statements::statement-returns-in-Do-clause-outcome
-statements::statement-returns-in-Do-clause-outcome g t c =
+pub statements::statement-execute-requires : goal.statements::statement-execute-requires
+statements::statement-execute-requires g t c =
     let is = do_shape c.args.s.now c.in-Do.body c.in-Do.test c.deref-in-Do.result.now c.in-Do.is c.deref-in-Do.ensures.value in
-    rw is c.turns_after.ensures.outcome
+    let falls : body_weight (seen c.deref-in-Do.result.now) < statement_weight (stmt_view c.args.s.now) = rw is (omega arith) in
+    search rules
 
 -- ---- elements of rows
 
-pub functions::pass-parameter-requires : goal.functions::pass-parameter-requires
-functions::pass-parameter-requires g t c =
-    let w = argument_in_row c.args.arguments.now c.loop-argument.argument-index c.argument-item.result c.loop-argument-test.true in let d = ap (λ a. argument_weight (argument_view a)) c.argument-item.is in search rules
+pub functions::pass-value-requires : goal.functions::pass-value-requires
+functions::pass-value-requires g t c =
+    let w = argument_in_row c.args.arguments.now c.loop-argument.argument-index c.argument-item.result c.loop-argument-test.true in
+    let d = ap (λ a. argument_weight (argument_view a)) c.argument-item.is in
+    let is = ap (λ a. argument_weight (argument_view a)) c.in-Value.is in
+    let falls : weight (view c.in-Value.e) + 2 < arguments_weight (arguments (argument_views c.args.arguments.now)) = omega (arith, w, d, is) in
+    search rules
 
 pub operands::texts-text_into-requires : goal.operands::texts-text_into-requires
 operands::texts-text_into-requires g t c =
@@ -229,11 +223,12 @@ statements::execute-loop-s-preserved-in-Simple g t c =
     let rest : execs g.W.World.calls eres enter (seen c.args.body.now) (moment (g.W.World.state c.args.world.now) c.args.run.now) ≡ execs g.W.World.calls eres enter (seen (drop (suc c.loop-s.s-index) c.args.body.now)) (moment (g.W.World.state c.perform.new.world) c.perform.new.run) = sym c.loop-s.invariant.0 ∙ next ∙ rw c.in_ok-perform.ensures.outcome refl in
     (rw add-one (sym rest), omega arith)
 
-pub functions::pass-returns-in_err-value-clause-outcome : goal.functions::pass-returns-in_err-value-clause-outcome
-functions::pass-returns-in_err-value-clause-outcome g t c =
+pub functions::pass-returns-in_err-value-in-Value-clause-outcome : goal.functions::pass-returns-in_err-value-in-Value-clause-outcome
+functions::pass-returns-in_err-value-in-Value-clause-outcome g t c =
     let eres = eres_of c.args.context in
     let enter = enter_of g.W.World.calls c.args.context c.args.depth in
-    let stops : (h : Halt) → halt_of c.in_err-value.field-0.0 ≡ Some h → arguments_of g.W.World.calls eres enter (arguments (argument_views c.args.arguments.now)) [] (moment (g.W.World.state c.args.world.now) c.args.run.now) ≡ halts h (g.W.World.state c.parameter.new.world) (state_of c.parameter.new.run.state) c.parameter.new.run.output.items = λ h is. sym c.loop-argument.invariant.0 ∙ argument_in_row_halts g.W.World.calls eres enter c.args.arguments.now c.loop-argument.argument-index c.argument-item.result (holds_of c.loop-argument.values.items) (moment (g.W.World.state c.loop-argument.world) c.loop-argument.run) h _ _ _ c.loop-argument-test.true c.argument-item.is (c.in_err-value.ensures.outcome h is) in
+    let at = moment (g.W.World.state c.loop-argument.world) c.loop-argument.run in
+    let stops = λ (h : Halt) (is : halt_of c.in_err-value-in-Value.field-0.0 ≡ Some h). sym c.loop-argument.invariant.0 ∙ argument_in_row_halts g.W.World.calls eres enter c.args.arguments.now c.loop-argument.argument-index c.argument-item.result (holds_of c.loop-argument.values.items) at h _ _ _ c.loop-argument-test.true c.argument-item.is (value_argument_halts g.W.World.calls eres enter c.argument-item.result c.in-Value.e at h _ _ _ c.in-Value.is (c.in_err-value-in-Value.ensures.outcome h is)) in
     search rules
 
 pub operands::texts-returns-in_err-text_into-clause-outcome : goal.operands::texts-returns-in_err-text_into-clause-outcome
@@ -400,8 +395,8 @@ loops::turns-returns-in-Some-clause-outcome g t c =
     let whole = sym c.turns.invariant.0.2 ∙ turn.2 in
     rw (whole, c.in_ok-truth.ensures.outcome, c.in_ok-holds.was, c.if-not-holds.false, c.in_ok-flow.ensures.outcome, c.in-Some.ensures)
 
-pub loops::turns-returns-in_err-perform_or_none-clause-outcome : goal.loops::turns-returns-in_err-perform_or_none-clause-outcome
-loops::turns-returns-in_err-perform_or_none-clause-outcome g t c =
+pub loops::turns-returns-in_err-perform-clause-outcome : goal.loops::turns-returns-in_err-perform-clause-outcome
+loops::turns-returns-in_err-perform-clause-outcome g t c =
     let eres = eres_of c.args.context in
     let enter = enter_of g.W.World.calls c.args.context c.args.depth in
     let check = test_or_true g.W.World.calls eres enter (contexts.test_view c.args.test) in
@@ -409,7 +404,10 @@ loops::turns-returns-in_err-perform_or_none-clause-outcome g t c =
     let last = act_or_none g.W.World.calls eres enter (last_view c.args.last) in
     let turn = turn_is c.turns.invariant.0.0 check body last (moment (g.W.World.state c.turns.world) c.turns.run) _ c.turns.invariant.0.1 c.in_ok-tick.ensures.outcome in
     let whole = sym c.turns.invariant.0.2 ∙ turn.2 in
-    let stops : (h : Halt) → halt_of c.in_err-perform_or_none.field-0.0 ≡ Some h → while_loop check body last (moment (g.W.World.state c.args.world.now) c.args.run.now) ≡ halts h (g.W.World.state c.perform_or_none.new.world) (state_of c.perform_or_none.new.run.state) c.perform_or_none.new.run.output.items = λ h is. rw (whole, c.in_ok-truth.ensures.outcome, c.in_ok-holds.was, c.if-not-holds.false, c.in_ok-flow.ensures.outcome, c.in_default.ensures, c.in_err-perform_or_none.ensures.outcome h is) in
+    let stops : (h : Halt) → halt_of c.in_err-perform.field-0.0 ≡ Some h → while_loop check body last (moment (g.W.World.state c.args.world.now) c.args.run.now) ≡ halts h (g.W.World.state c.perform.new.world) (state_of c.perform.new.run.state) c.perform.new.run.output.items = λ h is.
+    let acted = c.in_err-perform.ensures.outcome h is in
+    let stopped : last (moment (g.W.World.state c.execute.new.world) c.execute.new.run) ≡ halts h (g.W.World.state c.perform.new.world) (state_of c.perform.new.run.state) c.perform.new.run.output.items = grind (arith, common_steps) in
+    rw (whole, c.in_ok-truth.ensures.outcome, c.in_ok-holds.was, c.if-not-holds.false, c.in_ok-flow.ensures.outcome, c.in_default.ensures, stopped) in
     search rules
 
 pub loops::turns-turns-preserved : goal.loops::turns-turns-preserved
@@ -421,8 +419,22 @@ loops::turns-turns-preserved g t c =
     let last = act_or_none g.W.World.calls eres enter (last_view c.args.last) in
     let turn = turn_is c.turns.invariant.0.0 check body last (moment (g.W.World.state c.turns.world) c.turns.run) _ c.turns.invariant.0.1 c.in_ok-tick.ensures.outcome in
     let whole = sym c.turns.invariant.0.2 ∙ turn.2 in
-    let few : c.perform_or_none.new.run.left ≤ turn.0 = omega (arith, c.in_ok-tick.ensures.less, turn.1, c.turns.invariant.0.1, c.in_ok-truth.ensures.left, c.in_ok-flow.ensures.left, c.in_ok-perform_or_none.ensures.left) in
-    ((turn.0, few, sym (rw (whole, c.in_ok-truth.ensures.outcome, c.in_ok-holds.was, c.if-not-holds.false, c.in_ok-flow.ensures.outcome, c.in_default.ensures, c.in_ok-perform_or_none.ensures.outcome))), omega arith)
+    let few : c.execute.new.run.left ≤ turn.0 = omega (arith, c.in_ok-tick.ensures.less, turn.1, c.turns.invariant.0.1, c.in_ok-truth.ensures.left, c.in_ok-flow.ensures.left) in
+    let nothing : last (moment (g.W.World.state c.execute.new.world) c.execute.new.run) ≡ gives tt (moment (g.W.World.state c.execute.new.world) c.execute.new.run) = grind (arith, common_steps) in
+    ((turn.0, few, sym (rw (whole, c.in_ok-truth.ensures.outcome, c.in_ok-holds.was, c.if-not-holds.false, c.in_ok-flow.ensures.outcome, c.in_default.ensures, nothing))), omega arith)
+
+pub loops::turns-turns-preserved-in-Continue-branch-5 : goal.loops::turns-turns-preserved-in-Continue-branch-5
+loops::turns-turns-preserved-in-Continue-branch-5 g t c =
+    let eres = eres_of c.args.context in
+    let enter = enter_of g.W.World.calls c.args.context c.args.depth in
+    let check = test_or_true g.W.World.calls eres enter (contexts.test_view c.args.test) in
+    let body = execs g.W.World.calls eres enter (seen c.args.body.now) in
+    let last = act_or_none g.W.World.calls eres enter (last_view c.args.last) in
+    let turn = turn_is c.turns.invariant.0.0 check body last (moment (g.W.World.state c.turns.world) c.turns.run) _ c.turns.invariant.0.1 c.in_ok-tick.ensures.outcome in
+    let whole = sym c.turns.invariant.0.2 ∙ turn.2 in
+    let few : c.perform.new.run.left ≤ turn.0 = omega (arith, c.in_ok-tick.ensures.less, turn.1, c.turns.invariant.0.1, c.in_ok-truth.ensures.left, c.in_ok-flow.ensures.left, c.in_ok-perform.ensures.left) in
+    let acted : last (moment (g.W.World.state c.execute.new.world) c.execute.new.run) ≡ gives tt (moment (g.W.World.state c.perform.new.world) c.perform.new.run) = grind (arith, common_steps) in
+    ((turn.0, few, sym (rw (whole, c.in_ok-truth.ensures.outcome, c.in_ok-holds.was, c.if-not-holds.false, c.in_ok-flow.ensures.outcome, c.in_default.ensures, acted))), omega arith)
 
 pub loops::visit-returns-in_err-tick-clause-outcome : goal.loops::visit-returns-in_err-tick-clause-outcome
 loops::visit-returns-in_err-tick-clause-outcome g t c =

@@ -73,9 +73,6 @@ decreases-numbers::change g l = rank (functions_of l.context) l.depth (place_wei
 abbrev pub decreases-numbers::step_by : goal.decreases-numbers::step_by
 decreases-numbers::step_by g l = rank (functions_of l.context) l.depth (place_weight (place_view l.to.now) + 1)
 
-abbrev pub decreases-numbers::place_of : goal.decreases-numbers::place_of
-decreases-numbers::place_of g l = rank (functions_of l.context) l.depth (weight (view l.e.now) + weight (view l.sought.now) + 4)
-
 abbrev pub decreases-conditions::holds : goal.decreases-conditions::holds
 decreases-conditions::holds g l = rank (functions_of l.context) l.depth (weight (view l.e.now) + 3)
 
@@ -114,9 +111,6 @@ decreases-operands::texts g l = rank (functions_of l.context) l.depth (row_weigh
 
 abbrev pub decreases-functions::pass : goal.decreases-functions::pass
 decreases-functions::pass g l = rank (functions_of l.context) l.depth (arguments_weight (arguments (argument_views l.arguments.now)))
-
-abbrev pub decreases-functions::parameter : goal.decreases-functions::parameter
-decreases-functions::parameter g l = rank (functions_of l.context) l.depth (argument_weight (argument_view l.argument.now))
 
 abbrev pub decreases-numbers::function : goal.decreases-numbers::function
 decreases-numbers::function g l = rank (functions_of l.context) l.depth (function_weight (function_view l.f.now))
@@ -163,9 +157,6 @@ decreases-assignments::add g l = rank (functions_of l.context) l.depth (place_we
 abbrev pub decreases-assignments::add_elsewhere : goal.decreases-assignments::add_elsewhere
 decreases-assignments::add_elsewhere g l = rank (functions_of l.context) l.depth (place_weight (place_view l.to.now) + weight (view l.e.now) + 3)
 
-abbrev pub decreases-assignments::add_element : goal.decreases-assignments::add_element
-decreases-assignments::add_element g l = rank (functions_of l.context) l.depth (row_weight (exprs (views l.keys.now)) + weight (view l.e.now) + 4)
-
 abbrev pub decreases-assignments::tally : goal.decreases-assignments::tally
 decreases-assignments::tally g l = rank (functions_of l.context) l.depth (place_weight (place_view l.to.now) + 2)
 
@@ -204,12 +195,6 @@ decreases-loops::turns g l = rank (functions_of l.context) l.depth (option_weigh
 
 abbrev pub decreases-loops::truth_or_true : goal.decreases-loops::truth_or_true
 decreases-loops::truth_or_true g l = rank (functions_of l.context) l.depth (option_weight (contexts.test_view l.test))
-
-abbrev pub decreases-loops::perform_or_none : goal.decreases-loops::perform_or_none
-decreases-loops::perform_or_none g l = rank (functions_of l.context) l.depth (option_simple_weight (last_view l.s))
-
-abbrev pub decreases-loops::turns_after : goal.decreases-loops::turns_after
-decreases-loops::turns_after g l = rank (functions_of l.context) l.depth (weight (view l.test.now) + body_weight (seen l.body.now) + 6)
 
 abbrev pub decreases-loops::walk : goal.decreases-loops::walk
 decreases-loops::walk g l = rank (functions_of l.context) l.depth (body_weight (seen l.body.now) + 2)

@@ -6,11 +6,11 @@ use Rattle.pawk_eval.specs.Contexts.{eres_of, enter_of}
 use Rattle.pawk_eval.proofs.statements.run_body.Given as goal
 
 -- the statements that are left do what all of them do
-abbrev pub invariant-loop-done : goal.invariant-loop-done
-invariant-loop-done g l =
+abbrev pub invariant-loop-next : goal.invariant-loop-next
+invariant-loop-next g l =
     let eres = eres_of l.context in
     let enter = enter_of g.W.World.calls l.context l.depth in
-    (execs g.W.World.calls eres enter (seen (drop l.done l.body)) (moment (g.W.World.state l.world) l.run) ≡ execs g.W.World.calls eres enter (seen l.body) (moment (g.W.World.state l.fn.world) l.fn.run)) × (l.run.left ≤ l.fn.run.left)
+    (execs g.W.World.calls eres enter (seen (drop l.next l.body)) (moment (g.W.World.state l.world) l.run) ≡ execs g.W.World.calls eres enter (seen l.body) (moment (g.W.World.state l.fn.world) l.fn.run)) × (l.run.left ≤ l.fn.run.left)
 
-abbrev pub decreases-loop-done : goal.decreases-loop-done
-decreases-loop-done g l = length l.body - l.done
+abbrev pub decreases-loop-next : goal.decreases-loop-next
+decreases-loop-next g l = length l.body - l.next
