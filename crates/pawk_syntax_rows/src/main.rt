@@ -1,90 +1,30 @@
-//! Reads program texts, one a row. A row's cells stand between tabs: what is asked, and then the parts of
-//! the text, each as how often it stands and its bytes, in which a backslash with three octal digits is
-//! the byte of that value.
+//! Reads rows from standard input, one a line, and answers each with a line. The first cell of a line is the topic, and what
+//! stands behind its tab is the row, which the module of that name describes:
 //!
-//! - `text`: the canonical text of the program, its bytes written in the same way; `again` is added
-//!   where that text is read as a program with another canonical text;
-//! - `size`: how many bytes the canonical text has.
+//! | topic | answer |
+//! |---|---|
+//! | `lex` | the tokens of a text, or why and where it is refused |
+//! | `syntax` | the canonical text of a program, or why and where it is refused |
 //!
-//! A text that is refused, or whose canonical text is, is answered with the number of the refusal, and
-//! its place.
+//! A line of another topic is answered with `no topic`.
 #![tactic(auto)]
 
-use pawk_rows::{answer_lines, cell, decode, number, push_decimal, push_encoded};
-use pawk_syntax::{SyntaxRefusal, parse, show};
+mod cells;
+mod lex;
+mod syntax;
+
+use cells::first_and_rest;
+use pawk_rows::answer_lines;
 use std::alloc::{AllocError, Global};
 use std::io;
 
-/// The text of a row.
-fn text(alloc: Global, row: &[u8]) -> Result<Vec<u8>, AllocError> {
-    let mut text = Vec::new(alloc);
-    let mut count = None;
-    for part in row.split(|byte| *byte == b'\t').skip(1) {
-        count = match count {
-            None => Some(number(part)),
-            Some(count) => {
-                push_repeated(alloc, part, count, &mut text)?;
-                None
-            }
-        };
-    }
-    Ok(text)
-}
-
-/// Adds the bytes of a cell, so often.
-fn push_repeated(
-    alloc: Global,
-    part: &[u8],
-    count: u64,
-    text: &mut Vec<u8>,
-) -> Result<(), AllocError> {
-    let bytes = decode(alloc, part)?;
-    for _ in 0..count {
-        text.extend_from_slice(bytes.as_slice())?;
-    }
-    Ok(())
-}
-
-/// The canonical text of a text, or its refusal.
-fn canonical(alloc: Global, text: &[u8]) -> Result<Vec<u8>, SyntaxRefusal> {
-    let program = parse(alloc, text)?;
-    Ok(show(alloc, &program)?)
-}
-
-/// Whether this text is its own canonical text.
-fn is_canonical(alloc: Global, text: &[u8]) -> Result<bool, SyntaxRefusal> {
-    Ok(canonical(alloc, text)?.as_slice() == text)
-}
-
-/// A canonical text as it is shown.
-fn shown(alloc: Global, asked: &[u8], text: &[u8]) -> Result<Vec<u8>, SyntaxRefusal> {
-    let mut out = Vec::new(alloc);
-    if asked == b"size".as_slice() {
-        push_decimal(text.len() as u64, &mut out)?;
-        return Ok(out);
-    }
-    push_encoded(text, &mut out)?;
-    if !is_canonical(alloc, text)? {
-        out.extend_from_slice(b" again")?;
-    }
-    Ok(out)
-}
-
-/// The canonical text of a row, as it is shown.
-fn canonical_of(alloc: Global, row: &[u8]) -> Result<Vec<u8>, SyntaxRefusal> {
-    let text = text(alloc, row)?;
-    let canonical = canonical(alloc, text.as_slice())?;
-    shown(alloc, cell(row, 0), canonical.as_slice())
-}
-
-/// The answer to a row.
-fn answer(alloc: Global, row: &[u8]) -> Result<Vec<u8>, AllocError> {
-    match canonical_of(alloc, row) {
-        Ok(line) => Ok(line),
-        Err(refusal) => {
-            let text = format!(in alloc; "{refusal}")?;
-            Vec::from_slice(alloc, text.as_str().as_bytes())
-        }
+/// The answer to a line.
+fn answer(alloc: Global, line: &[u8]) -> Result<Vec<u8>, AllocError> {
+    let (topic, row) = first_and_rest(line);
+    match topic {
+        b"lex" => lex::answer(alloc, row),
+        b"syntax" => syntax::answer(alloc, row),
+        _ => Vec::from_slice(alloc, b"no topic"),
     }
 }
 

@@ -1,5 +1,5 @@
-//! Prints the tokens of program texts, one text a row. A row has fields between tabs, the first of
-//! which says what is asked; in a text a backslash and three octal digits stand for a byte.
+//! The topic `lex`: the tokens of program texts, one text a row. A row has fields between tabs, the first
+//! of which says what is asked; in a text a backslash and three octal digits stand for a byte.
 //!
 //! - `text TEXT`: the lexer's tokens, each as `START-END:VALUE`, then what `next` answers at the end,
 //!   and in brackets what it answers when it is asked again;
@@ -8,16 +8,14 @@
 //!   again and again between the two others;
 //! - `word NAME`: whether the name is a variable of the language;
 //! - `memory`: how want of memory is told.
-#![tactic(auto)]
 
 use pawk_lex::lexer::Lexer;
 use pawk_lex::refusal::SyntaxRefusal;
 use pawk_lex::token::{Mark, Token, Value};
 use pawk_lex::token_list::TokenList;
 use pawk_lex::vocabulary::{is_run_variable, is_variable};
-use pawk_rows::{answer_lines, cell, decode, push_decimal, push_encoded};
+use pawk_rows::{cell, decode, push_decimal, push_encoded};
 use std::alloc::{AllocError, Global};
-use std::io;
 
 /// How many bytes the text of a row `size` has at least.
 const SIZE: usize = 10_000_000;
@@ -193,12 +191,8 @@ fn push_answer(alloc: Global, row: &[u8], out: &mut Vec<u8>) -> Result<(), Alloc
 }
 
 /// The answer to a row.
-fn answer(alloc: Global, row: &[u8]) -> Result<Vec<u8>, AllocError> {
+pub(crate) fn answer(alloc: Global, row: &[u8]) -> Result<Vec<u8>, AllocError> {
     let mut out = Vec::new(alloc);
     push_answer(alloc, row, &mut out)?;
     Ok(out)
-}
-
-fn main(rt: HostRuntime) -> io::Result<()> {
-    answer_lines(&rt, answer)
 }
