@@ -1,18 +1,15 @@
-//! Reads rows from standard input, one a line, and answers each with a line: the settings of a run, or the number of
-//! their refusal.
+//! The topic `settings`: the settings of a run, or the number of their refusal.
 //!
 //! A row has cells between tabs: the budget, and then names and their values by turns. In a value `%` stands for a
 //! newline. The answer is the budget, and each name with its value behind `=`, parted by spaces. The program is
 //! `function twice(part) { delete part } { delete seen; x = y }`.
-#![tactic(auto)]
 
 mod program;
 
-use pawk_rows::{answer_lines, cell, number, push_decimal, push_encoded};
+use pawk_rows::{cell, number, push_decimal, push_encoded};
 use pawk_settings::{Settings, SettingsRefusal};
 use program::items;
 use std::alloc::{AllocError, Global};
-use std::io;
 
 /// A value, in which `%` is a newline.
 fn value(alloc: Global, cell: &[u8]) -> Result<Vec<u8>, AllocError> {
@@ -62,7 +59,7 @@ fn push_refusal(
 }
 
 /// The answer to a row.
-fn answer(alloc: Global, row: &[u8]) -> Result<Vec<u8>, AllocError> {
+pub(crate) fn answer(alloc: Global, row: &[u8]) -> Result<Vec<u8>, AllocError> {
     let items = items(alloc)?;
     let assigned = assigned(alloc, row)?;
     let budget = number(cell(row, 0));
@@ -72,8 +69,4 @@ fn answer(alloc: Global, row: &[u8]) -> Result<Vec<u8>, AllocError> {
         Err(refusal) => push_refusal(alloc, refusal, &mut out)?,
     }
     Ok(out)
-}
-
-fn main(rt: HostRuntime) -> io::Result<()> {
-    answer_lines(&rt, answer)
 }
