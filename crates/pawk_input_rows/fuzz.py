@@ -1,5 +1,5 @@
 #!/usr/bin/env python3
-"""Compares the program of this crate with plain definitions on random inputs of newlines, separators
+"""Compares the topic `input` of the program of this crate with plain definitions on random inputs of newlines, separators
 and letters, in blocks that are cut at any places: `fuzz.py PROGRAM [COUNT [SEED]]`. The definitions walk a list of places and search nothing."""
 import random
 import subprocess
@@ -165,7 +165,7 @@ def main():
     count = int(sys.argv[2]) if len(sys.argv) > 2 else 500
     rand = random.Random(int(sys.argv[3]) if len(sys.argv) > 3 else 1)
     rows = [row(rand) for _ in range(count)]
-    asked = ''.join('\t'.join(encode(word) for word in words) + '\n' for words, _ in rows)
+    asked = ''.join('\t'.join(['input'] + [encode(word) for word in words]) + '\n' for words, _ in rows)
     run = subprocess.run([program], input=asked.encode(), capture_output=True, check=True)
     told = run.stdout.decode().split('\n')[:-1]
     wrong = [(words, want, got) for (words, want), got in zip(rows, told) if want != got]

@@ -1,58 +1,47 @@
-//! Reads rows from standard input, one a line, and answers each with a line: the records, fields and chunks of inputs.
+//! Reads rows from standard input, one a line, and answers each with a line.
 //!
-//! A row is a word and what it asks about, parted by tabs; in these a byte may be a backslash and three octal digits.
-//! `files` are a name and its bytes, and so on, with a bar between the blocks of a file. Where no file of a row has a bar, the
-//! input is made of whole vectors, else of blocks that are mended. A place is a file's number and an offset, as `0:2`, and
-//! places are parted by commas.
+//! The first cell of a line names the topic, and what follows the tab behind it is the row. The module of the topic says how
+//! its rows are written.
 //!
-//! | row | answer |
+//! | Topic | What it calls |
 //! |---|---|
-//! | `files` files | the name and size of each |
-//! | `records` separator files | each record with its file's name and place, `NR` and `FNR` |
-//! | `chunked` size separator files | the same, chunk by chunk of the plan by size |
-//! | `size` size separator files | the chunks of the plan by size: file, begin, end, `NR` and `FNR` before it |
-//! | `cuts` places separator files | the chunks of the plan at cuts |
-//! | `many` count size | how many chunks of that size has a file of that many empty records |
-//! | `counts` block separator files | how many records begin in each block |
-//! | `counted` block size separator files | the chunks of the plan by size out of those counts |
-//! | `begins` begin end separator bytes | how many records of the bytes begin in the range |
-//! | `split` separator paragraph record | the ranges of the fields between a byte, with `paragraph` 1 between newlines too |
-//! | `pieces` separator paragraph record | how many fields they are, and each |
-//! | `fields` record | how many fields there are, and each |
-//! | `field` number record | that field after `=`, or `none` |
-//! | `refusals` | each refusal with its number and text |
+//! | `input` | `pawk_input`: the records, fields and chunks of inputs |
+//! | `split` | `pawk_split`: the fields of a record by FS |
+//! | `record` | `pawk_record`: the record and its fields |
+//!
+//! A line of another topic is answered with `no topic`.
 #![tactic(auto)]
 
-mod fields;
-mod files;
-mod plans;
-mod verbs;
+mod input;
+mod ranges;
+mod record;
+mod split;
 
-use pawk_rows::{answer_lines, cell};
+use pawk_ere::Cache;
+use pawk_rows::answer_lines;
 use std::alloc::{AllocError, Global};
 use std::io;
-use verbs::Verb;
 
-/// Adds the answer to a row.
-fn push_answer(alloc: Global, row: &[u8], out: &mut Vec<u8>) -> Result<(), AllocError> {
-    let verb = Verb::of(cell(row, 0));
-    match verb {
-        Verb::Fields => fields::push_of_record(alloc, row, out),
-        Verb::Field => fields::push_of_number(alloc, row, out),
-        Verb::Split | Verb::Pieces => fields::push_separated(alloc, verb, row, out),
-        Verb::Many => plans::push_many(alloc, row, out),
-        Verb::Refusals => plans::push_refusals(alloc, out),
-        _ => files::push_answer(alloc, verb, row, out),
+/// The topic of a line and its row: what stands before its first tab, and what stands behind it.
+fn topic_and_row(line: &[u8]) -> (&[u8], &[u8]) {
+    match line.iter().position(|byte| *byte == b'\t') {
+        Some(tab) => (&line[..tab], &line[tab + 1..]),
+        None => (line, b""),
     }
 }
 
-/// The answer to a row.
-fn answer(alloc: Global, row: &[u8]) -> Result<Vec<u8>, AllocError> {
-    let mut out = Vec::new(alloc);
-    push_answer(alloc, row, &mut out)?;
-    Ok(out)
+/// The answer to a line.
+fn answer(alloc: Global, cache: &mut Cache, line: &[u8]) -> Result<Vec<u8>, AllocError> {
+    let (topic, row) = topic_and_row(line);
+    match topic {
+        b"input" => input::answer(alloc, row),
+        b"split" => split::answer(alloc, cache, row),
+        b"record" => record::answer(alloc, row),
+        _ => Vec::from_slice(alloc, b"no topic"),
+    }
 }
 
 fn main(rt: HostRuntime) -> io::Result<()> {
-    answer_lines(&rt, answer)
+    let mut cache = Cache::with(rt.alloc(), 1)?;
+    answer_lines(&rt, |alloc, line| answer(alloc, &mut cache, line))
 }

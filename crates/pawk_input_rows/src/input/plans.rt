@@ -3,7 +3,7 @@
 ghost use Rattle.std.specs.Prelude.{◌≤◌, length};
 ghost use Rattle.pawk_input.specs.Input.{IsReady};
 
-use crate::files::{push_numbers, push_records};
+use super::files::{push_numbers, push_records};
 use pawk_input::{CutRefusal, Input, Plan, TooLarge, count_blocks};
 use pawk_rows::{cell, number, piece, push_decimal};
 use std::alloc::{AllocError, Global};

@@ -1,6 +1,7 @@
 //! Rows about fields.
 
-use crate::verbs::Verb;
+use super::verbs::Verb;
+use crate::ranges::push_range;
 use pawk_input::FieldSeparator;
 use pawk_rows::{cell, decode, number, push_decimal, push_encoded};
 use std::alloc::{AllocError, Global};
@@ -55,9 +56,7 @@ fn push_ranges(
     let mut ranges = Vec::new(alloc);
     pawk_input::append_ranges(&mut ranges, separator, record)?;
     for range in &ranges {
-        push_decimal(range.start as u64, out)?;
-        out.extend_from_slice(b"..")?;
-        push_decimal(range.end as u64, out)?;
+        push_range(range, out)?;
         out.push(b';')?;
     }
     Ok(())

@@ -1,4 +1,4 @@
-//! Reads rows from standard input, one a line, and answers each with a line.
+//! The topic `record`: actions on a record and its fields.
 //!
 //! A row has cells between tabs, each an action on one record that is empty at first: its pieces stand between bars, and in
 //! the last columns below a backslash with three octal digits is the byte of that value.
@@ -15,13 +15,11 @@
 //!
 //! A kind is `uninit`, `num`, `text` or `maybe`. What is told stands behind a space; a value is its kind, a colon and its
 //! bytes. A fault tells its name in brackets, and the row goes on.
-#![tactic(auto)]
 
 use pawk_record::Record;
-use pawk_rows::{answer_lines, decode, number, piece, push_decimal, push_encoded};
+use pawk_rows::{decode, number, piece, push_decimal, push_encoded};
 use pawk_value::{Fault, Stop, ValueRef};
 use std::alloc::{AllocError, Global};
-use std::io;
 
 /// The piece of a cell with that number, counted from 0.
 fn part(cell: &[u8], place: usize) -> &[u8] {
@@ -185,11 +183,7 @@ fn answer_cells(alloc: Global, row: &[u8], texts: &[Vec<u8>]) -> Result<Vec<u8>,
 }
 
 /// The answer to a row.
-fn answer(alloc: Global, row: &[u8]) -> Result<Vec<u8>, AllocError> {
+pub(crate) fn answer(alloc: Global, row: &[u8]) -> Result<Vec<u8>, AllocError> {
     let texts = texts_of(alloc, row)?;
     answer_cells(alloc, row, texts.as_slice())
-}
-
-fn main(rt: HostRuntime) -> io::Result<()> {
-    answer_lines(&rt, answer)
 }

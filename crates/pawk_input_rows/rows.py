@@ -1,8 +1,8 @@
 #!/usr/bin/env python3
-"""Rows for pawk_split_rows: worked rows by hand, and drawn ones, whose answers are worked out from the definition.
+"""The rows of the topic split: worked rows by hand, and drawn ones, whose answers are worked out from the definition.
 
-    rows.py rows > stdin      the rows
-    rows.py answers > stdout  their answers
+    rows.py rows      the rows, as they stand in stdin behind those of the topic input
+    rows.py answers   their answers, as they stand in stdout
 
 A drawn expression is made as a tree and then written down, so nothing here reads expressions. What it matches is the set of
 all pairs of places, worked out from the tree; of the pairs that are not empty the next separator is chosen place by place.
@@ -209,7 +209,7 @@ def cell(text):
 def main():
     rows = HAND + drawn()
     for fs, s, paragraph, line in rows:
-        print(line if sys.argv[1] == 'answers' else '\t'.join([cell(fs), cell(s), str(paragraph)]))
+        print(line if sys.argv[1] == 'answers' else '\t'.join(['split', cell(fs), cell(s), str(paragraph)]))
 
 
 main()

@@ -3,8 +3,8 @@
 ghost use Rattle.std.specs.Prelude.{◌≤◌, length, IfOk, IfSome};
 ghost use Rattle.pawk_input.specs.Input.{IsReady};
 
-use crate::plans;
-use crate::verbs::Verb;
+use super::plans;
+use super::verbs::Verb;
 use pawk_input::{Block, Blocks, Input, Records, count_block, count_blocks};
 use pawk_rows::{cell, decode, number, push_decimal, push_encoded};
 use std::alloc::{AllocError, Global};

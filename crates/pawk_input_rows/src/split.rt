@@ -1,20 +1,18 @@
-//! Reads rows from standard input, one a line, and answers each with a line: how many fields, and their ranges, in bytes
-//! counted from 0; or the fault.
+//! The topic `split`: how many fields a record has by FS, and their ranges, in bytes counted from 0; or the fault.
 //!
 //! A row has cells between tabs: FS, the record, and 1 in paragraph mode. In the first two a backslash with three octal
 //! digits is the byte of that value. Each row is asked of `split_fields`, of `split_fields_with` with a cache of one
 //! expression, of a walk, and of `field_by` for each field and one more, and counted; where the lists do not agree the answer
 //! is `differ`.
-#![tactic(auto)]
 
 ghost use Rattle.std.specs.Prelude.{◌≤◌};
 
+use crate::ranges::push_range;
 use pawk_ere::Cache;
-use pawk_rows::{answer_lines, cell, decode, push_decimal};
+use pawk_rows::{cell, decode, push_decimal};
 use pawk_split::{FieldWalk, count_fields_by, field_by, split_fields, split_fields_with};
 use pawk_value::Stop;
 use std::alloc::{AllocError, Global};
-use std::io;
 use std::ops::Range;
 
 /// What a row asks: FS, the record, and whether it is in paragraph mode.
@@ -28,10 +26,8 @@ struct Question<'q> {
 /// Adds the ranges of a list, each behind a space.
 fn push_ranges(ranges: &[Range<usize>], out: &mut Vec<u8>) -> Result<(), AllocError> {
     for range in ranges {
-        out.extend_from_slice(b" ")?;
-        push_decimal(range.start as u64, out)?;
-        out.extend_from_slice(b"..")?;
-        push_decimal(range.end as u64, out)?;
+        out.push(b' ')?;
+        push_range(range, out)?;
     }
     Ok(())
 }
@@ -147,7 +143,7 @@ fn push_answer(
 }
 
 /// The answer to a row.
-fn answer(alloc: Global, cache: &mut Cache, row: &[u8]) -> Result<Vec<u8>, AllocError> {
+pub(crate) fn answer(alloc: Global, cache: &mut Cache, row: &[u8]) -> Result<Vec<u8>, AllocError> {
     let fs = decode(alloc, cell(row, 0))?;
     let record = decode(alloc, cell(row, 1))?;
     let question = Question {
@@ -158,9 +154,4 @@ fn answer(alloc: Global, cache: &mut Cache, row: &[u8]) -> Result<Vec<u8>, Alloc
     let mut out = Vec::new(alloc);
     push_answer(alloc, cache, question, &mut out)?;
     Ok(out)
-}
-
-fn main(rt: HostRuntime) -> io::Result<()> {
-    let mut cache = Cache::with(rt.alloc(), 1)?;
-    answer_lines(&rt, |alloc, row| answer(alloc, &mut cache, row))
 }

@@ -1,0 +1,52 @@
+//! The topic `input`: the records, fields and chunks of inputs.
+//!
+//! A row is a word and what it asks about, parted by tabs; in these a byte may be a backslash and three octal digits.
+//! `files` are a name and its bytes, and so on, with a bar between the blocks of a file. Where no file of a row has a bar, the
+//! input is made of whole vectors, else of blocks that are mended. A place is a file's number and an offset, as `0:2`, and
+//! places are parted by commas.
+//!
+//! | row | answer |
+//! |---|---|
+//! | `files` files | the name and size of each |
+//! | `records` separator files | each record with its file's name and place, `NR` and `FNR` |
+//! | `chunked` size separator files | the same, chunk by chunk of the plan by size |
+//! | `size` size separator files | the chunks of the plan by size: file, begin, end, `NR` and `FNR` before it |
+//! | `cuts` places separator files | the chunks of the plan at cuts |
+//! | `many` count size | how many chunks of that size has a file of that many empty records |
+//! | `counts` block separator files | how many records begin in each block |
+//! | `counted` block size separator files | the chunks of the plan by size out of those counts |
+//! | `begins` begin end separator bytes | how many records of the bytes begin in the range |
+//! | `split` separator paragraph record | the ranges of the fields between a byte, with `paragraph` 1 between newlines too |
+//! | `pieces` separator paragraph record | how many fields they are, and each |
+//! | `fields` record | how many fields there are, and each |
+//! | `field` number record | that field after `=`, or `none` |
+//! | `refusals` | each refusal with its number and text |
+
+mod fields;
+mod files;
+mod plans;
+mod verbs;
+
+use pawk_rows::cell;
+use std::alloc::{AllocError, Global};
+use verbs::Verb;
+
+/// Adds the answer to a row.
+fn push_answer(alloc: Global, row: &[u8], out: &mut Vec<u8>) -> Result<(), AllocError> {
+    let verb = Verb::of(cell(row, 0));
+    match verb {
+        Verb::Fields => fields::push_of_record(alloc, row, out),
+        Verb::Field => fields::push_of_number(alloc, row, out),
+        Verb::Split | Verb::Pieces => fields::push_separated(alloc, verb, row, out),
+        Verb::Many => plans::push_many(alloc, row, out),
+        Verb::Refusals => plans::push_refusals(alloc, out),
+        _ => files::push_answer(alloc, verb, row, out),
+    }
+}
+
+/// The answer to a row.
+pub(crate) fn answer(alloc: Global, row: &[u8]) -> Result<Vec<u8>, AllocError> {
+    let mut out = Vec::new(alloc);
+    push_answer(alloc, row, &mut out)?;
+    Ok(out)
+}
