@@ -1,6 +1,6 @@
 //! The answers to rows, but for those on formats.
 
-use crate::cells::{number_in, operation_of, text_of};
+use crate::value::cells::{number_in, operation_of, text_of};
 use pawk_value::{
     Fault, Value, ValueRef, arith, candidate_truth, compare, compare_texts, looks, number_of,
     push_text_lent, to_num, to_num_lent, truth, truth_lent, whole_number,

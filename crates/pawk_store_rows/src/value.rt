@@ -1,6 +1,6 @@
-//! Answers rows on values, a line for a line. A row has cells between tabs, the first of which says
-//! what is asked. A value is `n` and a number, `t` and a text, `m` and a text from outside, or `u`; in
-//! texts a backslash and three octal digits stand for a byte. A fault is answered as `!` and its name.
+//! Rows on values. A row has cells between tabs, the first of which says what is asked. A value is
+//! `n` and a number, `t` and a text, `m` and a text from outside, or `u`; in texts a backslash and
+//! three octal digits stand for a byte. A fault is answered as `!` and its name.
 //!
 //! - `numeral VALUE`: the number of the value's text, of it as a text, and of it as a candidate;
 //! - `number VALUE`, `truth VALUE`: the value's number, and whether it holds;
@@ -15,7 +15,6 @@
 //! - `lent FORMAT VALUE..`: the same with lent values, by the format and, behind a tab, by a template
 //!   of it;
 //! - `long FORMAT VALUE..`: its length and its last three bytes.
-#![tactic(auto)]
 
 mod answers;
 mod cells;
@@ -24,9 +23,8 @@ mod formats;
 use answers::push_answer;
 use cells::value_of;
 use formats::{formatted_answer, length_answer, lent_answer, text_answer};
-use pawk_rows::{answer_lines, cell};
+use pawk_rows::cell;
 use std::alloc::{AllocError, Global};
-use std::io;
 
 /// The answer to a row on at most two values.
 fn answer_on_values(alloc: Global, row: &[u8]) -> Result<Vec<u8>, AllocError> {
@@ -38,7 +36,7 @@ fn answer_on_values(alloc: Global, row: &[u8]) -> Result<Vec<u8>, AllocError> {
 }
 
 /// The answer to a row.
-fn answer(alloc: Global, row: &[u8]) -> Result<Vec<u8>, AllocError> {
+pub(crate) fn answer(alloc: Global, row: &[u8]) -> Result<Vec<u8>, AllocError> {
     match cell(row, 0) {
         b"text" => text_answer(alloc, row),
         b"format" => formatted_answer(alloc, row),
@@ -46,8 +44,4 @@ fn answer(alloc: Global, row: &[u8]) -> Result<Vec<u8>, AllocError> {
         b"long" => length_answer(alloc, row),
         _ => answer_on_values(alloc, row),
     }
-}
-
-fn main(rt: HostRuntime) -> io::Result<()> {
-    answer_lines(&rt, answer)
 }

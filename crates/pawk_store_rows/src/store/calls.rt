@@ -1,46 +1,29 @@
 //! Calls of the globals of a run.
 
-use crate::listings::push_listing;
-use crate::pieces::pieces_between_bars;
-use crate::values::{push_value, value};
+ghost use Rattle.std.specs.Prelude.{IfOk};
+ghost use Rattle.pawk_array.specs.Texts.{AreWithin};
+
+use crate::keys::{push_keys, rise};
+use crate::marked::{push_value, value};
+use crate::pieces::pieces_between;
+use crate::spaced::Spaced;
+use crate::store::listings::push_listing;
 use pawk_array::Texts;
 use pawk_code::word::Sign;
 use pawk_input::{Item, LIMIT};
-use pawk_rows::{decode, number, piece, push_decimal, push_encoded};
+use pawk_rows::{decode, number, piece, push_decimal};
 use pawk_store::{Globals, Names, RecordState};
 use pawk_value::{Held, Value, ValueRef, lend, lend_held, to_num};
 use pawk_world::{Halt, World};
 use std::alloc::{AllocError, Global};
+use std::ops::Range;
 
 /// The globals of a run, and what they answered.
 #[derive(Drop)]
 pub struct Calls<'a> {
     globals: Globals,
     state: RecordState<'a>,
-    pub answers: Vec<u8>,
-    is_begun: bool,
-}
-
-/// Adds all keys, parted by `|`.
-fn push_keys(keys: &Texts, out: &mut Vec<u8>) -> Result<(), AllocError> {
-    for place in 0..keys.len() {
-        if place > 0 {
-            out.push(b'|')?;
-        }
-        push_encoded(keys.text(place), out)?;
-    }
-    Ok(())
-}
-
-/// Whether the keys rise.
-fn rise(keys: &Texts) -> bool {
-    let mut rise = true;
-    for place in 1..keys.len() {
-        if keys.text(place - 1) >= keys.text(place) {
-            rise = false;
-        }
-    }
-    rise
+    pub answers: Spaced,
 }
 
 /// Adds how many keys there are, and whether they rise.
@@ -62,6 +45,16 @@ fn sign(word: u8) -> Sign {
     }
 }
 
+/// The ranges of a text between its bars; none of an empty text.
+fn pieces_between_bars(alloc: Global, text: &[u8]) -> Result<Vec<Range<usize>>, AllocError>
+    ensures { IfOk result (λ pieces. AreWithin text.now pieces.items) }
+{
+    if text.is_empty() {
+        return Ok(Vec::new(alloc));
+    }
+    pieces_between(alloc, text, b'|')
+}
+
 /// Sets the numbers below a count, from the greatest down, to themselves.
 fn set_many(alloc: Global, globals: &mut Globals, array: usize, count: u64) -> Result<(), Halt> {
     for place in 0..count {
@@ -80,24 +73,14 @@ impl<'a> Calls<'a> {
         Ok(Calls {
             globals,
             state,
-            answers: Vec::new(alloc),
-            is_begun: false,
+            answers: Spaced::new(alloc),
         })
-    }
-
-    /// Parts the answers.
-    fn part(&mut self) -> Result<(), AllocError> {
-        if self.is_begun {
-            self.answers.extend_from_slice(b" ")?;
-        }
-        self.is_begun = true;
-        Ok(())
     }
 
     /// Answers a value.
     fn push(&mut self, held: Held, bytes: &[u8]) -> Result<(), Halt> {
-        self.part()?;
-        push_value(lend_held(held, bytes), &mut self.answers)?;
+        self.answers.part()?;
+        push_value(lend_held(held, bytes), &mut self.answers.bytes)?;
         Ok(())
     }
 
@@ -143,19 +126,19 @@ impl<'a> Calls<'a> {
     fn test(&mut self, alloc: Global, rest: &[u8]) -> Result<(), Halt> {
         let key = decode(alloc, piece(rest, b'=', 1))?;
         let is_there = self.globals.holds(slot(rest), key.as_slice())?;
-        self.part()?;
-        self.answers.push(if is_there { b'1' } else { b'0' })?;
+        self.answers.part()?;
+        self.answers.bytes.push(if is_there { b'1' } else { b'0' })?;
         Ok(())
     }
 
     /// Asks for keys.
     fn walk(&mut self, is_whole: bool, array: usize) -> Result<(), Halt> {
-        self.part()?;
+        self.answers.part()?;
         let keys = self.globals.keys(array)?;
         if is_whole {
-            push_keys(&keys, &mut self.answers)?;
+            push_keys(&keys, &mut self.answers.bytes)?;
         } else {
-            push_ends(&keys, &mut self.answers)?;
+            push_ends(&keys, &mut self.answers.bytes)?;
         }
         Ok(())
     }
@@ -179,10 +162,10 @@ impl<'a> Calls<'a> {
 
     /// Lists the globals.
     fn list(&mut self, alloc: Global, names: Names<'_>) -> Result<(), Halt> {
-        self.part()?;
+        self.answers.part()?;
         let specials = self.state.specials(alloc)?;
         let listing = self.globals.list(alloc, names, &specials)?;
-        push_listing(listing.as_slice(), &mut self.answers)?;
+        push_listing(listing.as_slice(), &mut self.answers.bytes)?;
         Ok(())
     }
 
@@ -203,8 +186,8 @@ impl<'a> Calls<'a> {
 
     /// Answers the value of a scalar.
     fn look(&mut self, slot: usize) -> Result<(), Halt> {
-        self.part()?;
-        push_value(self.globals.scalar(slot), &mut self.answers)?;
+        self.answers.part()?;
+        push_value(self.globals.scalar(slot), &mut self.answers.bytes)?;
         Ok(())
     }
 
@@ -272,10 +255,12 @@ impl<'a> Calls<'a> {
         match self.ask(alloc, names, *word, rest) {
             Ok(()) => Ok(()),
             Err(Halt::Fault(fault)) => {
-                self.part()?;
-                self.answers.push(b'[')?;
-                self.answers.extend_from_slice(fault.name().as_bytes())?;
-                self.answers.extend_from_slice(b"]")
+                self.answers.part()?;
+                self.answers.bytes.push(b'[')?;
+                self.answers
+                    .bytes
+                    .extend_from_slice(fault.name().as_bytes())?;
+                self.answers.bytes.extend_from_slice(b"]")
             }
             Err(_) => Err(AllocError),
         }

@@ -1,6 +1,29 @@
-//! Calls of an array.
+//! Rows on what arrays hold.
+//!
+//! A row is calls of one array, parted by tabs; in keys and values a byte may be a backslash and three octal digits.
+//! The answers are parted by spaces. A value is `_` where it is uninitialised, and else a number behind `#`, a text
+//! behind `"` or a candidate behind `~`.
+//!
+//! | call | does | answers |
+//! |---|---|---|
+//! | `s`key`=`text | sets an element | |
+//! | `e`key`=`number | sets an element by the loan of it | |
+//! | `g`key | | the value, or `none` |
+//! | `t`key | touches an element | the value |
+//! | `i`key | | whether it is there: 1 or 0 |
+//! | `r`key | removes an element | |
+//! | `c` | removes all | |
+//! | `f`text | gives the keys `1`, `2`, .. the pieces between commas | |
+//! | `y` | goes on with a copy | |
+//! | `n` | | how many elements there are |
+//! | `w` | | the keys in their order, parted by `|` |
+//! | `m`count | sets the numbers from `count - 1` down to 0 | |
+//! | `o` | | the first and the last key, and whether the keys rise |
 
-use crate::ranges::{are_within, pieces};
+use crate::keys::{push_keys, rise};
+use crate::marked::push_value;
+use crate::pieces::pieces_between;
+use crate::spaced::Spaced;
 use pawk_array::{Array, Texts};
 use pawk_rows::{decode, number, piece, push_decimal, push_encoded};
 use pawk_value::{Value, ValueRef};
@@ -8,40 +31,9 @@ use std::alloc::{AllocError, Global};
 
 /// An array, and what it answered.
 #[derive(Drop)]
-pub struct Calls {
+struct Calls {
     array: Array,
-    pub answers: Vec<u8>,
-    is_begun: bool,
-}
-
-/// Adds a value.
-fn push_value(value: ValueRef<'_>, out: &mut Vec<u8>) -> Result<(), AllocError> {
-    match value {
-        ValueRef::Uninit => out.extend_from_slice(b"_"),
-        ValueRef::Num(number) => {
-            out.extend_from_slice(b"#")?;
-            push_decimal(number.unsigned_abs(), out)
-        }
-        ValueRef::Text(text) => {
-            out.extend_from_slice(b"\"")?;
-            push_encoded(text, out)
-        }
-        ValueRef::Maybe(text) => {
-            out.extend_from_slice(b"~")?;
-            push_encoded(text, out)
-        }
-    }
-}
-
-/// Adds all keys, parted by `|`.
-fn push_keys(keys: &Texts, out: &mut Vec<u8>) -> Result<(), AllocError> {
-    for place in 0..keys.len() {
-        if place > 0 {
-            out.extend_from_slice(b"|")?;
-        }
-        push_encoded(keys.text(place), out)?;
-    }
-    Ok(())
+    answers: Spaced,
 }
 
 /// Adds the first and the last key, and whether the keys rise.
@@ -53,13 +45,7 @@ fn push_ends(keys: &Texts, out: &mut Vec<u8>) -> Result<(), AllocError> {
     push_encoded(keys.text(0), out)?;
     out.extend_from_slice(b" ")?;
     push_encoded(keys.text(count - 1), out)?;
-    let mut rises = true;
-    for place in 1..count {
-        if keys.text(place - 1) >= keys.text(place) {
-            rises = false;
-        }
-    }
-    out.extend_from_slice(if rises { b" rising" } else { b" falling" })
+    out.extend_from_slice(if rise(keys) { b" rising" } else { b" falling" })
 }
 
 /// Sets the numbers below a count, from the greatest down, to themselves.
@@ -74,56 +60,43 @@ fn set_many(alloc: Global, array: &mut Array, count: u64) -> Result<(), AllocErr
 
 impl Calls {
     /// An array without elements.
-    pub fn new(alloc: Global) -> Calls {
+    fn new(alloc: Global) -> Calls {
         Calls {
             array: Array::new(alloc),
-            answers: Vec::new(alloc),
-            is_begun: false,
+            answers: Spaced::new(alloc),
         }
-    }
-
-    /// Parts the answers.
-    fn part(&mut self) -> Result<(), AllocError> {
-        if self.is_begun {
-            self.answers.extend_from_slice(b" ")?;
-        }
-        self.is_begun = true;
-        Ok(())
     }
 
     /// Asks for a value.
     fn get(&mut self, key: &[u8]) -> Result<(), AllocError> {
-        self.part()?;
+        self.answers.part()?;
         match self.array.get(key) {
-            None => self.answers.extend_from_slice(b"none"),
-            Some(value) => push_value(value, &mut self.answers),
+            None => self.answers.bytes.extend_from_slice(b"none"),
+            Some(value) => push_value(value, &mut self.answers.bytes),
         }
     }
 
     /// Touches an element.
     fn touch(&mut self, key: &[u8]) -> Result<(), AllocError> {
-        self.part()?;
+        self.answers.part()?;
         let value = self.array.touch(key)?;
-        push_value(value, &mut self.answers)
+        push_value(value, &mut self.answers.bytes)
     }
 
     /// Gives the array the pieces of a text.
     fn fill(&mut self, alloc: Global, text: &[u8]) -> Result<(), AllocError> {
-        let ranges = pieces(alloc, text)?;
-        if are_within(text, ranges.as_slice()) {
-            self.array.fill(text, ranges)?;
-        }
-        Ok(())
+        let pieces = pieces_between(alloc, text, b',')?;
+        self.array.fill(text, pieces)
     }
 
     /// Asks for keys.
     fn walk(&mut self, alloc: Global, is_whole: bool) -> Result<(), AllocError> {
-        self.part()?;
+        self.answers.part()?;
         let keys = self.array.keys(alloc)?;
         if is_whole {
-            push_keys(&keys, &mut self.answers)
+            push_keys(&keys, &mut self.answers.bytes)
         } else {
-            push_ends(&keys, &mut self.answers)
+            push_ends(&keys, &mut self.answers.bytes)
         }
     }
 
@@ -142,12 +115,12 @@ impl Calls {
 
     /// Asks for a number.
     fn count(&mut self, number: u64) -> Result<(), AllocError> {
-        self.part()?;
-        push_decimal(number, &mut self.answers)
+        self.answers.part()?;
+        push_decimal(number, &mut self.answers.bytes)
     }
 
     /// A call.
-    pub fn call(&mut self, alloc: Global, call: &[u8]) -> Result<(), AllocError> {
+    fn call(&mut self, alloc: Global, call: &[u8]) -> Result<(), AllocError> {
         let [word, rest @ ..] = call else {
             return Ok(());
         };
@@ -178,4 +151,13 @@ impl Calls {
             _ => self.walk(alloc, *word == b'w'),
         }
     }
+}
+
+/// The answer to a row.
+pub(crate) fn answer(alloc: Global, row: &[u8]) -> Result<Vec<u8>, AllocError> {
+    let mut calls = Calls::new(alloc);
+    for call in row.split(|byte| *byte == b'\t') {
+        calls.call(alloc, call)?;
+    }
+    Ok(calls.answers.bytes)
 }

@@ -1,6 +1,6 @@
 //! The answers to rows on formats.
 
-use crate::cells::value_of;
+use crate::value::cells::value_of;
 use pawk_rows::{cell, decode, push_encoded};
 use pawk_value::{
     Stop, Value, ValueRef, copy_value, format, format_into, lend, push_text, push_text_lent,

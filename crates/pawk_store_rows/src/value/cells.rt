@@ -1,18 +1,14 @@
 //! What the cells of rows stand for.
 
+use crate::marked::whole;
 use pawk_rows::decode;
 use pawk_value::{Op, Value, ValueRef, lend};
 use std::alloc::{AllocError, Global};
 
-/// The number that a cell writes, with a minus where it is negative, or 0.
-fn signed(cell: &[u8]) -> i64 {
-    str::from_utf8(cell).unwrap_or("").parse().unwrap_or(0)
-}
-
 /// The value that a cell stands for.
 pub fn value_of(alloc: Global, cell: &[u8]) -> Result<Value, AllocError> {
     match cell {
-        [b'n', digits @ ..] => Ok(Value::Num(signed(digits))),
+        [b'n', digits @ ..] => Ok(Value::Num(whole(digits))),
         [b't', text @ ..] => Ok(Value::Text(decode(alloc, text)?)),
         [b'm', text @ ..] => Ok(Value::Maybe(decode(alloc, text)?)),
         _ => Ok(Value::Uninit),

@@ -1,11 +1,11 @@
-//! Values as rows write them.
+//! Values as rows on arrays and on globals write them: behind a mark.
 
 use pawk_rows::{decode, push_decimal, push_encoded};
 use pawk_value::{Value, ValueRef};
 use std::alloc::{AllocError, Global};
 
 /// The number that a text writes in decimal digits, after `-` where it is negative, or 0.
-fn whole(text: &[u8]) -> i64 {
+pub fn whole(text: &[u8]) -> i64 {
     str::from_utf8(text).unwrap_or("").parse().unwrap_or(0)
 }
 
