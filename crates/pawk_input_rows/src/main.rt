@@ -18,21 +18,13 @@ mod record;
 mod split;
 
 use pawk_ere::Cache;
-use pawk_rows::answer_lines;
+use pawk_rows::{answer_lines, first_and_rest};
 use std::alloc::{AllocError, Global};
 use std::io;
 
-/// The topic of a line and its row: what stands before its first tab, and what stands behind it.
-fn topic_and_row(line: &[u8]) -> (&[u8], &[u8]) {
-    match line.iter().position(|byte| *byte == b'\t') {
-        Some(tab) => (&line[..tab], &line[tab + 1..]),
-        None => (line, b""),
-    }
-}
-
 /// The answer to a line.
 fn answer(alloc: Global, cache: &mut Cache, line: &[u8]) -> Result<Vec<u8>, AllocError> {
-    let (topic, row) = topic_and_row(line);
+    let (topic, row) = first_and_rest(line);
     match topic {
         b"input" => input::answer(alloc, row),
         b"split" => split::answer(alloc, cache, row),

@@ -20,6 +20,12 @@ pub fn cell(row: &[u8], number: usize) -> &[u8] {
     piece(row, b'\t', number)
 }
 
+/// The first cell of a row, and what stands behind its tab: nothing where there is no tab.
+pub fn first_and_rest(row: &[u8]) -> (&[u8], &[u8]) {
+    let first = cell(row, 0);
+    (first, row.get(first.len() + 1..).unwrap_or(b""))
+}
+
 /// The number that a cell writes in decimal digits, or 0.
 pub fn number(cell: &[u8]) -> u64 {
     str::from_utf8(cell).unwrap_or("").parse().unwrap_or(0)

@@ -18,14 +18,13 @@ mod spaced;
 mod store;
 mod value;
 
-use pawk_rows::{answer_lines, cell};
+use pawk_rows::{answer_lines, first_and_rest};
 use std::alloc::{AllocError, Global};
 use std::io;
 
 /// The answer to a line.
 fn answer(alloc: Global, line: &[u8]) -> Result<Vec<u8>, AllocError> {
-    let topic = cell(line, 0);
-    let row = line.get(topic.len() + 1..).unwrap_or(b"");
+    let (topic, row) = first_and_rest(line);
     match topic {
         b"array" => array::answer(alloc, row),
         b"store" => store::answer(alloc, row),

@@ -9,12 +9,10 @@
 //! A line of another topic is answered with `no topic`.
 #![tactic(auto)]
 
-mod cells;
 mod lex;
 mod syntax;
 
-use cells::first_and_rest;
-use pawk_rows::answer_lines;
+use pawk_rows::{answer_lines, first_and_rest};
 use std::alloc::{AllocError, Global};
 use std::io;
 

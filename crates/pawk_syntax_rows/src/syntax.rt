@@ -9,8 +9,7 @@
 //! A text that is refused, or whose canonical text is, is answered with the number of the refusal, and
 //! its place.
 
-use crate::cells::first_and_rest;
-use pawk_rows::{push_decimal, push_encoded, push_parts};
+use pawk_rows::{first_and_rest, push_decimal, push_encoded, push_parts};
 use pawk_syntax::{SyntaxRefusal, parse, show};
 use std::alloc::{AllocError, Global};
 
