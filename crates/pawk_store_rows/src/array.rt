@@ -21,9 +21,9 @@
 //! | `o` | | the first and the last key, and whether the keys rise |
 
 use crate::keys::{push_keys, rise};
-use crate::marked::push_value;
+use crate::list::AnswerList;
+use crate::marks::push_value;
 use crate::pieces::pieces_between;
-use crate::spaced::Spaced;
 use pawk_array::{Array, Texts};
 use pawk_rows::{decode, number, piece, push_decimal, push_encoded};
 use pawk_value::{Value, ValueRef};
@@ -33,7 +33,7 @@ use std::alloc::{AllocError, Global};
 #[derive(Drop)]
 struct Calls {
     array: Array,
-    answers: Spaced,
+    answers: AnswerList,
 }
 
 /// Adds the first and the last key, and whether the keys rise.
@@ -63,7 +63,7 @@ impl Calls {
     fn new(alloc: Global) -> Calls {
         Calls {
             array: Array::new(alloc),
-            answers: Spaced::new(alloc),
+            answers: AnswerList::new(alloc),
         }
     }
 

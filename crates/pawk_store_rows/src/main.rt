@@ -12,9 +12,9 @@
 
 mod array;
 mod keys;
-mod marked;
+mod list;
+mod marks;
 mod pieces;
-mod spaced;
 mod store;
 mod value;
 

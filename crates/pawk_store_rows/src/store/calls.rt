@@ -4,9 +4,9 @@ ghost use Rattle.std.specs.Prelude.{IfOk};
 ghost use Rattle.pawk_array.specs.Texts.{AreWithin};
 
 use crate::keys::{push_keys, rise};
-use crate::marked::{push_value, value};
+use crate::list::AnswerList;
+use crate::marks::{push_value, value};
 use crate::pieces::pieces_between;
-use crate::spaced::Spaced;
 use crate::store::listings::push_listing;
 use pawk_array::Texts;
 use pawk_code::word::Sign;
@@ -23,7 +23,7 @@ use std::ops::Range;
 pub struct Calls<'a> {
     globals: Globals,
     state: RecordState<'a>,
-    pub answers: Spaced,
+    pub answers: AnswerList,
 }
 
 /// Adds how many keys there are, and whether they rise.
@@ -73,7 +73,7 @@ impl<'a> Calls<'a> {
         Ok(Calls {
             globals,
             state,
-            answers: Spaced::new(alloc),
+            answers: AnswerList::new(alloc),
         })
     }
 

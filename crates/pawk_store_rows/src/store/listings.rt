@@ -1,6 +1,6 @@
 //! Listings as rows write them.
 
-use crate::marked::push_value;
+use crate::marks::push_value;
 use pawk_array::Element;
 use pawk_rows::push_encoded;
 use pawk_store::{Content, Named};

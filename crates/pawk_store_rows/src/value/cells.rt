@@ -1,6 +1,6 @@
 //! What the cells of rows stand for.
 
-use crate::marked::whole;
+use crate::marks::whole;
 use pawk_rows::decode;
 use pawk_value::{Op, Value, ValueRef, lend};
 use std::alloc::{AllocError, Global};

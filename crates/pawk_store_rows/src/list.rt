@@ -4,15 +4,15 @@ use std::alloc::{AllocError, Global};
 
 /// The answers to the calls of a row, parted by spaces.
 #[derive(Drop)]
-pub struct Spaced {
+pub struct AnswerList {
     pub bytes: Vec<u8>,
     is_begun: bool,
 }
 
-impl Spaced {
+impl AnswerList {
     /// No answers.
-    pub fn new(alloc: Global) -> Spaced {
-        Spaced {
+    pub fn new(alloc: Global) -> AnswerList {
+        AnswerList {
             bytes: Vec::new(alloc),
             is_begun: false,
         }
