@@ -12,7 +12,7 @@
 PREFIX = /usr/local
 BENCH_DATA = bench/files
 MAKEFLAGS += --no-print-directory
-# How many crates the gate proves side by side, each by one job: at most four, which take up to 12 GB. Without a number
+# How many crates the gate proves side by side, each by one job: at most four, since one takes 1 to 4 GB. Without a number
 # `rt` gives several jobs to a crate that nothing else can stand beside, and each job loads what is below once more.
 export RT_JOBS ?= $(shell jobs=$$(nproc); echo $$((jobs < 4 ? jobs : 4)))
 
