@@ -4,3 +4,4 @@
 mod chunk;
 
 pub use chunk::{ChunkResult, Opening, run_chunk};
+pub use pawk_part::Left;

@@ -26,7 +26,7 @@ use pawk_value::{Fault, Value};
 use pawk_world::{Halt, World};
 use std::mem;
 
-/// What the arguments of a call give to its parameters.
+/// What the arguments of a call give to its parameters: a value, or an array by reference.
 #[cycle(evaluate)]
 #[inline(always)]
 pub(crate) fn pass<W: World>(

@@ -4,15 +4,7 @@
 
 ghost use Rattle.std.specs.Prelude.{◌≤◌};
 ghost use Rattle.pawk_code.specs.StatementViews.{seen};
-ghost use Rattle.pawk_meaning.specs.Meaning.{
-  act_or_none,
-  execs,
-  for_keys,
-  test_or_true,
-  visit_keys,
-  while_loop,
-};
-ghost use Rattle.pawk_meaning.specs.Places.{variable_aim};
+ghost use Rattle.pawk_meaning.specs.Meaning.{act_or_none, execs, for_keys, test_or_true, while_loop};
 ghost use Rattle.pawk_places.specs.Moments.{moment};
 ghost use Rattle.pawk_places.specs.Yields.{Yields};
 ghost use Rattle.pawk_eval.specs.Contexts.{enter_of, eres_of, last_view};
@@ -23,12 +15,10 @@ use crate::context::Context;
 use crate::expressions::truth;
 use crate::flow::Flow;
 use crate::statements::{execute, perform};
-use pawk_array::Texts;
 use pawk_code::expression::Expr;
 use pawk_code::name::{Array, Variable};
 use pawk_code::statement::{Simple, Statement};
 use pawk_places::{Run, array_keys, set_key, table_of, tick};
-use pawk_value::Fault;
 use pawk_world::{Halt, World};
 
 /// Runs a body while a test holds, a step at each test, and `last` behind each turn. A test that is
@@ -58,7 +48,10 @@ pub(crate) fn turns<W: World>(
 {
     'turns: loop {
         tick(world, run)?;
-        let truth = truth_or_true(context, depth, test, world, run)?;
+        let truth = match test {
+            None => Ok(true),
+            Some(e) => truth(context, depth, e, world, run)?,
+        };
         let holds = truth?;
         if !holds {
             return Ok(Flow::On);
@@ -70,27 +63,6 @@ pub(crate) fn turns<W: World>(
         if let Some(last) = last {
             perform(context, depth, last, world, run)?;
         }
-    }
-}
-
-/// The truth of a test that may be missing; then it holds.
-#[cycle(evaluate)]
-pub(crate) fn truth_or_true<W: World>(
-    context: Context<'_>,
-    depth: u64,
-    test: Option<&Expr>,
-    world: &mut W,
-    run: &mut Run<'_>,
-) -> Result<Result<bool, Fault>, Halt>
-    ensures left { run.new.left ≤ run.old.left }
-    ensures outcome { Yields (λ truth. truth)
-        (test_or_true W.calls (eres_of context.entry) (enter_of W.calls context.entry depth)
-        (contexts.test_view test.entry)
-        (moment (W.state world.old) run.old)) result (moment (W.state world.new) run.new) }
-{
-    match test {
-        None => Ok(Ok(true)),
-        Some(e) => truth(context, depth, e, world, run),
     }
 }
 
@@ -115,28 +87,8 @@ pub(crate) fn walk<W: World>(
         (moment (W.state world.old) run.old)) result (moment (W.state world.new) run.new) }
 {
     let table = table_of(&run.frame, array);
-    let keys = array_keys(table, world, run)?;
-    visit(context, depth, variable, &keys, body, world, run)
-}
-
-/// Runs a body for each of these keys.
-#[cycle(evaluate)]
-pub(crate) fn visit<W: World>(
-    context: Context<'_>,
-    depth: u64,
-    variable: Variable,
-    keys: &Texts,
-    body: &[Statement],
-    world: &mut W,
-    run: &mut Run<'_>,
-) -> Result<Flow, Halt>
-    ensures left { run.new.left ≤ run.old.left }
-    ensures outcome { Yields way_of
-        (visit_keys W.calls keys.now (variable_aim variable)
-        (execs W.calls (eres_of context.entry) (enter_of W.calls context.entry depth)
-        (seen body.now))
-        (moment (W.state world.old) run.old)) result (moment (W.state world.new) run.new) }
-{
+    let all = array_keys(table, world, run)?;
+    let keys = &all;
     for i in 0..keys.len() {
         tick(world, run)?;
         set_key(variable, keys.text(i), world, run)?;

@@ -2,12 +2,12 @@
 //!
 //! POSIX.1-2017, awk, "Expressions in awk" and "String Functions".
 
-ghost use Rattle.std.specs.Prelude.{◌≡◌, ◌≤◌, ◌++◌, length, take, drop, OnOk};
+ghost use Rattle.std.specs.Prelude.{◌≡◌, ◌≤◌, ◌++◌, length, OnOk};
 ghost use Rattle.pawk_value.specs.Held.{added};
 ghost use Rattle.pawk_code.specs.Expressions.{exprs};
 ghost use Rattle.pawk_code.specs.Expressions as codes;
 ghost use Rattle.pawk_code.specs.ExpressionViews.{format_view, textual_view, views};
-ghost use Rattle.pawk_meaning.specs.Meaning.{joined_texts, suffixed, text_of_textual};
+ghost use Rattle.pawk_meaning.specs.Meaning.{joined_texts, text_of_textual};
 ghost use Rattle.pawk_places.specs.Moments.{moment};
 ghost use Rattle.pawk_places.specs.Yields.{Yields};
 ghost use Rattle.pawk_eval.specs.Contexts.{enter_of, eres_of};
@@ -150,33 +150,11 @@ pub(crate) fn join<W: World>(
         Some((first, rest)) => {
             let start = out.len();
             text_into(context, depth, first, out, world, run)?;
-            suffixes(context, depth, start, rest, out, world, run)
+            for e in rest {
+                text_into(context, depth, e, out, world, run)?;
+                within_limit(&out[start..])?;
+            }
+            Ok(())
         }
     }
-}
-
-/// Appends the texts of expressions, each of which is behind what stands in `out` from `start` on.
-#[cycle(evaluate)]
-pub(crate) fn suffixes<W: World>(
-    context: Context<'_>,
-    depth: u64,
-    start: usize,
-    es: &[Expr],
-    out: &mut Vec<u8>,
-    world: &mut W,
-    run: &mut Run<'_>,
-) -> Result<(), Halt>
-    requires { start ≤ length out.old.items }
-    ensures left { run.new.left ≤ run.old.left }
-    ensures front { OnOk result (take start out.new.items ≡ take start out.old.items) }
-    ensures outcome { Yields (λ _. drop start out.new.items)
-        (suffixed W.calls (eres_of context.entry) (enter_of W.calls context.entry depth)
-        (exprs (views es.now)) (drop start out.old.items)
-        (moment (W.state world.old) run.old)) result (moment (W.state world.new) run.new) }
-{
-    for e in es {
-        text_into(context, depth, e, out, world, run)?;
-        within_limit(&out[start..])?;
-    }
-    Ok(())
 }

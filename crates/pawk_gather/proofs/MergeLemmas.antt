@@ -8,9 +8,9 @@ use Rattle.pawk_join.specs.Tables.{all_take}
 use Rattle.pawk_join.specs.Merges.{Chunk, Stop, at_cell, with_chunk, behind, merge}
 use Rattle.pawk_chunk.specs.declared.chunk.ChunkResult.{ChunkResult}
 use Rattle.pawk_join.specs.MergeViews.{leaving_view, part_view}
-use Rattle.pawk_part.specs.Ends.{left_view}
-use Rattle.pawk_part.specs.declared.left.Left.{Left}
-use Rattle.pawk_part.specs.declared.left.Left.TheVariants as left
+use Rattle.pawk_chunk.specs.Ends.{left_view}
+use Rattle.pawk_chunk.specs.Left.{Left}
+use Rattle.pawk_chunk.specs.Left.TheVariants as left
 use Rattle.pawk_gather.specs.Results.{chunk_of, leaving_of, part_of}
 use Rattle.pawk_gather.specs.Gathered.{behind_output}
 

@@ -1,8 +1,8 @@
 -- What a merge takes of the results of chunks.
 use Rattle.pawk_store.specs.StateViews.{state_of}
-use Rattle.pawk_part.specs.Ends.{left_view}
-use Rattle.pawk_part.specs.declared.left.Left.{Left}
-use Rattle.pawk_part.specs.declared.left.Left.TheVariants as left
+use Rattle.pawk_chunk.specs.Ends.{left_view}
+use Rattle.pawk_chunk.specs.Left.{Left}
+use Rattle.pawk_chunk.specs.Left.TheVariants as left
 use Rattle.pawk_join.specs.Merges.{Chunk}
 use Rattle.pawk_join.specs.declared.parts.Leaving.{Leaving}
 use Rattle.pawk_join.specs.declared.parts.Leaving.TheVariants as leaving

@@ -5,3 +5,5 @@ pub mod law;
 mod merging;
 
 pub use merging::merge_results;
+pub use pawk_chunk::{ChunkResult, Opening, run_chunk};
+pub use pawk_chunks::may_run;

@@ -8,9 +8,8 @@ ghost use Rattle.pawk_join.specs.MergeViews.{Merges};
 ghost use Rattle.pawk_gather.specs.Results.{chunk_of};
 ghost use Rattle.pawk_gather.specs.Results as results;
 
-use pawk_chunk::ChunkResult;
+use pawk_chunk::{ChunkResult, Left};
 use pawk_join::{JoinStop, Leaving, Merged, Part, merge};
-use pawk_part::Left;
 use pawk_store::{Globals, RecordState};
 use std::alloc::{AllocError, Global};
 

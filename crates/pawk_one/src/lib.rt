@@ -12,4 +12,5 @@ pub use finish::Finish;
 pub use outcome::{Outcome, opening_run, run_one};
 pub use output::Output;
 pub use pawk_part::{Job, Left, actions, record, run_records};
+pub use pawk_places::Run;
 pub use whole::{make_ready, run_begin, run_behind_begin, run_behind_records, run_program};

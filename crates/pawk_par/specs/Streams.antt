@@ -8,8 +8,8 @@ use Rattle.pawk_input.specs.declared.files.TheConstants.{LIMIT}
 use Rattle.pawk_store.specs.Globals.{Globals}
 use Rattle.pawk_meaning.specs.Records.{End}
 use Rattle.pawk_meaning.specs.Runs.{Finish, reads_records}
-use Rattle.pawk_one.specs.Ends.{ending_view}
-use Rattle.pawk_one.specs.declared.ending.Ending.{Ending}
+use Rattle.pawk_threads.specs.Ends.{ending_view}
+use Rattle.pawk_threads.specs.Ending.{Ending}
 use Rattle.pawk_threads.specs.Cuttings.{HasNoPlan}
 use Rattle.pawk_threads.specs.Routes.{IsRoute, begin_end, whole_run}
 use Rattle.pawk_threads.specs.declared.report.Report.{Report}

@@ -9,12 +9,11 @@ mod streaming;
 mod writing;
 
 pub use pawk_device::{Failed, Reader, Sink, Source, Writer};
-pub use pawk_one::{Ending, Job, Left, Outcome, Place};
 pub use pawk_settings::SettingsRefusal;
 pub use pawk_syntax::SyntaxRefusal;
 pub use pawk_threads::{
-    ChunkResult, Chunked, Cutting, Gate, Open, Opening, Refusal, Report, Route, Task, Way,
-    merge_results, run, run_chunk, work,
+    ChunkResult, Chunked, Cutting, Ending, Gate, Job, Left, Open, Opening, Outcome, Place, Refusal,
+    Report, Route, Task, Way, merge_results, run, run_chunk, work,
 };
 pub use refusal::StreamRefusal;
 pub use request::Request;

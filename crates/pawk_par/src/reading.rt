@@ -11,7 +11,7 @@ ghost use Rattle.pawk_par.specs.Streams.{AreBytes, IsInput, WhyUnread, standard_
 use crate::refusal::StreamRefusal;
 use pawk_device::{ReadStop, Source, read_all};
 use pawk_input::{Input, TooLarge};
-use pawk_one::Job;
+use pawk_threads::Job;
 use std::alloc::{AllocError, Global};
 
 /// One file without a name of these bytes.

@@ -7,7 +7,7 @@ ghost use Rattle.pawk_par.specs.Streams.{TookPart, WhyUnwritten};
 
 use crate::refusal::StreamRefusal;
 use pawk_device::{Sink, write_all};
-use pawk_one::Output;
+use pawk_threads::Output;
 
 /// How many bytes these parts have together, where 64 bits tell it.
 fn size_of_all(parts: &[Vec<u8>]) -> Option<u64>

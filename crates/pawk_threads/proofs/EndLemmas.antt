@@ -7,7 +7,7 @@ use Rattle.pawk_store.specs.Globals.{Globals, calls}
 use Rattle.pawk_admit.specs.Roles.{Roles}
 use Rattle.pawk_meaning.specs.Records.{End}
 use Rattle.pawk_meaning.specs.Runs.{Finish, records_from, behind_records, records_by_rs, take_separator}
-use Rattle.pawk_chunks.specs.Phases.{Phase}
+use Rattle.pawk_gather.specs.Phases.{Phase}
 use Rattle.pawk_threads.specs.Prologue.{IsTaken}
 use Rattle.pawk_threads.specs.Routes.{phase_behind, separator_of}
 

@@ -15,10 +15,10 @@ use Rattle.pawk_join.specs.Merges.{Stop, at_cell, at_fault, at_clash, merge, bef
 use Rattle.pawk_join.specs.MergeViews.{stop_of}
 use Rattle.pawk_join.specs.declared.stop.JoinStop.{JoinStop}
 use Rattle.pawk_join.specs.declared.stop.JoinStop.TheVariants.{Cell, Fault, Clash, Memory}
-use Rattle.pawk_chunk.specs.Chunks.{Opening, chunk_end, AreResults}
-use Rattle.pawk_chunk.specs.declared.chunk.ChunkResult.{ChunkResult}
-use Rattle.pawk_chunks.specs.Ready.{MayRunFrom}
-use Rattle.pawk_chunks.specs.Phases.{Phase, FaultsOrCreates, in_order}
+use Rattle.pawk_gather.specs.Chunks.{Opening, chunk_end, AreResults}
+use Rattle.pawk_gather.specs.ChunkResult.{ChunkResult}
+use Rattle.pawk_gather.specs.Ready.{MayRunFrom}
+use Rattle.pawk_gather.specs.Phases.{Phase, FaultsOrCreates, in_order}
 use Rattle.pawk_gather.specs.Gathered.{behind_output, ResultsLaw}
 use Rattle.pawk_gather.specs.Results.{chunk_of}
 use Rattle.pawk_threads.specs.declared.report.Refusal.TheVariants as refusal

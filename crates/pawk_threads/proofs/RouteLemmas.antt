@@ -16,7 +16,7 @@ use Rattle.pawk_admit.specs.Reaches.{Occurs}
 use Rattle.pawk_admit.specs.Roles.{Roles, role_of_array}
 use Rattle.pawk_meaning.specs.Records.{End}
 use Rattle.pawk_meaning.specs.Runs.{Finish, behind_begin, records_by_rs, ends_from, reads_records, take_separator}
-use Rattle.pawk_chunks.specs.Phases.{FaultsOrCreates}
+use Rattle.pawk_gather.specs.Phases.{FaultsOrCreates}
 use Rattle.pawk_one.specs.Ends.{Answers}
 use Rattle.pawk_one.specs.declared.outcome.Outcome.{Outcome}
 use Rattle.pawk_threads.specs.Prologue.{Goes}

@@ -9,7 +9,7 @@ use Rattle.pawk_join.specs.MergeViews.{leaving_view}
 use Rattle.pawk_join.specs.MergeViews as merges
 use Rattle.pawk_join.specs.declared.merging.Merged.{Merged}
 use Rattle.pawk_gather.specs.Gathered.{behind_output}
-use Rattle.pawk_part.specs.Ends.{end_view}
+use Rattle.pawk_gather.specs.Ends.{end_view}
 use Rattle.pawk_one.specs.Ends.{Answers}
 use Rattle.pawk_one.specs.declared.ending.Ending.{Ending}
 use Rattle.pawk_one.specs.declared.outcome.Outcome.{Outcome}

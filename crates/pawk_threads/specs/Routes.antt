@@ -12,7 +12,7 @@ use Rattle.pawk_admit.specs.Reaches.{Occurs}
 use Rattle.pawk_admit.specs.Roles.{Roles}
 use Rattle.pawk_meaning.specs.Records.{End, through, run_part, actions}
 use Rattle.pawk_meaning.specs.Runs.{Finish, reads_records, take_separator, run}
-use Rattle.pawk_chunks.specs.Phases.{Phase, FaultsOrCreates}
+use Rattle.pawk_gather.specs.Phases.{Phase, FaultsOrCreates}
 use Rattle.pawk_threads.specs.declared.report.Route.{Route}
 use Rattle.pawk_threads.specs.declared.report.Route.TheVariants.{NoMain, NotAdmitted, Redo, Parallel}
 

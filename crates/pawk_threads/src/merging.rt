@@ -8,15 +8,14 @@ ghost use Rattle.pawk_meaning.specs.Runs.{behind_records};
 ghost use Rattle.pawk_meaning.specs.Outputs.{in_a_row};
 ghost use Rattle.pawk_join.specs.MergeViews.{leaving_view};
 ghost use Rattle.pawk_join.specs.MergeViews as merges;
-ghost use Rattle.pawk_part.specs.Ends.{left_view};
+ghost use Rattle.pawk_gather.specs.Ends.{left_view};
 ghost use Rattle.pawk_one.specs.Ends.{Answers};
 ghost use Rattle.pawk_gather.specs.Gathered.{behind_output};
 ghost use Rattle.pawk_threads.specs.Prologue.{outcome_of};
 
 use crate::prologue::Prologue;
 use pawk_join::{JoinStop, Leaving, Merged};
-use pawk_one::{Ending, Job, Left, Outcome, Output, run_behind_records};
-use pawk_places::Run;
+use pawk_one::{Ending, Job, Left, Outcome, Output, Run, run_behind_records};
 use pawk_store::{Globals, Specials};
 use std::alloc::{AllocError, Global};
 use std::mem;

@@ -6,16 +6,15 @@ ghost use Rattle.pawk_input.specs.Input.{IsReady, files_of};
 ghost use Rattle.pawk_store.specs.Globals.{calls};
 ghost use Rattle.pawk_store.specs.Openings.{pairs_of};
 ghost use Rattle.pawk_meaning.specs.Runs as spec;
-ghost use Rattle.pawk_part.specs.Ends.{left_view};
+ghost use Rattle.pawk_gather.specs.Ends.{left_view};
 ghost use Rattle.pawk_one.specs.Ends.{Answers};
 ghost use Rattle.pawk_threads.specs.Prologue.{end_of};
 ghost use Rattle.pawk_threads.specs.Routes.{HasRecords, begin_end, separator_of};
 
 use pawk_input::Input;
 use pawk_one::{
-    Finish, Job, Left, Outcome, Output, make_ready, opening_run, run_begin, run_behind_begin,
+    Finish, Job, Left, Outcome, Output, Run, make_ready, opening_run, run_begin, run_behind_begin,
 };
-use pawk_places::Run;
 use pawk_settings::Assignment;
 use pawk_store::Globals;
 use std::alloc::{AllocError, Global};

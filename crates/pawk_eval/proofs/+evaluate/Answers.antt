@@ -1,4 +1,4 @@
-use Rattle.std.proofs.Common.{◌≡◌, ◌+◌, ◌-◌, ◌<◌, ◌≤◌, ◌∙◌, List, ℕ, suc, [], drop, drop-cons, length, Result, Ok, Err, Some, rules, arith, ap, sym, refl, Vec, Global, add-one}
+use Rattle.std.proofs.Common.{◌≡◌, ◌+◌, ◌-◌, ◌<◌, ◌≤◌, ◌∙◌, List, ℕ, suc, [], ◌∷◌, drop, drop-cons, length, Result, Ok, Err, Some, rules, arith, ap, sym, refl, Vec, Global, add-one}
 use Rattle.std.proofs.lemmas.Grind.{common_steps}
 use Rattle.pawk_value.specs.Fault.{Fault}
 use Rattle.pawk_world.specs.Halts.{Halt, halt_of, fault}
@@ -9,7 +9,7 @@ use Rattle.pawk_code.specs.StatementViews.{seen, simple_view, stmt_view}
 use Rattle.pawk_code.specs.ProgramViews.{function_view}
 use Rattle.pawk_meaning.specs.Builtins.{within_limit}
 use Rattle.pawk_meaning.specs.Parts.{gives, halts, then_do, Entry, entry_of, settle}
-use Rattle.pawk_meaning.specs.Meaning.{eval, execs, texts_of, values_of, arguments_of, suffixed, while_loop, visit_keys, test_or_true, act_or_none}
+use Rattle.pawk_meaning.specs.Meaning.{eval, execs, texts_of, values_of, arguments_of, suffixed, joined_texts, while_loop, visit_keys, for_keys, test_or_true, act_or_none}
 use Rattle.pawk_meaning.specs.Places.{variable_aim}
 use Rattle.pawk_places.specs.declared.run.Parameter.{Parameter}
 use Rattle.pawk_places.specs.Moments.{holds_of, moment}
@@ -24,6 +24,7 @@ use Rattle.pawk_eval.proofs.Shapes.{call_shape, member_shape, join_shape, format
 use Rattle.pawk_eval.proofs.Turns.{turn_is, turn_no_step}
 use Rattle.pawk_eval.proofs.Weights.{rank, rank_falls, weight, row_weight, place_weight, test_weight, textual_weight, format_weight, argument_weight, arguments_weight, simple_weight, statement_weight, body_weight, body_in_list}
 use Rattle.pawk_eval.proofs.+evaluate.Goals as goal
+use Rattle.pawk_eval.proofs.+evaluate.Goals.{loops::turns-in-None, loops::turns-in-Some+in_ok-truth-in-Some}
 
 -- ---- nodes with rows
 
@@ -191,9 +192,13 @@ pub operands::values-eval-requires : goal.operands::values-eval-requires
 operands::values-eval-requires g t c =
     let w = expr_in_row c.args.es.now c.loop-e.e-index c.e-item.result c.loop-e-test.true in let d = ap (λ e. weight (view e)) c.e-item.is in search rules
 
-pub strings::suffixes-text_into-requires : goal.strings::suffixes-text_into-requires
-strings::suffixes-text_into-requires g t c =
-    let w = expr_in_row c.args.es.now c.loop-e.e-index c.e-item.result c.loop-e-test.true in let d = ap (λ e. weight (view e)) c.e-item.is in search rules
+pub strings::join-text_into-requires-in-loop-e : goal.strings::join-text_into-requires-in-loop-e
+strings::join-text_into-requires-in-loop-e g t c =
+    let w = expr_in_row c.in-Some.rest.now c.loop-e.e-index c.e-item.result c.loop-e-test.true in
+    let d = ap (λ e. weight (view e)) c.e-item.is in
+    let whole : c.args.es.now ≡ c.in-Some.first.now ∷ c.in-Some.rest.now = grind (arith, common_steps) in
+    let row = ap (λ es. row_weight (exprs (views es))) whole in
+    search rules
 
 pub statements::execute-statement-requires : goal.statements::execute-statement-requires
 statements::execute-statement-requires g t c =
@@ -245,30 +250,32 @@ operands::values-returns-in_err-held-clause-outcome g t c =
     let stops : (h : Halt) → halt_of c.in_err-held.field-0.0 ≡ Some h → values_of g.W.World.calls eres enter (exprs (views c.args.es.now)) c.args.parts.now (moment (g.W.World.state c.args.world.now) c.args.run.now) ≡ halts h (g.W.World.state c.eval.new.world) (state_of c.eval.new.run.state) c.eval.new.run.output.items = λ h is. sym c.loop-e.invariant.0 ∙ value_in_row_halts g.W.World.calls eres enter c.args.es.now c.loop-e.e-index c.e-item.result c.loop-e.parts (moment (g.W.World.state c.loop-e.world) c.loop-e.run) h _ _ _ c.loop-e-test.true c.e-item.is (c.in_err-held.ensures.outcome h is) in
     search rules
 
-pub strings::suffixes-returns-in_err-text_into-clause-outcome : goal.strings::suffixes-returns-in_err-text_into-clause-outcome
-strings::suffixes-returns-in_err-text_into-clause-outcome g t c =
+pub strings::join-returns-in_err-text_into-in-Some-2-clause-outcome : goal.strings::join-returns-in_err-text_into-in-Some-2-clause-outcome
+strings::join-returns-in_err-text_into-in-Some-2-clause-outcome g t c =
     let eres = eres_of c.args.context in
     let enter = enter_of g.W.World.calls c.args.context c.args.depth in
-    let stops : (h : Halt) → halt_of c.in_err-text_into.field-0.0 ≡ Some h → suffixed g.W.World.calls eres enter (exprs (views c.args.es.now)) (drop c.args.start c.args.out.now.items) (moment (g.W.World.state c.args.world.now) c.args.run.now) ≡ halts h (g.W.World.state c.text_into.new.world) (state_of c.text_into.new.run.state) c.text_into.new.run.output.items = λ h is. sym c.loop-e.invariant.0 ∙ operand_halts g.W.World.calls eres enter c.args.es.now c.loop-e.e-index c.e-item.result c.args.start c.loop-e.out.items (moment (g.W.World.state c.loop-e.world) c.loop-e.run) h _ _ _ c.loop-e-test.true c.e-item.is (c.in_err-text_into.ensures.outcome h is) in
+    let stops : (h : Halt) → halt_of c.in_err-text_into-in-Some-2.field-0.0 ≡ Some h → joined_texts g.W.World.calls eres enter (exprs (views c.args.es.now)) (moment (g.W.World.state c.args.world.now) c.args.run.now) ≡ halts h (g.W.World.state c.text_into-in-loop-e.new.world) (state_of c.text_into-in-loop-e.new.run.state) c.text_into-in-loop-e.new.run.output.items = λ h is. sym c.loop-e.invariant.0 ∙ operand_halts g.W.World.calls eres enter c.in-Some.rest.now c.loop-e.e-index c.e-item.result c.len-start.result c.loop-e.out.items (moment (g.W.World.state c.loop-e.world) c.loop-e.run) h _ _ _ c.loop-e-test.true c.e-item.is (c.in_err-text_into-in-Some-2.ensures.outcome h is) in
     search rules
 
-pub strings::suffixes-returns-in_err-within_limit-clause-outcome : goal.strings::suffixes-returns-in_err-within_limit-clause-outcome
-strings::suffixes-returns-in_err-within_limit-clause-outcome g t c =
+pub strings::join-returns-in_err-within_limit-in-Some-clause-outcome : goal.strings::join-returns-in_err-within_limit-in-Some-clause-outcome
+strings::join-returns-in_err-within_limit-in-Some-clause-outcome g t c =
     let eres = eres_of c.args.context in
     let enter = enter_of g.W.World.calls c.args.context c.args.depth in
-    let next = operand_next g.W.World.calls eres enter c.args.es.now c.loop-e.e-index c.e-item.result c.args.start c.loop-e.out.items c.text_into.new.out.items (moment (g.W.World.state c.loop-e.world) c.loop-e.run) _ c.loop-e-test.true c.e-item.is c.loop-e.invariant.3 c.in_ok-text_into.ensures.outcome in
-    let long : within_limit (drop c.args.start c.text_into.new.out.items) ≡ Err c.in_err-within_limit.field-0.0 = grind (arith, common_steps) in
-    let stops : suffixed g.W.World.calls eres enter (exprs (views c.args.es.now)) (drop c.args.start c.args.out.now.items) (moment (g.W.World.state c.args.world.now) c.args.run.now) ≡ halts (fault c.in_err-within_limit.field-0.0) (g.W.World.state c.text_into.new.world) (state_of c.text_into.new.run.state) c.text_into.new.run.output.items = sym c.loop-e.invariant.0 ∙ next ∙ rw long refl in
+    let start = c.len-start.result in
+    let next = operand_next g.W.World.calls eres enter c.in-Some.rest.now c.loop-e.e-index c.e-item.result start c.loop-e.out.items c.text_into-in-loop-e.new.out.items (moment (g.W.World.state c.loop-e.world) c.loop-e.run) _ c.loop-e-test.true c.e-item.is c.loop-e.invariant.3 c.in_ok-text_into-in-Some-2.ensures.outcome in
+    let long : within_limit (drop start c.text_into-in-loop-e.new.out.items) ≡ Err c.in_err-within_limit-in-Some.field-0.0 = grind (arith, common_steps) in
+    let stops : joined_texts g.W.World.calls eres enter (exprs (views c.args.es.now)) (moment (g.W.World.state c.args.world.now) c.args.run.now) ≡ halts (fault c.in_err-within_limit-in-Some.field-0.0) (g.W.World.state c.text_into-in-loop-e.new.world) (state_of c.text_into-in-loop-e.new.run.state) c.text_into-in-loop-e.new.run.output.items = sym c.loop-e.invariant.0 ∙ next ∙ rw long refl in
     search rules
 
-pub strings::suffixes-loop-e-preserved : goal.strings::suffixes-loop-e-preserved
-strings::suffixes-loop-e-preserved g t c =
+pub strings::join-loop-e-preserved : goal.strings::join-loop-e-preserved
+strings::join-loop-e-preserved g t c =
     let eres = eres_of c.args.context in
     let enter = enter_of g.W.World.calls c.args.context c.args.depth in
-    let next = operand_next g.W.World.calls eres enter c.args.es.now c.loop-e.e-index c.e-item.result c.args.start c.loop-e.out.items c.text_into.new.out.items (moment (g.W.World.state c.loop-e.world) c.loop-e.run) _ c.loop-e-test.true c.e-item.is c.loop-e.invariant.3 c.in_ok-text_into.ensures.outcome in
-    let short : within_limit (drop c.args.start c.text_into.new.out.items) ≡ Ok (drop c.args.start c.text_into.new.out.items) = grind (arith, common_steps) in
-    let parts = text_behind (eval g.W.World.calls eres enter (view c.e-item.result)) c.args.start c.loop-e.out.items c.text_into.new.out.items (moment (g.W.World.state c.loop-e.world) c.loop-e.run) _ c.loop-e.invariant.3 c.in_ok-text_into.ensures.outcome in
-    let rest = sym c.loop-e.invariant.0 ∙ next ∙ ap (λ (r : Result (List ℕ) Fault). then_do (settle r (moment (g.W.World.state c.text_into.new.world) c.text_into.new.run)) (suffixed g.W.World.calls eres enter (exprs (views (drop (suc c.loop-e.e-index) c.args.es.now))))) short in
+    let start = c.len-start.result in
+    let next = operand_next g.W.World.calls eres enter c.in-Some.rest.now c.loop-e.e-index c.e-item.result start c.loop-e.out.items c.text_into-in-loop-e.new.out.items (moment (g.W.World.state c.loop-e.world) c.loop-e.run) _ c.loop-e-test.true c.e-item.is c.loop-e.invariant.3 c.in_ok-text_into-in-Some-2.ensures.outcome in
+    let short : within_limit (drop start c.text_into-in-loop-e.new.out.items) ≡ Ok (drop start c.text_into-in-loop-e.new.out.items) = grind (arith, common_steps) in
+    let parts = text_behind (eval g.W.World.calls eres enter (view c.e-item.result)) start c.loop-e.out.items c.text_into-in-loop-e.new.out.items (moment (g.W.World.state c.loop-e.world) c.loop-e.run) _ c.loop-e.invariant.3 c.in_ok-text_into-in-Some-2.ensures.outcome in
+    let rest = sym c.loop-e.invariant.0 ∙ next ∙ ap (λ (r : Result (List ℕ) Fault). then_do (settle r (moment (g.W.World.state c.text_into-in-loop-e.new.world) c.text_into-in-loop-e.new.run)) (suffixed g.W.World.calls eres enter (exprs (views (drop (suc c.loop-e.e-index) c.in-Some.rest.now))))) short in
     (rw add-one (sym rest), omega arith, parts.1 ∙ c.loop-e.invariant.2, parts.2)
 
 -- ---- calls
@@ -337,8 +344,8 @@ loops::turns-returns-in_err-tick-clause-outcome g t c =
     let stops : (h : Halt) → halt_of c.in_err-tick.field-0.0 ≡ Some h → while_loop check body last (moment (g.W.World.state c.args.world.now) c.args.run.now) ≡ halts h (g.W.World.state c.turns.world) (state_of c.tick.new.run.state) c.tick.new.run.output.items = λ h is. sym c.turns.invariant.0.2 ∙ turn_no_step c.turns.invariant.0.0 check body last (moment (g.W.World.state c.turns.world) c.turns.run) h _ _ _ c.turns.invariant.0.1 (c.in_err-tick.ensures.outcome h is) in
     search rules
 
-pub loops::turns-returns-in_err-truth-clause-outcome : goal.loops::turns-returns-in_err-truth-clause-outcome
-loops::turns-returns-in_err-truth-clause-outcome g t c =
+pub loops::turns-returns-in_err-truth-in-Some-clause-outcome : goal.loops::turns-returns-in_err-truth-in-Some-clause-outcome
+loops::turns-returns-in_err-truth-in-Some-clause-outcome g t c =
     let eres = eres_of c.args.context in
     let enter = enter_of g.W.World.calls c.args.context c.args.depth in
     let check = test_or_true g.W.World.calls eres enter (contexts.test_view c.args.test) in
@@ -346,7 +353,9 @@ loops::turns-returns-in_err-truth-clause-outcome g t c =
     let last = act_or_none g.W.World.calls eres enter (last_view c.args.last) in
     let turn = turn_is c.turns.invariant.0.0 check body last (moment (g.W.World.state c.turns.world) c.turns.run) _ c.turns.invariant.0.1 c.in_ok-tick.ensures.outcome in
     let whole = sym c.turns.invariant.0.2 ∙ turn.2 in
-    let stops : (h : Halt) → halt_of c.in_err-truth.field-0.0 ≡ Some h → while_loop check body last (moment (g.W.World.state c.args.world.now) c.args.run.now) ≡ halts h (g.W.World.state c.truth_or_true.new.world) (state_of c.truth_or_true.new.run.state) c.truth_or_true.new.run.output.items = λ h is. rw (whole, c.in_err-truth.ensures.outcome h is) in
+    let stops : (h : Halt) → halt_of c.in_err-truth-in-Some.field-0.0 ≡ Some h → while_loop check body last (moment (g.W.World.state c.args.world.now) c.args.run.now) ≡ halts h (g.W.World.state c.truth.new.world) (state_of c.truth.new.run.state) c.truth.new.run.output.items = λ h is.
+    let tested : check (moment (g.W.World.state c.turns.world) c.tick.new.run) ≡ halts h (g.W.World.state c.truth.new.world) (state_of c.truth.new.run.state) c.truth.new.run.output.items = (let stopped = c.in_err-truth-in-Some.ensures.outcome h is in grind (arith, common_steps)) in
+    rw (whole, tested) in
     search rules
 
 pub loops::turns-returns-in_err-holds-clause-outcome : goal.loops::turns-returns-in_err-holds-clause-outcome
@@ -358,7 +367,9 @@ loops::turns-returns-in_err-holds-clause-outcome g t c =
     let last = act_or_none g.W.World.calls eres enter (last_view c.args.last) in
     let turn = turn_is c.turns.invariant.0.0 check body last (moment (g.W.World.state c.turns.world) c.turns.run) _ c.turns.invariant.0.1 c.in_ok-tick.ensures.outcome in
     let whole = sym c.turns.invariant.0.2 ∙ turn.2 in
-    let stops : while_loop check body last (moment (g.W.World.state c.args.world.now) c.args.run.now) ≡ halts (fault c.in_err-holds.field-0.0) (g.W.World.state c.truth_or_true.new.world) (state_of c.truth_or_true.new.run.state) c.truth_or_true.new.run.output.items = rw (whole, c.in_ok-truth.ensures.outcome, c.in_err-holds.was) in
+    let checked : check (moment (g.W.World.state c.turns.world) c.tick.new.run) ≡ gives c.match-test.truth (moment (g.W.World.state c.match-test.world) c.match-test.run) = elim c.match-test.branch [ loops::turns-in-None w ↦ grind (arith, common_steps) | loops::turns-in-Some+in_ok-truth-in-Some w ↦ grind (arith, common_steps) ] in
+    let fewer : c.match-test.run.left ≤ c.tick.new.run.left = elim c.match-test.branch [ loops::turns-in-None w ↦ grind (arith, common_steps) | loops::turns-in-Some+in_ok-truth-in-Some w ↦ grind (arith, common_steps) ] in
+    let stops : while_loop check body last (moment (g.W.World.state c.args.world.now) c.args.run.now) ≡ halts (fault c.in_err-holds.field-0.0) (g.W.World.state c.match-test.world) (state_of c.match-test.run.state) c.match-test.run.output.items = rw (whole, checked, c.in_err-holds.was) in
     search rules
 
 pub loops::turns-returns-then-not-holds-clause-outcome : goal.loops::turns-returns-then-not-holds-clause-outcome
@@ -370,7 +381,9 @@ loops::turns-returns-then-not-holds-clause-outcome g t c =
     let last = act_or_none g.W.World.calls eres enter (last_view c.args.last) in
     let turn = turn_is c.turns.invariant.0.0 check body last (moment (g.W.World.state c.turns.world) c.turns.run) _ c.turns.invariant.0.1 c.in_ok-tick.ensures.outcome in
     let whole = sym c.turns.invariant.0.2 ∙ turn.2 in
-    rw (whole, c.in_ok-truth.ensures.outcome, c.in_ok-holds.was, c.if-not-holds.true)
+    let checked : check (moment (g.W.World.state c.turns.world) c.tick.new.run) ≡ gives c.match-test.truth (moment (g.W.World.state c.match-test.world) c.match-test.run) = elim c.match-test.branch [ loops::turns-in-None w ↦ grind (arith, common_steps) | loops::turns-in-Some+in_ok-truth-in-Some w ↦ grind (arith, common_steps) ] in
+    let fewer : c.match-test.run.left ≤ c.tick.new.run.left = elim c.match-test.branch [ loops::turns-in-None w ↦ grind (arith, common_steps) | loops::turns-in-Some+in_ok-truth-in-Some w ↦ grind (arith, common_steps) ] in
+    rw (whole, checked, c.in_ok-holds.was, c.if-not-holds.true)
 
 pub loops::turns-returns-in_err-flow-clause-outcome : goal.loops::turns-returns-in_err-flow-clause-outcome
 loops::turns-returns-in_err-flow-clause-outcome g t c =
@@ -381,11 +394,13 @@ loops::turns-returns-in_err-flow-clause-outcome g t c =
     let last = act_or_none g.W.World.calls eres enter (last_view c.args.last) in
     let turn = turn_is c.turns.invariant.0.0 check body last (moment (g.W.World.state c.turns.world) c.turns.run) _ c.turns.invariant.0.1 c.in_ok-tick.ensures.outcome in
     let whole = sym c.turns.invariant.0.2 ∙ turn.2 in
-    let stops : (h : Halt) → halt_of c.in_err-flow.field-0.0 ≡ Some h → while_loop check body last (moment (g.W.World.state c.args.world.now) c.args.run.now) ≡ halts h (g.W.World.state c.execute.new.world) (state_of c.execute.new.run.state) c.execute.new.run.output.items = λ h is. rw (whole, c.in_ok-truth.ensures.outcome, c.in_ok-holds.was, c.if-not-holds.false, c.in_err-flow.ensures.outcome h is) in
+    let checked : check (moment (g.W.World.state c.turns.world) c.tick.new.run) ≡ gives c.match-test.truth (moment (g.W.World.state c.match-test.world) c.match-test.run) = elim c.match-test.branch [ loops::turns-in-None w ↦ grind (arith, common_steps) | loops::turns-in-Some+in_ok-truth-in-Some w ↦ grind (arith, common_steps) ] in
+    let fewer : c.match-test.run.left ≤ c.tick.new.run.left = elim c.match-test.branch [ loops::turns-in-None w ↦ grind (arith, common_steps) | loops::turns-in-Some+in_ok-truth-in-Some w ↦ grind (arith, common_steps) ] in
+    let stops : (h : Halt) → halt_of c.in_err-flow.field-0.0 ≡ Some h → while_loop check body last (moment (g.W.World.state c.args.world.now) c.args.run.now) ≡ halts h (g.W.World.state c.execute.new.world) (state_of c.execute.new.run.state) c.execute.new.run.output.items = λ h is. rw (whole, checked, c.in_ok-holds.was, c.if-not-holds.false, c.in_err-flow.ensures.outcome h is) in
     search rules
 
-pub loops::turns-returns-in-Some-clause-outcome : goal.loops::turns-returns-in-Some-clause-outcome
-loops::turns-returns-in-Some-clause-outcome g t c =
+pub loops::turns-returns-in-Some-loop_end-clause-outcome : goal.loops::turns-returns-in-Some-loop_end-clause-outcome
+loops::turns-returns-in-Some-loop_end-clause-outcome g t c =
     let eres = eres_of c.args.context in
     let enter = enter_of g.W.World.calls c.args.context c.args.depth in
     let check = test_or_true g.W.World.calls eres enter (contexts.test_view c.args.test) in
@@ -393,7 +408,9 @@ loops::turns-returns-in-Some-clause-outcome g t c =
     let last = act_or_none g.W.World.calls eres enter (last_view c.args.last) in
     let turn = turn_is c.turns.invariant.0.0 check body last (moment (g.W.World.state c.turns.world) c.turns.run) _ c.turns.invariant.0.1 c.in_ok-tick.ensures.outcome in
     let whole = sym c.turns.invariant.0.2 ∙ turn.2 in
-    rw (whole, c.in_ok-truth.ensures.outcome, c.in_ok-holds.was, c.if-not-holds.false, c.in_ok-flow.ensures.outcome, c.in-Some.ensures)
+    let checked : check (moment (g.W.World.state c.turns.world) c.tick.new.run) ≡ gives c.match-test.truth (moment (g.W.World.state c.match-test.world) c.match-test.run) = elim c.match-test.branch [ loops::turns-in-None w ↦ grind (arith, common_steps) | loops::turns-in-Some+in_ok-truth-in-Some w ↦ grind (arith, common_steps) ] in
+    let fewer : c.match-test.run.left ≤ c.tick.new.run.left = elim c.match-test.branch [ loops::turns-in-None w ↦ grind (arith, common_steps) | loops::turns-in-Some+in_ok-truth-in-Some w ↦ grind (arith, common_steps) ] in
+    rw (whole, checked, c.in_ok-holds.was, c.if-not-holds.false, c.in_ok-flow.ensures.outcome, c.in-Some-loop_end.ensures)
 
 pub loops::turns-returns-in_err-perform-clause-outcome : goal.loops::turns-returns-in_err-perform-clause-outcome
 loops::turns-returns-in_err-perform-clause-outcome g t c =
@@ -404,10 +421,12 @@ loops::turns-returns-in_err-perform-clause-outcome g t c =
     let last = act_or_none g.W.World.calls eres enter (last_view c.args.last) in
     let turn = turn_is c.turns.invariant.0.0 check body last (moment (g.W.World.state c.turns.world) c.turns.run) _ c.turns.invariant.0.1 c.in_ok-tick.ensures.outcome in
     let whole = sym c.turns.invariant.0.2 ∙ turn.2 in
+    let checked : check (moment (g.W.World.state c.turns.world) c.tick.new.run) ≡ gives c.match-test.truth (moment (g.W.World.state c.match-test.world) c.match-test.run) = elim c.match-test.branch [ loops::turns-in-None w ↦ grind (arith, common_steps) | loops::turns-in-Some+in_ok-truth-in-Some w ↦ grind (arith, common_steps) ] in
+    let fewer : c.match-test.run.left ≤ c.tick.new.run.left = elim c.match-test.branch [ loops::turns-in-None w ↦ grind (arith, common_steps) | loops::turns-in-Some+in_ok-truth-in-Some w ↦ grind (arith, common_steps) ] in
     let stops : (h : Halt) → halt_of c.in_err-perform.field-0.0 ≡ Some h → while_loop check body last (moment (g.W.World.state c.args.world.now) c.args.run.now) ≡ halts h (g.W.World.state c.perform.new.world) (state_of c.perform.new.run.state) c.perform.new.run.output.items = λ h is.
     let acted = c.in_err-perform.ensures.outcome h is in
     let stopped : last (moment (g.W.World.state c.execute.new.world) c.execute.new.run) ≡ halts h (g.W.World.state c.perform.new.world) (state_of c.perform.new.run.state) c.perform.new.run.output.items = grind (arith, common_steps) in
-    rw (whole, c.in_ok-truth.ensures.outcome, c.in_ok-holds.was, c.if-not-holds.false, c.in_ok-flow.ensures.outcome, c.in_default.ensures, stopped) in
+    rw (whole, checked, c.in_ok-holds.was, c.if-not-holds.false, c.in_ok-flow.ensures.outcome, c.in_default.ensures, stopped) in
     search rules
 
 pub loops::turns-turns-preserved : goal.loops::turns-turns-preserved
@@ -419,9 +438,11 @@ loops::turns-turns-preserved g t c =
     let last = act_or_none g.W.World.calls eres enter (last_view c.args.last) in
     let turn = turn_is c.turns.invariant.0.0 check body last (moment (g.W.World.state c.turns.world) c.turns.run) _ c.turns.invariant.0.1 c.in_ok-tick.ensures.outcome in
     let whole = sym c.turns.invariant.0.2 ∙ turn.2 in
-    let few : c.execute.new.run.left ≤ turn.0 = omega (arith, c.in_ok-tick.ensures.less, turn.1, c.turns.invariant.0.1, c.in_ok-truth.ensures.left, c.in_ok-flow.ensures.left) in
+    let checked : check (moment (g.W.World.state c.turns.world) c.tick.new.run) ≡ gives c.match-test.truth (moment (g.W.World.state c.match-test.world) c.match-test.run) = elim c.match-test.branch [ loops::turns-in-None w ↦ grind (arith, common_steps) | loops::turns-in-Some+in_ok-truth-in-Some w ↦ grind (arith, common_steps) ] in
+    let fewer : c.match-test.run.left ≤ c.tick.new.run.left = elim c.match-test.branch [ loops::turns-in-None w ↦ grind (arith, common_steps) | loops::turns-in-Some+in_ok-truth-in-Some w ↦ grind (arith, common_steps) ] in
+    let few : c.execute.new.run.left ≤ turn.0 = omega (arith, c.in_ok-tick.ensures.less, turn.1, c.turns.invariant.0.1, fewer, c.in_ok-flow.ensures.left) in
     let nothing : last (moment (g.W.World.state c.execute.new.world) c.execute.new.run) ≡ gives tt (moment (g.W.World.state c.execute.new.world) c.execute.new.run) = grind (arith, common_steps) in
-    ((turn.0, few, sym (rw (whole, c.in_ok-truth.ensures.outcome, c.in_ok-holds.was, c.if-not-holds.false, c.in_ok-flow.ensures.outcome, c.in_default.ensures, nothing))), omega arith)
+    ((turn.0, few, sym (rw (whole, checked, c.in_ok-holds.was, c.if-not-holds.false, c.in_ok-flow.ensures.outcome, c.in_default.ensures, nothing))), omega arith)
 
 pub loops::turns-turns-preserved-in-Continue-branch-5 : goal.loops::turns-turns-preserved-in-Continue-branch-5
 loops::turns-turns-preserved-in-Continue-branch-5 g t c =
@@ -432,55 +453,57 @@ loops::turns-turns-preserved-in-Continue-branch-5 g t c =
     let last = act_or_none g.W.World.calls eres enter (last_view c.args.last) in
     let turn = turn_is c.turns.invariant.0.0 check body last (moment (g.W.World.state c.turns.world) c.turns.run) _ c.turns.invariant.0.1 c.in_ok-tick.ensures.outcome in
     let whole = sym c.turns.invariant.0.2 ∙ turn.2 in
-    let few : c.perform.new.run.left ≤ turn.0 = omega (arith, c.in_ok-tick.ensures.less, turn.1, c.turns.invariant.0.1, c.in_ok-truth.ensures.left, c.in_ok-flow.ensures.left, c.in_ok-perform.ensures.left) in
+    let checked : check (moment (g.W.World.state c.turns.world) c.tick.new.run) ≡ gives c.match-test.truth (moment (g.W.World.state c.match-test.world) c.match-test.run) = elim c.match-test.branch [ loops::turns-in-None w ↦ grind (arith, common_steps) | loops::turns-in-Some+in_ok-truth-in-Some w ↦ grind (arith, common_steps) ] in
+    let fewer : c.match-test.run.left ≤ c.tick.new.run.left = elim c.match-test.branch [ loops::turns-in-None w ↦ grind (arith, common_steps) | loops::turns-in-Some+in_ok-truth-in-Some w ↦ grind (arith, common_steps) ] in
+    let few : c.perform.new.run.left ≤ turn.0 = omega (arith, c.in_ok-tick.ensures.less, turn.1, c.turns.invariant.0.1, fewer, c.in_ok-flow.ensures.left, c.in_ok-perform.ensures.left) in
     let acted : last (moment (g.W.World.state c.execute.new.world) c.execute.new.run) ≡ gives tt (moment (g.W.World.state c.perform.new.world) c.perform.new.run) = grind (arith, common_steps) in
-    ((turn.0, few, sym (rw (whole, c.in_ok-truth.ensures.outcome, c.in_ok-holds.was, c.if-not-holds.false, c.in_ok-flow.ensures.outcome, c.in_default.ensures, acted))), omega arith)
+    ((turn.0, few, sym (rw (whole, checked, c.in_ok-holds.was, c.if-not-holds.false, c.in_ok-flow.ensures.outcome, c.in_default.ensures, acted))), omega arith)
 
-pub loops::visit-returns-in_err-tick-clause-outcome : goal.loops::visit-returns-in_err-tick-clause-outcome
-loops::visit-returns-in_err-tick-clause-outcome g t c =
+pub loops::walk-returns-in_err-tick-clause-outcome : goal.loops::walk-returns-in_err-tick-clause-outcome
+loops::walk-returns-in_err-tick-clause-outcome g t c =
     let eres = eres_of c.args.context in
     let enter = enter_of g.W.World.calls c.args.context c.args.depth in
     let body = execs g.W.World.calls eres enter (seen c.args.body.now) in
-    let some : c.loop-i.i < length c.args.keys.now = omega arith in
-    let cons = drop-cons c.args.keys.now c.loop-i.i [] some in
+    let some : c.loop-i.i < length c.in_ok-all.all = omega arith in
+    let cons = drop-cons c.in_ok-all.all c.loop-i.i [] some in
     let whole = sym c.loop-i.invariant.0 ∙ ap (λ ks. visit_keys g.W.World.calls ks (variable_aim c.args.variable) body (moment (g.W.World.state c.loop-i.world) c.loop-i.run)) cons in
-    let stops : (h : Halt) → halt_of c.in_err-tick.field-0.0 ≡ Some h → visit_keys g.W.World.calls c.args.keys.now (variable_aim c.args.variable) body (moment (g.W.World.state c.args.world.now) c.args.run.now) ≡ halts h (g.W.World.state c.loop-i.world) (state_of c.tick.new.run.state) c.tick.new.run.output.items = λ h is. rw (whole, c.in_err-tick.ensures.outcome h is) in
+    let stops : (h : Halt) → halt_of c.in_err-tick.field-0.0 ≡ Some h → for_keys g.W.World.calls c.args.variable c.args.array body (moment (g.W.World.state c.args.world.now) c.args.run.now) ≡ halts h (g.W.World.state c.loop-i.world) (state_of c.tick.new.run.state) c.tick.new.run.output.items = λ h is. rw (whole, c.in_err-tick.ensures.outcome h is) in
     search rules
 
-pub loops::visit-returns-in_err-set_key-clause-outcome : goal.loops::visit-returns-in_err-set_key-clause-outcome
-loops::visit-returns-in_err-set_key-clause-outcome g t c =
+pub loops::walk-returns-in_err-set_key-clause-outcome : goal.loops::walk-returns-in_err-set_key-clause-outcome
+loops::walk-returns-in_err-set_key-clause-outcome g t c =
     let eres = eres_of c.args.context in
     let enter = enter_of g.W.World.calls c.args.context c.args.depth in
     let body = execs g.W.World.calls eres enter (seen c.args.body.now) in
-    let cons = keys_left c.args.keys.now c.loop-i.i c.text.result.now c.text.ensures in
+    let cons = keys_left c.in_ok-all.all c.loop-i.i c.text.result.now c.text.ensures in
     let whole = sym c.loop-i.invariant.0 ∙ ap (λ ks. visit_keys g.W.World.calls ks (variable_aim c.args.variable) body (moment (g.W.World.state c.loop-i.world) c.loop-i.run)) cons in
-    let stops : (h : Halt) → halt_of c.in_err-set_key.field-0.0 ≡ Some h → visit_keys g.W.World.calls c.args.keys.now (variable_aim c.args.variable) body (moment (g.W.World.state c.args.world.now) c.args.run.now) ≡ halts h (g.W.World.state c.set_key.new.world) (state_of c.set_key.new.run.state) c.set_key.new.run.output.items = λ h is. rw (whole, c.in_ok-tick.ensures.outcome, c.in_err-set_key.ensures.outcome h is) in
+    let stops : (h : Halt) → halt_of c.in_err-set_key.field-0.0 ≡ Some h → for_keys g.W.World.calls c.args.variable c.args.array body (moment (g.W.World.state c.args.world.now) c.args.run.now) ≡ halts h (g.W.World.state c.set_key.new.world) (state_of c.set_key.new.run.state) c.set_key.new.run.output.items = λ h is. rw (whole, c.in_ok-tick.ensures.outcome, c.in_err-set_key.ensures.outcome h is) in
     search rules
 
-pub loops::visit-returns-in_err-flow-clause-outcome : goal.loops::visit-returns-in_err-flow-clause-outcome
-loops::visit-returns-in_err-flow-clause-outcome g t c =
+pub loops::walk-returns-in_err-flow-clause-outcome : goal.loops::walk-returns-in_err-flow-clause-outcome
+loops::walk-returns-in_err-flow-clause-outcome g t c =
     let eres = eres_of c.args.context in
     let enter = enter_of g.W.World.calls c.args.context c.args.depth in
     let body = execs g.W.World.calls eres enter (seen c.args.body.now) in
-    let cons = keys_left c.args.keys.now c.loop-i.i c.text.result.now c.text.ensures in
+    let cons = keys_left c.in_ok-all.all c.loop-i.i c.text.result.now c.text.ensures in
     let whole = sym c.loop-i.invariant.0 ∙ ap (λ ks. visit_keys g.W.World.calls ks (variable_aim c.args.variable) body (moment (g.W.World.state c.loop-i.world) c.loop-i.run)) cons in
-    let stops : (h : Halt) → halt_of c.in_err-flow.field-0.0 ≡ Some h → visit_keys g.W.World.calls c.args.keys.now (variable_aim c.args.variable) body (moment (g.W.World.state c.args.world.now) c.args.run.now) ≡ halts h (g.W.World.state c.execute.new.world) (state_of c.execute.new.run.state) c.execute.new.run.output.items = λ h is. rw (whole, c.in_ok-tick.ensures.outcome, c.in_ok-set_key.ensures.outcome, c.in_err-flow.ensures.outcome h is) in
+    let stops : (h : Halt) → halt_of c.in_err-flow.field-0.0 ≡ Some h → for_keys g.W.World.calls c.args.variable c.args.array body (moment (g.W.World.state c.args.world.now) c.args.run.now) ≡ halts h (g.W.World.state c.execute.new.world) (state_of c.execute.new.run.state) c.execute.new.run.output.items = λ h is. rw (whole, c.in_ok-tick.ensures.outcome, c.in_ok-set_key.ensures.outcome, c.in_err-flow.ensures.outcome h is) in
     search rules
 
-pub loops::visit-returns-in-Some-clause-outcome : goal.loops::visit-returns-in-Some-clause-outcome
-loops::visit-returns-in-Some-clause-outcome g t c =
+pub loops::walk-returns-in-Some-clause-outcome : goal.loops::walk-returns-in-Some-clause-outcome
+loops::walk-returns-in-Some-clause-outcome g t c =
     let eres = eres_of c.args.context in
     let enter = enter_of g.W.World.calls c.args.context c.args.depth in
     let body = execs g.W.World.calls eres enter (seen c.args.body.now) in
-    let cons = keys_left c.args.keys.now c.loop-i.i c.text.result.now c.text.ensures in
+    let cons = keys_left c.in_ok-all.all c.loop-i.i c.text.result.now c.text.ensures in
     let whole = sym c.loop-i.invariant.0 ∙ ap (λ ks. visit_keys g.W.World.calls ks (variable_aim c.args.variable) body (moment (g.W.World.state c.loop-i.world) c.loop-i.run)) cons in
     rw (whole, c.in_ok-tick.ensures.outcome, c.in_ok-set_key.ensures.outcome, c.in_ok-flow.ensures.outcome, c.in-Some.ensures)
 
-pub loops::visit-loop-i-preserved : goal.loops::visit-loop-i-preserved
-loops::visit-loop-i-preserved g t c =
+pub loops::walk-loop-i-preserved : goal.loops::walk-loop-i-preserved
+loops::walk-loop-i-preserved g t c =
     let eres = eres_of c.args.context in
     let enter = enter_of g.W.World.calls c.args.context c.args.depth in
     let body = execs g.W.World.calls eres enter (seen c.args.body.now) in
-    let cons = keys_left c.args.keys.now c.loop-i.i c.text.result.now c.text.ensures in
+    let cons = keys_left c.in_ok-all.all c.loop-i.i c.text.result.now c.text.ensures in
     let whole = sym c.loop-i.invariant.0 ∙ ap (λ ks. visit_keys g.W.World.calls ks (variable_aim c.args.variable) body (moment (g.W.World.state c.loop-i.world) c.loop-i.run)) cons in
     (rw add-one (sym (rw (whole, c.in_ok-tick.ensures.outcome, c.in_ok-set_key.ensures.outcome, c.in_ok-flow.ensures.outcome, c.in_default.ensures))), omega arith)

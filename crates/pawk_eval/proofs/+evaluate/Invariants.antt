@@ -2,7 +2,7 @@ use Rattle.std.proofs.Common.{◌≡◌, ◌≤◌, ℕ, ◌+◌, [], drop, take
 use Rattle.pawk_code.specs.Expressions.{exprs, arguments}
 use Rattle.pawk_code.specs.ExpressionViews.{view, views, argument_view, argument_views, fields_view, format_view, function_view, numeric_view, pattern_view, place_view, test_view, textual_view}
 use Rattle.pawk_code.specs.StatementViews.{seen, simple_view, stmt_view}
-use Rattle.pawk_meaning.specs.Meaning.{texts_of, values_of, arguments_of, suffixed, execs, turns, while_loop, visit_keys, act_or_none, test_or_true}
+use Rattle.pawk_meaning.specs.Meaning.{texts_of, values_of, arguments_of, suffixed, joined_texts, execs, turns, while_loop, visit_keys, for_keys, act_or_none, test_or_true}
 use Rattle.pawk_meaning.specs.Places.{variable_aim}
 use Rattle.pawk_places.specs.Moments.{holds_of, moment}
 use Rattle.pawk_eval.specs.Contexts.{functions_of, eres_of, enter_of, last_view}
@@ -97,9 +97,6 @@ decreases-strings::compose g l = rank (functions_of l.context) l.depth (textual_
 abbrev pub decreases-strings::join : goal.decreases-strings::join
 decreases-strings::join g l = rank (functions_of l.context) l.depth (row_weight (exprs (views l.es.now)))
 
-abbrev pub decreases-strings::suffixes : goal.decreases-strings::suffixes
-decreases-strings::suffixes g l = rank (functions_of l.context) l.depth (row_weight (exprs (views l.es.now)))
-
 abbrev pub decreases-places::place : goal.decreases-places::place
 decreases-places::place g l = rank (functions_of l.context) l.depth (place_weight (place_view l.p.now))
 
@@ -193,21 +190,15 @@ decreases-statements::choose g l = rank (functions_of l.context) l.depth (weight
 abbrev pub decreases-loops::turns : goal.decreases-loops::turns
 decreases-loops::turns g l = rank (functions_of l.context) l.depth (option_weight (contexts.test_view l.test) + option_simple_weight (last_view l.last) + body_weight (seen l.body.now) + 1)
 
-abbrev pub decreases-loops::truth_or_true : goal.decreases-loops::truth_or_true
-decreases-loops::truth_or_true g l = rank (functions_of l.context) l.depth (option_weight (contexts.test_view l.test))
-
 abbrev pub decreases-loops::walk : goal.decreases-loops::walk
 decreases-loops::walk g l = rank (functions_of l.context) l.depth (body_weight (seen l.body.now) + 2)
 
-abbrev pub decreases-loops::visit : goal.decreases-loops::visit
-decreases-loops::visit g l = rank (functions_of l.context) l.depth (body_weight (seen l.body.now) + 1)
-
 -- the text so far and the operands that are left give the whole
-abbrev pub invariant-strings::suffixes-loop-e : goal.invariant-strings::suffixes-loop-e
-invariant-strings::suffixes-loop-e g l =
+abbrev pub invariant-strings::join-loop-e : goal.invariant-strings::join-loop-e
+invariant-strings::join-loop-e g l =
     let eres = eres_of l.context in
     let enter = enter_of g.W.World.calls l.context l.depth in
-    (suffixed g.W.World.calls eres enter (exprs (views (drop l.e-index l.es))) (drop l.start l.out.items) (moment (g.W.World.state l.world) l.run) ≡ suffixed g.W.World.calls eres enter (exprs (views l.es)) (drop l.start l.fn.out.items) (moment (g.W.World.state l.fn.world) l.fn.run)) × (l.run.left ≤ l.fn.run.left) × (take l.start l.out.items ≡ take l.start l.fn.out.items) × (l.start ≤ length l.out.items)
+    (suffixed g.W.World.calls eres enter (exprs (views (drop l.e-index l.rest))) (drop l.start l.out.items) (moment (g.W.World.state l.world) l.run) ≡ joined_texts g.W.World.calls eres enter (exprs (views l.fn.es)) (moment (g.W.World.state l.fn.world) l.fn.run)) × (l.run.left ≤ l.fn.run.left) × (take l.start l.out.items ≡ l.fn.out.items) × (l.start ≤ length l.out.items)
 
 -- the texts so far and the expressions that are left give the texts of all
 abbrev pub invariant-operands::texts-loop-e : goal.invariant-operands::texts-loop-e
@@ -250,9 +241,9 @@ abbrev pub decreases-loops::turns-turns : goal.decreases-loops::turns-turns
 decreases-loops::turns-turns g l = l.run.left
 
 -- the keys that are left do what all of them do
-abbrev pub invariant-loops::visit-loop-i : goal.invariant-loops::visit-loop-i
-invariant-loops::visit-loop-i g l =
+abbrev pub invariant-loops::walk-loop-i : goal.invariant-loops::walk-loop-i
+invariant-loops::walk-loop-i g l =
     let eres = eres_of l.context in
     let enter = enter_of g.W.World.calls l.context l.depth in
     let body = execs g.W.World.calls eres enter (seen l.body) in
-    (visit_keys g.W.World.calls (drop l.i l.keys) (variable_aim l.variable) body (moment (g.W.World.state l.world) l.run) ≡ visit_keys g.W.World.calls l.keys (variable_aim l.variable) body (moment (g.W.World.state l.fn.world) l.fn.run)) × (l.run.left ≤ l.fn.run.left)
+    (visit_keys g.W.World.calls (drop l.i l.keys) (variable_aim l.variable) body (moment (g.W.World.state l.world) l.run) ≡ for_keys g.W.World.calls l.fn.variable l.fn.array body (moment (g.W.World.state l.fn.world) l.fn.run)) × (l.run.left ≤ l.fn.run.left)

@@ -7,7 +7,7 @@ use Rattle.pawk_meaning.specs.Outputs.{in_a_row}
 use Rattle.pawk_meaning.specs.Records.{End}
 use Rattle.pawk_meaning.specs.Runs.{Finish}
 use Rattle.pawk_join.specs.MergeViews as merges
-use Rattle.pawk_part.specs.Ends.{left_view}
+use Rattle.pawk_gather.specs.Ends.{left_view}
 use Rattle.pawk_one.specs.Ends.{finish_view}
 use Rattle.pawk_gather.specs.Gathered.{behind_output}
 use Rattle.pawk_threads.proofs.OutputLemmas.{gone_on}
