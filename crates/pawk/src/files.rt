@@ -1,7 +1,7 @@
 //! The files that are the input.
 
 use crate::reports::Stop;
-use crate::stripes::{count_stripes, read_stripes};
+use crate::stripes::{count_readers, read_stripes};
 use pawk_input::{Blocks, Input, TooLarge};
 use std::alloc::Global;
 use std::fs::File;
@@ -61,15 +61,12 @@ where
 {
     let alloc = rt.alloc();
     let size = known_size(rt, name);
-    let count = count_stripes(size, workers);
-    if count < 2 {
+    let readers = count_readers(size, workers);
+    if readers < 2 {
         return Ok(Blocks::whole(alloc, read_file(rt, name)?)?);
     }
     let file = File::open(rt, name)?;
-    match read_stripes(rt, alloc, &file, size, count) {
-        Ok(blocks) => Ok(blocks),
-        Err(kind) => Err(io::Error::from(kind)),
-    }
+    read_stripes(rt, alloc, &file, size, readers)
 }
 
 /// The input of these files, names with bytes.

@@ -4,14 +4,30 @@ use pawk_input::{Block, Blocks};
 use std::alloc::{AllocError, Global};
 use std::io::ErrorKind;
 use std::os::unix::fs::FileExt;
-use std::thread;
+use std::sync::atomic::AtomicUsize;
+use std::sync::atomic::Ordering::SeqCst;
 use std::thread::Threads;
+use std::{io, thread};
 
 /// How many bytes of a file a thread reads at least.
-const LEAST_STRIPE: usize = 16_777_216;
+const LEAST_SHARE: usize = 16_777_216;
 
-/// How many bytes are asked of a file at once.
-const PART: usize = 131_072;
+/// How many bytes a stripe has at least.
+const LEAST_STRIPE: usize = 4_194_304;
+
+/// How many stripes there are at most for each thread.
+const MOST_STRIPES: usize = 8;
+
+/// How many bytes are asked of a file at once. A stripe begins at a multiple of it.
+const PART: usize = 32_768;
+
+/// How much more room a block has than its stripe: for the rest of a record that goes on in the next one.
+const ROOM_BEHIND: usize = 65_536;
+
+/// How many threads read a file of this size, where so many may work.
+pub(crate) fn count_readers(size: usize, workers: usize) -> usize {
+    workers.min(size / LEAST_SHARE)
+}
 
 /// Consecutive bytes of a file: their place, and how many there are at most.
 #[derive(Clone, Copy)]
@@ -20,26 +36,43 @@ struct Stripe {
     size: usize,
 }
 
-/// How many threads read a file of this size, where so many may work.
-pub(crate) fn count_stripes(size: usize, workers: usize) -> usize {
-    workers.min(size / LEAST_STRIPE)
+/// The stripes of a file: how many there are, and how many bytes each has but the last, which ends where the file does.
+#[derive(Clone, Copy)]
+struct Stripes {
+    count: usize,
+    each: usize,
 }
 
-/// One of the stripes of a file, each of this size but the last, which ends where the file does.
-fn stripe_at(i: usize, count: usize, each: usize) -> Stripe {
-    Stripe {
-        start: i.saturating_mul(each),
-        size: if i.saturating_add(1) < count {
-            each
-        } else {
-            usize::MAX
-        },
+impl Stripes {
+    /// The stripes of a file of this size, as many for each of so many threads.
+    fn of(size: usize, readers: usize) -> Self {
+        let share = size / readers.max(1);
+        let count = (share / LEAST_STRIPE)
+            .clamp(1, MOST_STRIPES)
+            .saturating_mul(readers);
+        let parts = size.div_ceil(count.max(1)).div_ceil(PART);
+        Stripes {
+            count,
+            each: parts.saturating_mul(PART),
+        }
+    }
+
+    /// The stripe of this number, counted from 0.
+    fn stripe(self, number: usize) -> Stripe {
+        Stripe {
+            start: number.saturating_mul(self.each),
+            size: if number.saturating_add(1) < self.count {
+                self.each
+            } else {
+                usize::MAX
+            },
+        }
     }
 }
 
 /// A block with room for a stripe of about this size, and room for a part of it.
 fn rooms(alloc: Global, size: usize) -> Result<(Block, Vec<u8>), AllocError> {
-    let block = Block::with_capacity(alloc, size)?;
+    let block = Block::with_capacity(alloc, size.saturating_add(ROOM_BEHIND))?;
     let mut part = Vec::new(alloc);
     part.resize(PART, 0)?;
     Ok((block, part))
@@ -78,22 +111,52 @@ fn read_stripe<F: FileExt>(
     Ok(block)
 }
 
-/// The blocks of stripes of this size, up to the first that the file does not fill.
-fn joined(
+/// Blocks with the numbers of their stripes.
+type NumberedBlocks = Vec<(usize, Block)>;
+
+/// Reads stripes whose numbers it draws, until none is left.
+fn read_share<F: FileExt>(
     alloc: Global,
-    stripes: Vec<Result<Block, ErrorKind>>,
-    each: usize,
-) -> Result<Blocks, ErrorKind> {
-    let mut blocks = match Vec::with_capacity(alloc, stripes.len()) {
-        Ok(blocks) => blocks,
-        Err(_) => return Err(ErrorKind::OutOfMemory),
-    };
-    for stripe in stripes {
-        let block = stripe?;
-        let is_last = block.bytes().len() < each;
-        if blocks.push(block).is_err() {
+    file: &F,
+    stripes: Stripes,
+    next: &AtomicUsize,
+) -> Result<NumberedBlocks, ErrorKind> {
+    let mut share = Vec::new(alloc);
+    for _ in 0..stripes.count {
+        let number = next.fetch_add(1, SeqCst);
+        if number >= stripes.count {
+            break;
+        }
+        let block = read_stripe(alloc, file, stripes.stripe(number), stripes.each)?;
+        if share.push((number, block)).is_err() {
             return Err(ErrorKind::OutOfMemory);
         }
+    }
+    Ok(share)
+}
+
+/// The blocks of all shares in the order of their stripes.
+fn gather(
+    alloc: Global,
+    shares: Vec<Result<NumberedBlocks, ErrorKind>>,
+) -> io::Result<NumberedBlocks> {
+    let mut blocks = Vec::new(alloc);
+    for share in shares {
+        match share {
+            Ok(mut more) => blocks.append(&mut more)?,
+            Err(kind) => return Err(io::Error::from(kind)),
+        }
+    }
+    blocks.sort_unstable_by_key(|numbered| numbered.0);
+    Ok(blocks)
+}
+
+/// The file of these stripes in order, up to the first that the file does not fill.
+fn file_of(alloc: Global, stripes: NumberedBlocks, each: usize) -> io::Result<Blocks> {
+    let mut blocks = Vec::with_capacity(alloc, stripes.len())?;
+    for (_, block) in stripes {
+        let is_last = block.bytes().len() < each;
+        blocks.push(block)?;
         if is_last {
             break;
         }
@@ -101,20 +164,20 @@ fn joined(
     Ok(Blocks::of(blocks))
 }
 
-/// Reads a file of about this size by so many threads, a block each.
+/// Reads a file of about this size by so many threads, a block for each stripe. Each thread draws one stripe after the other,
+/// so that none waits long for another.
 pub(crate) fn read_stripes<R: Threads + Sync, F: FileExt + Sync>(
     rt: &R,
     alloc: Global,
     file: &F,
     size: usize,
-    count: usize,
-) -> Result<Blocks, ErrorKind> {
-    let each = size.div_ceil(count.max(1));
-    let read = |i: usize| -> Result<Block, ErrorKind> {
-        read_stripe(alloc, file, stripe_at(i, count, each), each)
+    readers: usize,
+) -> io::Result<Blocks> {
+    let stripes = Stripes::of(size, readers);
+    let next = AtomicUsize::new(0);
+    let read = |_: usize| -> Result<NumberedBlocks, ErrorKind> {
+        read_share(alloc, file, stripes, &next)
     };
-    match thread::map_indices(rt, alloc, count, &read) {
-        Ok(stripes) => joined(alloc, stripes, each),
-        Err(AllocError) => Err(ErrorKind::OutOfMemory),
-    }
+    let shares = thread::map_indices(rt, alloc, readers, &read)?;
+    file_of(alloc, gather(alloc, shares)?, stripes.each)
 }
