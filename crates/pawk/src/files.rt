@@ -8,6 +8,7 @@ use std::fs::File;
 use std::io::Read;
 use std::os::unix::fs::FileExt;
 use std::rt::Files;
+use std::sync::Wait;
 use std::thread::Threads;
 use std::{fs, io};
 
@@ -56,7 +57,7 @@ pub(crate) fn read_file<R: Files + AllocGlobal>(rt: &R, name: &str) -> io::Resul
 /// Reads a file to its end, by so many threads at most.
 fn read_blocks<R>(rt: &R, name: &str, workers: usize) -> io::Result<Blocks>
 where
-    R: Files + AllocGlobal + Threads + Sync,
+    R: Files + AllocGlobal + Threads + Wait,
     R::File: FileExt + Sync,
 {
     let alloc = rt.alloc();
@@ -81,7 +82,7 @@ fn input_of(files: Vec<(Vec<u8>, Blocks)>) -> Result<Input, Stop> {
 /// read is told.
 pub(crate) fn read_files<R>(rt: &R, names: &[&str], workers: usize) -> Result<Input, Stop>
 where
-    R: Files + AllocGlobal + Threads + Sync,
+    R: Files + AllocGlobal + Threads + Wait,
     R::File: FileExt + Sync,
 {
     let alloc = rt.alloc();

@@ -4,6 +4,7 @@ use pawk_input::{Block, Blocks};
 use std::alloc::{AllocError, Global};
 use std::io::ErrorKind;
 use std::os::unix::fs::FileExt;
+use std::sync::Wait;
 use std::sync::atomic::AtomicUsize;
 use std::sync::atomic::Ordering::SeqCst;
 use std::thread::Threads;
@@ -20,6 +21,9 @@ const MOST_STRIPES: usize = 8;
 
 /// How many bytes are asked of a file at once. A stripe begins at a multiple of it.
 const PART: usize = 32_768;
+
+/// How many bytes are copied at once: so few that they are near when their newlines are counted.
+const PIECE: usize = 4_096;
 
 /// How much more room a block has than its stripe: for the rest of a record that goes on in the next one.
 const ROOM_BEHIND: usize = 65_536;
@@ -80,10 +84,12 @@ fn rooms(alloc: Global, size: usize) -> Result<(Block, Vec<u8>), AllocError> {
 
 /// Appends a part that was read.
 fn keep(block: &mut Block, part: &[u8]) -> Result<(), ErrorKind> {
-    match block.extend(part) {
-        Ok(()) => Ok(()),
-        Err(_) => Err(ErrorKind::OutOfMemory),
+    for piece in part.chunks(PIECE) {
+        if block.extend(piece).is_err() {
+            return Err(ErrorKind::OutOfMemory);
+        }
     }
+    Ok(())
 }
 
 /// Reads a stripe of a file, or what there is of it; the newlines of each part are counted when it comes.
@@ -164,9 +170,40 @@ fn file_of(alloc: Global, stripes: NumberedBlocks, each: usize) -> io::Result<Bl
     Ok(Blocks::of(blocks))
 }
 
+/// The shares of so many threads, of which this is one; where one cannot be started, the others read what it would.
+fn read_shares<R: Threads + Wait, F: FileExt + Sync>(
+    rt: &R,
+    alloc: Global,
+    file: &F,
+    stripes: Stripes,
+    readers: usize,
+) -> Result<Vec<Result<NumberedBlocks, ErrorKind>>, AllocError> {
+    let next = AtomicUsize::new(0);
+    let shared = &next;
+    thread::scope(
+        thread::scope_env(),
+        rt,
+        |scope| -> Result<Vec<Result<NumberedBlocks, ErrorKind>>, AllocError> {
+            let mut handles = Vec::with_capacity(alloc, readers)?;
+            for _ in 1..readers {
+                match scope.spawn(move || read_share(alloc, file, stripes, shared)) {
+                    Ok(handle) => handles.push(handle)?,
+                    Err(_) => break,
+                }
+            }
+            let mut shares = Vec::with_capacity(alloc, readers)?;
+            shares.push(read_share(alloc, file, stripes, shared))?;
+            for handle in handles {
+                shares.push(handle.join(rt))?;
+            }
+            Ok(shares)
+        },
+    )
+}
+
 /// Reads a file of about this size by so many threads, a block for each stripe. Each thread draws one stripe after the other,
 /// so that none waits long for another.
-pub(crate) fn read_stripes<R: Threads + Sync, F: FileExt + Sync>(
+pub(crate) fn read_stripes<R: Threads + Wait, F: FileExt + Sync>(
     rt: &R,
     alloc: Global,
     file: &F,
@@ -174,10 +211,6 @@ pub(crate) fn read_stripes<R: Threads + Sync, F: FileExt + Sync>(
     readers: usize,
 ) -> io::Result<Blocks> {
     let stripes = Stripes::of(size, readers);
-    let next = AtomicUsize::new(0);
-    let read = |_: usize| -> Result<NumberedBlocks, ErrorKind> {
-        read_share(alloc, file, stripes, &next)
-    };
-    let shares = thread::map_indices(rt, alloc, readers, &read)?;
+    let shares = read_shares(rt, alloc, file, stripes, readers)?;
     file_of(alloc, gather(alloc, shares)?, stripes.each)
 }

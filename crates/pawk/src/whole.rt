@@ -140,7 +140,7 @@ fn open_input<R, I>(
     input: I,
 ) -> Result<Input, Stop>
 where
-    R: Files + AllocGlobal + Threads + Sync,
+    R: Files + AllocGlobal + Threads + Wait,
     R::File: FileExt + Sync,
     I: Read + Drop,
 {

@@ -53,7 +53,7 @@ fn stack_of(bytes: Option<usize>) -> Stack {
     }
 }
 
-/// Starts a thread of the scope for each seat, and joins them all.
+/// Starts a thread of the scope for each seat but the last, which has its labour on this thread, and joins them all.
 fn in_scope<'s, E, S: Send + Drop + 's, L: Labour<S> + Copy + Sync, G: Gate + Sync, R: Threads>(
     scope: &Scope<'s, E>,
     rt: &R,
@@ -67,10 +67,14 @@ fn in_scope<'s, E, S: Send + Drop + 's, L: Labour<S> + Copy + Sync, G: Gate + Sy
     ensures len { IfOk result (λ v. vec_len v ≡ vec_len seats) }
     ensures kept { IfOk result (λ v. All (L.kept_by task.now) v.items) }
 {
-    let count = seats.len();
+    let mut others = seats;
+    let Some(own) = others.pop() else {
+        return Ok(Vec::new(alloc));
+    };
+    let count = others.len() + 1;
     let mut shifts = Vec::with_capacity(alloc, count)?;
     let mut handles = Vec::with_capacity(alloc, count)?;
-    for seat in seats {
+    for seat in others {
         let stack = stack_of(task.stack_bytes());
         let started = stack.spawn_scoped_with(scope, *task, move || task.labour(alloc, seat, gate));
         match started {
@@ -78,6 +82,7 @@ fn in_scope<'s, E, S: Send + Drop + 's, L: Labour<S> + Copy + Sync, G: Gate + Sy
             Err(_) => break,
         }
     }
+    shifts.push_reserved(task.labour(alloc, own, gate));
     for handle in handles {
         shifts.push_reserved(handle.join(rt));
     }
@@ -87,8 +92,10 @@ fn in_scope<'s, E, S: Send + Drop + 's, L: Labour<S> + Copy + Sync, G: Gate + Sy
     Ok(shifts)
 }
 
-/// The same in a scope of its own.
-fn in_threads<S: Send + Drop, L: Labour<S> + Copy + Sync, G: Gate + Sync, R: Threads + Wait>(
+/// A worker for each seat, the last one on this thread, with the stack that it has, and each other in a thread of its own.
+/// Each has ended when this returns, also where one could not be started, which is told as `Thread`. `Memory` comes where
+/// memory was refused before a thread was started.
+pub fn all_labour<S: Send + Drop, L: Labour<S> + Copy + Sync, G: Gate + Sync, R: Threads + Wait>(
     rt: &R,
     alloc: Global,
     task: &L,
@@ -109,44 +116,4 @@ fn in_threads<S: Send + Drop, L: Labour<S> + Copy + Sync, G: Gate + Sync, R: Thr
                 × All (L.kept_by task.entry.now) v.items) }
         { in_scope(scope, rt, alloc, task, seats, gate) },
     )
-}
-
-/// The work of each seat on this thread, one seat after the other.
-fn work_here<S: Drop, L: Labour<S>, G: Gate>(
-    alloc: Global,
-    task: &L,
-    seats: Vec<BoardSeat>,
-    gate: &G,
-) -> Result<Vec<S>, CrewRefusal>
-    requires ready { L.IsReady task.now }
-    requires seats { All (λ s. s ≡ L.first task.now) seats.items }
-    ensures len { IfOk result (λ v. vec_len v ≡ vec_len seats) }
-    ensures kept { IfOk result (λ v. All (L.kept_by task.now) v.items) }
-{
-    let mut shifts = Vec::with_capacity(alloc, seats.len())?;
-    for seat in seats {
-        shifts.push_reserved(task.labour(alloc, seat, gate));
-    }
-    Ok(shifts)
-}
-
-/// A worker in a thread of its own for each seat; a single one works on this thread. Each has ended when this returns, also
-/// where one could not be started, which is told as `Thread`. `Memory` comes where memory was refused before a thread was
-/// started.
-pub fn all_labour<S: Send + Drop, L: Labour<S> + Copy + Sync, G: Gate + Sync, R: Threads + Wait>(
-    rt: &R,
-    alloc: Global,
-    task: &L,
-    seats: Vec<BoardSeat>,
-    gate: &G,
-) -> Result<Vec<S>, CrewRefusal>
-    requires ready { L.IsReady task.now }
-    requires seats { All (λ s. s ≡ L.first task.now) seats.items }
-    ensures len { IfOk result (λ v. vec_len v ≡ vec_len seats) }
-    ensures kept { IfOk result (λ v. All (L.kept_by task.now) v.items) }
-{
-    if seats.len() == 1 {
-        return work_here(alloc, task, seats, gate);
-    }
-    in_threads(rt, alloc, task, seats, gate)
 }

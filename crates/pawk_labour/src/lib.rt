@@ -1,4 +1,4 @@
-//! Work at the seats of a board, each seat in a thread of its own.
+//! Work at the seats of a board, in threads.
 #![tactic(auto)]
 
 mod gate;

@@ -123,8 +123,8 @@ fn run_once<G: Gate + Sync, R: Threads + Wait>(
 /// tells how it went. What it leaves is what a run of one thread leaves, whatever the cutting and the
 /// number of workers, 1 to 64.
 ///
-/// Each worker is a thread; all have ended when this returns. The gate is called round each chunk that is
-/// run, on its worker's thread. Where the chunks are not merged, the program is run again from its begin,
+/// One worker is this thread, each other a thread of its own; all have ended when this returns. The gate is
+/// called round each chunk that is run, on its worker's thread. Where the chunks are not merged, the program is run again from its begin,
 /// on this thread. The input's names and bytes stay as they are.
 ///
 /// `Cutting` comes only where the records may be run in chunks and the cutting has no plan, and where it

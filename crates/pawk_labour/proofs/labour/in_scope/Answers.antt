@@ -8,8 +8,8 @@ pub loop-seat-preserved : goal.loop-seat-preserved
 loop-seat-preserved g c =
     let P = λ (s : SeatView). s ≡ g.L.Labour.first c.args.task.now in
     let K = λ (h : PromisedHandle g.row.S.Denot g.row.L.Denot). h.promise ≡ c.args.task.now in
-    let steps = c.in-Some.ensures.steps.0 in
-    let left : All P (c.in-Some.seat ∷ c.next.new.self.rest.items) = All-same P _ _ (sym steps) c.loop-seat.invariant.seats in
+    let steps = c.in-Some-seat.ensures.steps.0 in
+    let left : All P (c.in-Some-seat.seat ∷ c.next.new.self.rest.items) = All-same P _ _ (sym steps) c.loop-seat.invariant.seats in
     record {
       seats = All-tail P _ _ left;
       room = (let long = ap length steps in let len = c.push_reserved.ensures.len in let was = c.loop-seat.invariant.room in omega arith);

@@ -6,7 +6,7 @@ use Rattle.pawk_labour.proofs.labour.in_scope.Given as goal
 abbrev pub invariant-loop-seat : goal.invariant-loop-seat
 invariant-loop-seat g l = record {
   seats : All (λ (s : SeatView). s ≡ g.L.Labour.first l.task) l.seat-iterator.rest.items;
-  room : vec_len l.handles + length l.seat-iterator.rest.items ≤ l.count;
+  room : vec_len l.handles + length l.seat-iterator.rest.items + 1 ≤ l.count;
   space : vec_capacity l.handles ≡ l.count;
   kept : All (λ h. h.promise ≡ l.task) l.handles.items;
 }
