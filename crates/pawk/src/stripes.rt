@@ -120,13 +120,11 @@ fn read_stripe<F: FileExt>(
 /// Blocks with the numbers of their stripes.
 type NumberedBlocks = Vec<(usize, Block)>;
 
+/// What one thread read, or why it could not.
+type Share = Result<NumberedBlocks, ErrorKind>;
+
 /// Reads stripes whose numbers it draws, until none is left.
-fn read_share<F: FileExt>(
-    alloc: Global,
-    file: &F,
-    stripes: Stripes,
-    next: &AtomicUsize,
-) -> Result<NumberedBlocks, ErrorKind> {
+fn read_share<F: FileExt>(alloc: Global, file: &F, stripes: Stripes, next: &AtomicUsize) -> Share {
     let mut share = Vec::new(alloc);
     for _ in 0..stripes.count {
         let number = next.fetch_add(1, SeqCst);
@@ -142,10 +140,7 @@ fn read_share<F: FileExt>(
 }
 
 /// The blocks of all shares in the order of their stripes.
-fn gather(
-    alloc: Global,
-    shares: Vec<Result<NumberedBlocks, ErrorKind>>,
-) -> io::Result<NumberedBlocks> {
+fn gather(alloc: Global, shares: Vec<Share>) -> io::Result<NumberedBlocks> {
     let mut blocks = Vec::new(alloc);
     for share in shares {
         match share {
@@ -177,13 +172,13 @@ fn read_shares<R: Threads + Wait, F: FileExt + Sync>(
     file: &F,
     stripes: Stripes,
     readers: usize,
-) -> Result<Vec<Result<NumberedBlocks, ErrorKind>>, AllocError> {
+) -> Result<Vec<Share>, AllocError> {
     let next = AtomicUsize::new(0);
     let shared = &next;
     thread::scope(
         thread::scope_env(),
         rt,
-        |scope| -> Result<Vec<Result<NumberedBlocks, ErrorKind>>, AllocError> {
+        |scope| -> Result<Vec<Share>, AllocError> {
             let mut handles = Vec::with_capacity(alloc, readers)?;
             for _ in 1..readers {
                 match scope.spawn(move || read_share(alloc, file, stripes, shared)) {
