@@ -1,6 +1,6 @@
 //! What the command does.
 
-use crate::command_line::{Request, Source, read_words};
+use crate::command_line::{CommandLine, Source, read_words};
 use crate::files::read_file;
 use crate::reports::{Stop, tell_ending, tell_stop};
 use crate::whole::run_whole;
@@ -23,26 +23,26 @@ fn program_text<R: Files + AllocGlobal>(rt: &R, source: Source<'_>) -> Result<Ve
 }
 
 /// Does what was asked for, and tells how it ended.
-fn do_request<R, I, O, E>(
+fn do_line<R, I, O, E>(
     rt: &R,
-    request: &Request<'_>,
+    line: &CommandLine<'_>,
     input: I,
     output: &mut O,
     errors: &mut E,
 ) -> Result<io::Result<u8>, Stop>
 where
-    R: Files + AllocGlobal + Threads + Wait + Sync,
+    R: Files + AllocGlobal + Threads + Wait,
     R::File: FileExt + Sync,
     I: Read + Drop,
     O: Write,
     E: Write,
 {
-    let text = program_text(rt, request.program)?;
-    let end = run_whole(rt, request, text.as_slice(), input, output)?;
+    let text = program_text(rt, line.program)?;
+    let end = run_whole(rt, line, text.as_slice(), input, output)?;
     if output.flush().is_err() {
         return Err(Stop::Write);
     }
-    Ok(tell_ending(end, request.why, errors))
+    Ok(tell_ending(end, line.why, errors))
 }
 
 fn do_words<R, I, O, E>(
@@ -53,14 +53,14 @@ fn do_words<R, I, O, E>(
     errors: &mut E,
 ) -> Result<io::Result<u8>, Stop>
 where
-    R: Files + AllocGlobal + Threads + Wait + Sync,
+    R: Files + AllocGlobal + Threads + Wait,
     R::File: FileExt + Sync,
     I: Read + Drop,
     O: Write,
     E: Write,
 {
-    let request = read_words(rt.alloc(), words)?;
-    do_request(rt, &request, input, output, errors)
+    let line = read_words(rt.alloc(), words)?;
+    do_line(rt, &line, input, output, errors)
 }
 
 /// Does what the words ask for, the first of which is the program's name, and gives the exit status: the output goes to
@@ -73,7 +73,7 @@ pub(crate) fn command<R, I, O, E>(
     mut errors: E,
 ) -> u8
 where
-    R: Files + AllocGlobal + Threads + Wait + Sync,
+    R: Files + AllocGlobal + Threads + Wait,
     R::File: FileExt + Sync,
     I: Read + Drop,
     O: Write + Drop,

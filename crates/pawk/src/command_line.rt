@@ -31,9 +31,9 @@ pub(crate) enum Source<'a> {
     File(&'a str),
 }
 
-/// What the words ask for.
+/// What the words of the command line ask for.
 #[derive(Drop)]
-pub(crate) struct Request<'a> {
+pub(crate) struct CommandLine<'a> {
     pub(crate) program: Source<'a>,
     /// The values of `-v`, each a name and a value with `=` between.
     pub(crate) assignments: Vec<&'a str>,
@@ -180,13 +180,13 @@ fn fault(command: &mut Command<'_>, kind: ErrorKind, text: &str) -> Stop {
 }
 
 /// What the words ask for that were read so.
-fn request_of<'a>(
+fn line_of<'a>(
     alloc: Global,
     matches: &ArgMatches<'a>,
     program: Source<'a>,
-) -> Result<Request<'a>, AllocError> {
+) -> Result<CommandLine<'a>, AllocError> {
     let files = file_names(alloc, matches, program)?;
-    Ok(Request {
+    Ok(CommandLine {
         program,
         assignments: Vec::from_slice(alloc, matches.get_strs("assignment").unwrap_or(&[]))?,
         separator: matches.get_str("separator"),
@@ -206,10 +206,10 @@ fn read_by<'a>(
     alloc: Global,
     command: &mut Command<'a>,
     words: &'a [String],
-) -> Result<Request<'a>, Stop> {
+) -> Result<CommandLine<'a>, Stop> {
     let matches = command.try_get_matches_from_mut(words)?;
     match program_source(&matches) {
-        Some(program) if are_plain(&matches) => Ok(request_of(alloc, &matches, program)?),
+        Some(program) if are_plain(&matches) => Ok(line_of(alloc, &matches, program)?),
         Some(_) => {
             let text = "a number is written in digits alone";
             Err(fault(command, ErrorKind::ValueValidation, text))
@@ -221,7 +221,7 @@ fn read_by<'a>(
 /// Reads the words, of which the first is the program's name.
 ///
 /// `Line` comes where the words are at fault or ask for help, `Memory` where memory was refused.
-pub(crate) fn read_words<'a>(alloc: Global, words: &'a [String]) -> Result<Request<'a>, Stop> {
+pub(crate) fn read_words<'a>(alloc: Global, words: &'a [String]) -> Result<CommandLine<'a>, Stop> {
     let mut command = definition(alloc)?;
     read_by(alloc, &mut command, words)
 }

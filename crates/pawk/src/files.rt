@@ -70,14 +70,6 @@ where
     read_stripes(rt, alloc, &file, size, readers)
 }
 
-/// The input of these files, names with bytes.
-fn input_of(files: Vec<(Vec<u8>, Blocks)>) -> Result<Input, Stop> {
-    match Input::from_blocks(files) {
-        Ok(input) => Ok(input),
-        Err(TooLarge) => Err(Stop::Input),
-    }
-}
-
 /// Reads the files of these names in order, each by so many threads at most; the first that cannot be
 /// read is told.
 pub(crate) fn read_files<R>(rt: &R, names: &[&str], workers: usize) -> Result<Input, Stop>
@@ -94,16 +86,8 @@ where
         };
         files.push((Vec::from_slice(alloc, name.as_bytes())?, blocks))?;
     }
-    input_of(files)
-}
-
-/// Reads a stream to its end, as one file without a name.
-pub(crate) fn read_stream<I: Read + Drop>(alloc: Global, mut input: I) -> Result<Input, Stop> {
-    let mut bytes = Vec::new(alloc);
-    if let Err(error) = input.read_to_end(&mut bytes) {
-        return Err(Stop::read(alloc, "", &error));
+    match Input::from_blocks(files) {
+        Ok(input) => Ok(input),
+        Err(TooLarge) => Err(Stop::Input),
     }
-    let mut files = Vec::new(alloc);
-    files.push((Vec::new(alloc), Blocks::whole(alloc, bytes)?))?;
-    input_of(files)
 }

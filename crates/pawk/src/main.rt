@@ -9,11 +9,16 @@ mod reports;
 mod stripes;
 mod whole;
 
-use std::io;
+use command::command;
+use deep::do_in;
 use std::process::ExitCode;
+use std::{io, thread};
 
 /// What is told where memory is refused.
 const NO_MEMORY: &str = "pawk: refused: memory";
+
+/// What is told where the thread of the run cannot be started.
+const NO_THREAD: &str = "pawk: refused: thread";
 
 /// What is told where an argument is no text.
 const NO_TEXT: &str = "pawk: an argument is no text";
@@ -30,13 +35,23 @@ fn words_of(rt: &HostRuntime) -> Result<Vec<String>, &'static str> {
     words.collect(rt.alloc()).map_err(|_| NO_MEMORY)
 }
 
+/// Tells a line on standard error, and gives the status of a run that was refused.
+fn refuse(rt: &HostRuntime, line: &str) -> u8 {
+    let _ = rt.eprintln(line);
+    2
+}
+
 fn main(rt: HostRuntime) -> ExitCode {
-    let status = match words_of(&rt) {
-        Ok(words) => command::command(&rt, &words, rt.stdin(), rt.stdout(), rt.stderr()),
-        Err(line) => {
-            let _ = rt.eprintln(line);
-            2
-        }
+    let rt = &rt;
+    let words = match words_of(rt) {
+        Ok(words) => words,
+        Err(line) => return ExitCode::from(refuse(rt, line)),
     };
-    ExitCode::from(status)
+    let words = words.as_slice();
+    let status = thread::scope(thread::scope_env(), rt, |scope| -> Option<u8> {
+        do_in(scope, rt, move || {
+            command(rt, words, rt.stdin(), rt.stdout(), rt.stderr())
+        })
+    });
+    ExitCode::from(status.unwrap_or_else(|| refuse(rt, NO_THREAD)))
 }

@@ -2,9 +2,8 @@
 
 use clap::Error;
 use clap::error::ErrorKind;
-use pawk_one::{Ending, Place};
-use pawk_syntax::SyntaxRefusal;
-use pawk_threads::{Refusal, Route};
+use pawk_par::{StreamRefusal, SyntaxRefusal};
+use pawk_threads::{Ending, Place, Refusal, Route};
 use std::alloc::{AllocError, AllocFailed, Global};
 use std::io;
 use std::io::Write;
@@ -24,8 +23,10 @@ pub(crate) enum Stop {
     Program(SyntaxRefusal),
     /// An assignment or the budget is refused, by this number.
     Settings(u8),
-    /// A file of this name, as messages show it, could not be read; standard input has none.
+    /// A file of this name, as messages show it, could not be read.
     Read(String),
+    /// Standard input could not be read.
+    Stream,
     /// The output could not be written.
     Write,
     /// The command line is at fault, or asks for help.
@@ -60,6 +61,21 @@ impl From<Refusal> for Stop {
             Refusal::Memory => Stop::Memory,
             Refusal::Thread => Stop::Thread,
             Refusal::Cutting => Stop::Cutting,
+        }
+    }
+}
+
+impl From<StreamRefusal> for Stop {
+    fn from(refusal: StreamRefusal) -> Stop {
+        match refusal {
+            StreamRefusal::Memory => Stop::Memory,
+            StreamRefusal::Thread => Stop::Thread,
+            StreamRefusal::Cutting => Stop::Cutting,
+            StreamRefusal::Program(why) => Stop::Program(why),
+            StreamRefusal::Settings(why) => Stop::Settings(why.number()),
+            StreamRefusal::Read => Stop::Stream,
+            StreamRefusal::Write(_) => Stop::Write,
+            StreamRefusal::Input => Stop::Input,
         }
     }
 }
@@ -105,6 +121,7 @@ pub(crate) fn tell_stop<O: Write, E: Write>(
         Stop::Program(refusal) => tell_program(*refusal, errors)?,
         Stop::Settings(number) => writeln!(errors, "pawk: bad assignment: {number}")?,
         Stop::Read(name) => writeln!(errors, "pawk: cannot read {name}")?,
+        Stop::Stream => errors.write_all(b"pawk: cannot read \n")?,
         Stop::Write => errors.write_all(b"pawk: cannot write\n")?,
         Stop::Line(error) => return tell_line(alloc, error, output, errors),
     }

@@ -1,15 +1,15 @@
 //! Whole runs: from a program's text to its output.
 
-use crate::command_line::Request;
-use crate::deep::{Division, run_deep};
-use crate::files::{read_files, read_stream};
+ghost use Rattle.pawk_threads.specs.Task.{IsCrew};
+ghost use Rattle.pawk_threads.specs.Cuttings.{IsSized};
+
+use crate::command_line::CommandLine;
+use crate::files::read_files;
 use crate::reports::{End, Stop};
-use pawk_code::program::Code;
 use pawk_input::Input;
-use pawk_one::{Job, Output};
-use pawk_resolve_program::program::resolve;
-use pawk_settings::{Settings, SettingsRefusal};
-use pawk_syntax::{Program, SyntaxRefusal, parse};
+use pawk_par::{Reader, Request, Writer, prepare, run_streams};
+use pawk_settings::Assignment;
+use pawk_threads::{Cutting, Ending, Job, Open, Output, Route, Way, run};
 use std::alloc::{AllocError, Global};
 use std::io;
 use std::io::{Read, Write};
@@ -17,15 +17,6 @@ use std::os::unix::fs::FileExt;
 use std::rt::Files;
 use std::sync::Wait;
 use std::thread::Threads;
-
-/// The program of a text.
-fn read_program(alloc: Global, text: &[u8]) -> Result<Program, Stop> {
-    match parse(alloc, text) {
-        Ok(program) => Ok(program),
-        Err(SyntaxRefusal::Memory) => Err(Stop::Memory),
-        Err(refusal) => Err(Stop::Program(refusal)),
-    }
-}
 
 /// A name and a value: a text is cut at its first `=`, and without one its name is empty.
 fn assignment(alloc: Global, text: &str) -> Result<(Vec<u8>, Vec<u8>), AllocError> {
@@ -37,39 +28,17 @@ fn assignment(alloc: Global, text: &str) -> Result<(Vec<u8>, Vec<u8>), AllocErro
 /// What is assigned before the program runs: the values of `-v` in order, and then FS.
 fn assignments(
     alloc: Global,
-    request: &Request<'_>,
+    line: &CommandLine<'_>,
 ) -> Result<Vec<(Vec<u8>, Vec<u8>)>, AllocError> {
     let mut pairs = Vec::new(alloc);
-    for text in &request.assignments {
+    for text in &line.assignments {
         pairs.push(assignment(alloc, *text)?)?;
     }
-    if let Some(text) = request.separator {
+    if let Some(text) = line.separator {
         let name = Vec::from_slice(alloc, b"FS")?;
         pairs.push((name, Vec::from_slice(alloc, text.as_bytes())?))?;
     }
     Ok(pairs)
-}
-
-/// The settings of the run.
-fn read_settings(
-    alloc: Global,
-    request: &Request<'_>,
-    program: &Program,
-) -> Result<Settings, Stop> {
-    let pairs = assignments(alloc, request)?;
-    match Settings::new(alloc, program.tree(), pairs.as_slice(), request.steps) {
-        Ok(settings) => Ok(settings),
-        Err(SettingsRefusal::Memory) => Err(Stop::Memory),
-        Err(refusal) => Err(Stop::Settings(refusal.number())),
-    }
-}
-
-/// The code of a program's text, and the settings of its run.
-fn prepare(alloc: Global, request: &Request<'_>, text: &[u8]) -> Result<(Code, Settings), Stop> {
-    let program = read_program(alloc, text)?;
-    let settings = read_settings(alloc, request, &program)?;
-    let code = resolve(alloc, &program)?;
-    Ok((code, settings))
 }
 
 /// Whether a byte may stand in a name.
@@ -123,41 +92,11 @@ fn may_make_paragraphs(text: &[u8]) -> bool {
 
 /// How many threads may read a file: those of the run, and one where the record separator may be empty,
 /// since records that are paragraphs are brought to one piece again.
-fn readers(request: &Request<'_>, text: &[u8]) -> usize {
-    if may_make_paragraphs(text) || request.assignments.iter().any(|text| *text == "RS=") {
+fn readers(line: &CommandLine<'_>, text: &[u8]) -> usize {
+    if may_make_paragraphs(text) || line.assignments.iter().any(|text| *text == "RS=") {
         1
     } else {
-        usize::from(request.workers)
-    }
-}
-
-/// The input: the files that were named, or standard input; nothing is read where no record is.
-fn open_input<R, I>(
-    rt: &R,
-    request: &Request<'_>,
-    readers: usize,
-    code: &Code,
-    input: I,
-) -> Result<Input, Stop>
-where
-    R: Files + AllocGlobal + Threads + Wait,
-    R::File: FileExt + Sync,
-    I: Read + Drop,
-{
-    if code.rules.is_empty() && code.ends.is_empty() {
-        return read_files(rt, &[], 1);
-    }
-    if request.files.is_empty() {
-        return read_stream(rt.alloc(), input);
-    }
-    read_files(rt, &request.files, readers)
-}
-
-/// How the input is divided.
-fn division(request: &Request<'_>) -> Division {
-    Division {
-        chunk: request.chunk,
-        workers: usize::from(request.workers),
+        usize::from(line.workers)
     }
 }
 
@@ -169,29 +108,72 @@ fn write_parts<O: Write>(output: &mut O, parts: Output) -> io::Result<()> {
     Ok(())
 }
 
-/// Runs the program of this text, and writes its output.
-pub(crate) fn run_whole<R, I, O>(
+/// What a run shows: its output, how it ended, and which way it went.
+#[derive(Drop)]
+struct Shown {
+    output: Output,
+    ending: Ending,
+    route: Route,
+}
+
+/// Runs a program, and drops its globals.
+fn show<R: Threads + Wait>(
     rt: &R,
-    request: &Request<'_>,
-    text: &[u8],
-    input: I,
+    alloc: Global,
+    job: Job<'_>,
+    assignments: &[Assignment],
+    input: &mut Input,
+    way: Way<'_>,
+) -> Result<Shown, Stop>
+    requires sized { IsSized way.cutting.now }
+    requires workers { IsCrew way.workers }
+{
+    let (outcome, report) = run(rt, alloc, job, assignments, input, way, &Open)?;
+    Ok(Shown {
+        output: outcome.output,
+        ending: outcome.ending,
+        route: report.route,
+    })
+}
+
+/// The input of a program over the files that are named: none is read where no record is.
+fn open_files<R>(rt: &R, line: &CommandLine<'_>, text: &[u8], job: Job<'_>) -> Result<Input, Stop>
+where
+    R: Files + AllocGlobal + Threads + Wait,
+    R::File: FileExt + Sync,
+{
+    if !job.reads_records() {
+        return read_files(rt, &[], 1);
+    }
+    read_files(rt, &line.files, readers(line, text))
+}
+
+/// Runs a request over the files that are named, and writes its output.
+fn run_files<R, O>(
+    rt: &R,
+    line: &CommandLine<'_>,
+    request: Request<'_>,
     output: &mut O,
 ) -> Result<End, Stop>
 where
-    R: Files + AllocGlobal + Threads + Wait + Sync,
+    R: Files + AllocGlobal + Threads + Wait,
     R::File: FileExt + Sync,
-    I: Read + Drop,
     O: Write,
+    requires sized { IsSized request.cutting.now }
+    requires workers { IsCrew request.workers }
 {
     let alloc = rt.alloc();
-    let (code, settings) = prepare(alloc, request, text)?;
-    let mut input = open_input(rt, request, readers(request, text), &code, input)?;
+    let (code, settings) = prepare(alloc, &request)?;
     let job = Job {
         code: &code,
-        budget: settings.budget(),
+        budget: request.budget,
     };
-    let division = division(request);
-    let shown = run_deep(rt, alloc, job, settings.assignments(), &mut input, division)?;
+    let mut input = open_files(rt, line, request.text, job)?;
+    let way = Way {
+        cutting: request.cutting,
+        workers: request.workers,
+    };
+    let shown = show(rt, alloc, job, settings.assignments(), &mut input, way)?;
     if write_parts(output, shown.output).is_err() {
         return Err(Stop::Write);
     }
@@ -199,4 +181,55 @@ where
         ending: shown.ending,
         route: shown.route,
     })
+}
+
+/// Runs a request over a stream, and writes its output.
+fn run_stream<R: Threads + Wait, I: Read + Drop, O: Write>(
+    rt: &R,
+    alloc: Global,
+    request: Request<'_>,
+    input: I,
+    output: &mut O,
+) -> Result<End, Stop>
+    requires sized { IsSized request.cutting.now }
+    requires workers { IsCrew request.workers }
+{
+    let mut source = Reader::new(input);
+    let mut sink = Writer::new(output);
+    let (ending, report) = run_streams(rt, alloc, &request, &mut source, &mut sink, &Open)?;
+    Ok(End {
+        ending,
+        route: report.route,
+    })
+}
+
+/// Runs the program of this text over the files that are named, or where there are none over standard input,
+/// and writes its output.
+pub(crate) fn run_whole<R, I, O>(
+    rt: &R,
+    line: &CommandLine<'_>,
+    text: &[u8],
+    input: I,
+    output: &mut O,
+) -> Result<End, Stop>
+where
+    R: Files + AllocGlobal + Threads + Wait,
+    R::File: FileExt + Sync,
+    I: Read + Drop,
+    O: Write,
+{
+    let alloc = rt.alloc();
+    let assigns = assignments(alloc, line)?;
+    let cutting = Cutting::Size(line.chunk);
+    let request = Request {
+        text,
+        assigns: assigns.as_slice(),
+        budget: line.steps,
+        cutting: &cutting,
+        workers: usize::from(line.workers),
+    };
+    if line.files.is_empty() {
+        return run_stream(rt, alloc, request, input, output);
+    }
+    run_files(rt, line, request, output)
 }

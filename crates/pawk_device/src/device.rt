@@ -1,7 +1,7 @@
 //! Devices that bytes come from and go to.
 
 ghost use Rattle.std.specs.Prelude.{◌≡◌, ◌≤◌, ◌<◌, ℕ, List, Option, length, IfOk};
-ghost use Rattle.std.specs.Io.{ReadsAtMost};
+ghost use Rattle.std.specs.Io.{ReadsAtMost, WritesAtMost};
 ghost use Rattle.std.specs.Io.KnownBytes.{ReadConsumes, WriteAppends};
 ghost use Rattle.pawk_device.specs.Device.{CountsRead, CountsWrite};
 
@@ -97,7 +97,8 @@ impl<R: Read> Source for Reader<R> {
     }
 }
 
-/// A sink over any writer. Each error is a failure, and so is a write that takes nothing.
+/// A sink over any writer. Each error is a failure, but that a call that a signal interrupted is made again, and so is a
+/// write that takes nothing.
 #[derive(Drop)]
 pub struct Writer<W> {
     /// The writer.
@@ -117,13 +118,31 @@ impl<W> Writer<W> {
     }
 }
 
+/// Writes, and again where a signal interrupted the call.
+fn write_on<W: Write>(writer: &mut W, bytes: &[u8]) -> io::Result<usize>
+    ensures bound { WritesAtMost result bytes.now }
+    ensures bytes { WriteAppends (W.contents writer.old) (W.contents writer.new) result bytes.now }
+{
+    for _ in 0..u64::MAX {
+        match writer.write(bytes) {
+            Ok(count) => return Ok(count),
+            Err(error) => {
+                if error.kind() != ErrorKind::Interrupted {
+                    return Err(error);
+                }
+            }
+        }
+    }
+    Err(io::Error::from(ErrorKind::Interrupted))
+}
+
 impl<W: Write> Sink for Writer<W> {
     ghost taken = { λ w. W.contents w.inner };
 
     ghost failures = { λ w. w.failures.times };
 
     fn write(&mut self, bytes: &[u8]) -> Result<usize, Failed> {
-        match self.inner.write(bytes) {
+        match write_on(&mut self.inner, bytes) {
             Ok(0) if !bytes.is_empty() => {
                 self.failures = Count::one_more(&self.failures);
                 Ok(0)

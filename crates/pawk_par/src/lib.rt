@@ -15,6 +15,7 @@ pub use pawk_threads::{
     ChunkResult, Chunked, Cutting, Ending, Gate, Job, Left, Open, Opening, Outcome, Place, Refusal,
     Report, Route, Task, Way, merge_results, run, run_chunk, work,
 };
+pub use preparing::prepare;
 pub use refusal::StreamRefusal;
 pub use request::Request;
 pub use streaming::run_streams;

@@ -47,11 +47,14 @@ fn read_settings(
     }
 }
 
-/// The code and the settings of a request.
-pub(crate) fn prepare(
-    alloc: Global,
-    request: &Request<'_>,
-) -> Result<(Code, Settings), StreamRefusal>
+/// Reads the text of a request as a program, and looks at what it assigns and at its budget: gives the program's
+/// code and its settings. Nothing of its input is read for it.
+///
+/// `Program` comes where the text is refused, with its cause and place; `Settings` where an assignment or the budget
+/// is refused, the first at fault; `Memory` where memory was refused. No other refusal comes.
+///
+/// POSIX.1-2017, awk, "OPTIONS" (-v) and "Grammar".
+pub fn prepare(alloc: Global, request: &Request<'_>) -> Result<(Code, Settings), StreamRefusal>
     ensures accepted { IfOk result (λ r.
         IsAccepted request.now (code_view r.0) (pairs_of r.1.assignments.items)) }
     ensures refused { IfErr result (WhyUnaccepted request.now) }
