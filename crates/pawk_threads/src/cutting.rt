@@ -17,10 +17,16 @@ use std::sync::Wait;
 use std::thread::Threads;
 
 /// How many chunks there may be for each worker before the input is cut by a greater size.
-const CHUNKS_OF_WORKER: usize = 8;
+const CHUNKS_OF_WORKER: usize = 4;
+
+/// So many for each there may be of a great input, beside whose records a merge takes little time.
+const CHUNKS_OF_GREAT_INPUT: usize = 8;
+
+/// From so many bytes on an input is great.
+const GREAT_INPUT: u64 = 268_435_456;
 
 /// So many chunks there may always be.
-const FEW_CHUNKS: usize = 32;
+const FEW_CHUNKS: usize = 16;
 
 /// More there never are where a greater size gives fewer.
 const MANY_CHUNKS: usize = 256;
@@ -29,10 +35,11 @@ const MANY_CHUNKS: usize = 256;
 #[derive(Drop)]
 pub enum Cutting {
     /// A chunk ends before the first record that begins at least so many bytes past the chunk's begin,
-    /// or at the end of the file. The size is 1 or more. Where there are more such chunks than 8 for each
-    /// worker (but 32 at least, and 256 at most), the input is cut by a greater size: each chunk notes
-    /// all keys that it meets, and the merge, which one thread does, goes through all of these. By a single
-    /// worker a single file of more than 32 times the size is run as one chunk.
+    /// or at the end of the file. The size is 1 or more. Where there are more such chunks than 4 for each
+    /// worker, or than 8 where the input has 256 MiB or more (but 16 at least, and 256 at most), the input is
+    /// cut by a greater size, of which it has about so many: each chunk notes all keys that it meets, and the
+    /// merge, which one thread does, goes through all of these. By a single worker a single file of more than
+    /// 16 times the size is run as one chunk.
     Size(u64),
     /// One more chunk begins at each of these places: a file, and an offset in it, both counted from 0.
     At(Vec<(usize, usize)>),
@@ -65,20 +72,35 @@ fn plan_here(alloc: Global, input: &Input, rs: &[u8], bytes: u64) -> Result<Plan
     }
 }
 
-/// How many chunks there may be for so many workers before the input is cut by a greater size.
-fn many_chunks(workers: usize) -> usize
+/// How many bytes all files of an input have together.
+fn total_size(input: &Input) -> u64 {
+    let mut total: u64 = 0;
+    for file in 0..input.files() {
+        total = total.saturating_add(input.size(file) as u64);
+    }
+    total
+}
+
+/// How many chunks there may be for so many workers and bytes before the input is cut by a greater size.
+fn many_chunks(workers: usize, total: u64) -> usize
     requires workers { IsCrew workers }
     ensures some { 0 < result }
 {
-    (workers * CHUNKS_OF_WORKER).clamp(FEW_CHUNKS, MANY_CHUNKS)
+    let each = if total < GREAT_INPUT {
+        CHUNKS_OF_WORKER
+    } else {
+        CHUNKS_OF_GREAT_INPUT
+    };
+    (workers * each).clamp(FEW_CHUNKS, MANY_CHUNKS)
 }
 
-/// A size that is greater by so many times that size.
-fn greater_size(bytes: u64, times: u64) -> u64
+/// A size of which the input has so many chunks or fewer, but where files end; at least the one that is given.
+fn greater_size(bytes: u64, total: u64, many: usize) -> u64
     requires sized { 0 < bytes }
+    requires some { 0 < many }
     ensures sized { 0 < result }
 {
-    bytes.saturating_add(bytes.saturating_mul(times))
+    bytes.max((total / many as u64).saturating_add(1))
 }
 
 /// The plan by another size, if memory is there; else the plan that is given.
@@ -135,11 +157,12 @@ fn plan_by_counts(
         Err(CutRefusal::Memory) => return Err(Refusal::Memory),
         Err(_) => return Err(Refusal::Cutting),
     };
-    let many = many_chunks(workers);
+    let total = total_size(input);
+    let many = many_chunks(workers, total);
     if plan.len() <= many {
         return Ok(plan);
     }
-    let greater = greater_size(bytes, (plan.len() / many) as u64);
+    let greater = greater_size(bytes, total, many);
     Ok(with_fewer_chunks(alloc, input, rs, greater, block, counts, plan))
 }
 
