@@ -74,12 +74,51 @@ impl Stripes {
     }
 }
 
-/// A block with room for a stripe of about this size, and room for a part of it.
-fn rooms(alloc: Global, size: usize) -> Result<(Block, Vec<u8>), AllocError> {
-    let block = Block::with_capacity(alloc, size.saturating_add(ROOM_BEHIND))?;
-    let mut part = Vec::new(alloc);
-    part.resize(PART, 0)?;
-    Ok((block, part))
+/// What a thread reads into: blocks with room for a stripe each, and room for a part of one.
+#[derive(Drop)]
+struct Rooms {
+    blocks: Vec<Block>,
+    part: Vec<u8>,
+}
+
+/// A block with room for one of these stripes.
+fn block_for(alloc: Global, stripes: Stripes) -> Result<Block, AllocError> {
+    Block::with_capacity(alloc, stripes.each.saturating_add(ROOM_BEHIND))
+}
+
+impl Rooms {
+    /// Room for as many of these stripes as each of so many threads reads where none is slower than another.
+    fn new(alloc: Global, stripes: Stripes, readers: usize) -> Result<Self, AllocError> {
+        let count = stripes.count / readers.max(1);
+        let mut blocks = Vec::with_capacity(alloc, count)?;
+        for _ in 0..count {
+            blocks.push(block_for(alloc, stripes)?)?;
+        }
+        let mut part = Vec::new(alloc);
+        part.resize(PART, 0)?;
+        Ok(Rooms { blocks, part })
+    }
+
+    /// One of the blocks that are left, or a new one where none is.
+    fn next_block(&mut self, alloc: Global, stripes: Stripes) -> Result<Block, AllocError> {
+        match self.blocks.pop() {
+            Some(block) => Ok(block),
+            None => block_for(alloc, stripes),
+        }
+    }
+}
+
+/// The rooms of all of so many threads but one.
+fn rooms_of_others(
+    alloc: Global,
+    stripes: Stripes,
+    readers: usize,
+) -> Result<Vec<Rooms>, AllocError> {
+    let mut others = Vec::with_capacity(alloc, readers)?;
+    for _ in 1..readers {
+        others.push(Rooms::new(alloc, stripes, readers)?)?;
+    }
+    Ok(others)
 }
 
 /// Appends a part that was read.
@@ -92,17 +131,13 @@ fn keep(block: &mut Block, part: &[u8]) -> Result<(), ErrorKind> {
     Ok(())
 }
 
-/// Reads a stripe of a file, or what there is of it; the newlines of each part are counted when it comes.
+/// Reads a stripe of a file, or what there is of it, into a block; the newlines of each part are counted when it comes.
 fn read_stripe<F: FileExt>(
-    alloc: Global,
     file: &F,
     stripe: Stripe,
-    room: usize,
+    mut block: Block,
+    part: &mut [u8],
 ) -> Result<Block, ErrorKind> {
-    let (mut block, mut part) = match rooms(alloc, room) {
-        Ok(rooms) => rooms,
-        Err(AllocError) => return Err(ErrorKind::OutOfMemory),
-    };
     for _ in 0..u64::MAX {
         let size = block.bytes().len();
         let wanted = part.len().min(stripe.size.saturating_sub(size));
@@ -124,14 +159,24 @@ type NumberedBlocks = Vec<(usize, Block)>;
 type Share = Result<NumberedBlocks, ErrorKind>;
 
 /// Reads stripes whose numbers it draws, until none is left.
-fn read_share<F: FileExt>(alloc: Global, file: &F, stripes: Stripes, next: &AtomicUsize) -> Share {
+fn read_share<F: FileExt>(
+    alloc: Global,
+    file: &F,
+    stripes: Stripes,
+    next: &AtomicUsize,
+    mut rooms: Rooms,
+) -> Share {
     let mut share = Vec::new(alloc);
     for _ in 0..stripes.count {
         let number = next.fetch_add(1, SeqCst);
         if number >= stripes.count {
             break;
         }
-        let block = read_stripe(alloc, file, stripes.stripe(number), stripes.each)?;
+        let Ok(block) = rooms.next_block(alloc, stripes) else {
+            return Err(ErrorKind::OutOfMemory);
+        };
+        let part = rooms.part.as_mut_slice();
+        let block = read_stripe(file, stripes.stripe(number), block, part)?;
         if share.push((number, block)).is_err() {
             return Err(ErrorKind::OutOfMemory);
         }
@@ -165,7 +210,8 @@ fn file_of(alloc: Global, stripes: NumberedBlocks, each: usize) -> io::Result<Bl
     Ok(Blocks::of(blocks))
 }
 
-/// The shares of so many threads, of which this is one; where one cannot be started, the others read what it would.
+/// The shares of so many threads, of which this is one; where one cannot be started, the others read what it would. All
+/// rooms are asked for before the first one reads: what fills its memory waits while another asks for some.
 fn read_shares<R: Threads + Wait, F: FileExt + Sync>(
     rt: &R,
     alloc: Global,
@@ -175,19 +221,21 @@ fn read_shares<R: Threads + Wait, F: FileExt + Sync>(
 ) -> Result<Vec<Share>, AllocError> {
     let next = AtomicUsize::new(0);
     let shared = &next;
+    let own = Rooms::new(alloc, stripes, readers)?;
+    let others = rooms_of_others(alloc, stripes, readers)?;
     thread::scope(
         thread::scope_env(),
         rt,
         |scope| -> Result<Vec<Share>, AllocError> {
             let mut handles = Vec::with_capacity(alloc, readers)?;
-            for _ in 1..readers {
-                match scope.spawn(move || read_share(alloc, file, stripes, shared)) {
+            for rooms in others {
+                match scope.spawn(move || read_share(alloc, file, stripes, shared, rooms)) {
                     Ok(handle) => handles.push(handle)?,
                     Err(_) => break,
                 }
             }
             let mut shares = Vec::with_capacity(alloc, readers)?;
-            shares.push(read_share(alloc, file, stripes, shared))?;
+            shares.push(read_share(alloc, file, stripes, shared, own))?;
             for handle in handles {
                 shares.push(handle.join(rt))?;
             }
