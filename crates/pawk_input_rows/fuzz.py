@@ -76,6 +76,23 @@ def by_size(size):
     return choose
 
 
+def by_steps(files, size, steps):
+    def choose(file, places):
+        before = sum(len(data) for _, data in files[:file])
+        starts = []
+        for p in places:
+            if starts:
+                here = size
+                for start, other in steps:
+                    if before + starts[-1] < start:
+                        break
+                    here = other
+            if not starts or p >= starts[-1] + here:
+                starts.append(p)
+        return starts
+    return choose
+
+
 def at_cuts(rs, files, cuts):
     before = None
     for file, place in cuts:
@@ -125,7 +142,7 @@ def row(rand):
     rs = rand.choice(['', '', '\n', ':'])
     part = rand.choice([in_blocks, lambda rand, data: data])
     names = [word for name, data in files for word in (name, part(rand, data))]
-    kind = rand.choice(['records', 'chunked', 'size', 'cuts', 'counts', 'counted', 'begins', 'split', 'pieces'])
+    kind = rand.choice(['records', 'chunked', 'size', 'cuts', 'counts', 'counted', 'stepped', 'begins', 'split', 'pieces'])
     size = rand.randint(1, 13)
     block = rand.randint(1, 6)
     if kind == 'records':
@@ -136,6 +153,10 @@ def row(rand):
         return [kind, str(size), rs] + names, chunks(rs, files, by_size(size))
     if kind == 'counted':
         return [kind, str(block), str(size), rs] + names, chunks(rs, files, by_size(size))
+    if kind == 'stepped':
+        steps = [(rand.randint(0, 24), rand.randint(1, 13)) for _ in range(2)]
+        words = ':'.join(str(number) for number in (size, *steps[0], *steps[1]))
+        return [kind, str(block), words, rs] + names, chunks(rs, files, by_steps(files, size, steps))
     if kind == 'counts':
         return [kind, str(block), rs] + names, block_counts(rs, files, block)
     if kind == 'begins':

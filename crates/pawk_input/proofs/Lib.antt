@@ -4,6 +4,7 @@ pub mod PlanLemmas
 pub mod CutPlanLemmas
 pub mod DraftLemmas
 pub mod SizeLemmas
+pub mod StepLemmas
 pub mod CountLemmas
 pub mod OneLemmas
 pub mod PassingLemmas

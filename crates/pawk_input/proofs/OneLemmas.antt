@@ -1,13 +1,12 @@
 -- The plan of one chunk, and how many chunks a plan by size has.
-use Rattle.std.proofs.Common.{◌≡◌, inl, inr, ℕ, zero, suc, ◌+◌, ◌-◌, ◌*◌, ◌<◌, ◌≤◌, ◌/◌, Bool, true, false, cond, leb, List, [], ◌∷◌, ◌++◌, length, take, refl, ap, sym, ◌∙◌, arith}
+use Rattle.std.proofs.Common.{◌≡◌, inl, inr, ℕ, zero, suc, ◌+◌, ◌*◌, ◌<◌, ◌≤◌, ◌/◌, Bool, true, false, cond, List, [], ◌∷◌, length, take, refl, ap, ◌∙◌, arith}
 use Rattle.std.proofs.lemmas.Bool.Decides.{leb_tells}
 use Rattle.std.proofs.lemmas.List.{append-nil}
 use Rattle.std.proofs.Math.Nat.{suc-mul, le-div_iff_mul-le}
 use Rattle.pawk_records.specs.Records.{records_by}
 use Rattle.pawk_records.specs.Begins.{begins_at, begins_by, places_where}
-use Rattle.pawk_input.specs.Input.{File, file_at, empty_file}
-use Rattle.pawk_input.specs.declared.cutting.Chunk.{Chunk}
-use Rattle.pawk_input.specs.Plan.{IsBeginOrEnd, chunks_at, chunks_of, cut_at, cut_places, places_by_size, places_by_size_from, sized}
+use Rattle.pawk_input.specs.Input.{File, file_at}
+use Rattle.pawk_input.specs.Plan.{IsBeginOrEnd, chunks_at, cut_at, cut_places, places_by_size, places_by_size_from, sized}
 use Rattle.pawk_input.proofs.SizeLemmas.{nothing_before}
 use Rattle.pawk_input.proofs.CutPlanLemmas.{cut_places_here, no_cut_places}
 
@@ -42,28 +41,28 @@ module _ (size : ℕ) (test : ℕ → Bool) where
   one_more : (k : ℕ) → suc k * size ≡ k * size + size
   one_more k = suc-mul k size
 
-  few_from : (from i k : ℕ) → from ≤ i + k → length (places_by_size_from size from (places_where test i k)) * size + from ≤ i + k
+  few_from : (from i k : ℕ) → from ≤ i + k → length (places_by_size_from (λ _. size) from (places_where test i k)) * size + from ≤ i + k
   few_from from i zero le = rw nothing (omega arith)
   few_from from i (suc k) le =
       let later = few_from from (i + 1) k (omega arith) in
       let near = few_from i (i + 1) k (omega arith) in
       let rest = places_where test (i + 1) k in
-      elim (test i) as (λ v. length (places_by_size_from size from (cond v (i ∷ rest) rest)) * size + from ≤ i + suc k) [
+      elim (test i) as (λ v. length (places_by_size_from (λ _. size) from (cond v (i ∷ rest) rest)) * size + from ≤ i + suc k) [
         | true ↦ (elim (leb_tells (from + size) i) [
-          | inl far ↦ rw far.0 (omega (arith, near, far.1, one_more (length (places_by_size_from size i rest))))
+          | inl far ↦ rw far.0 (omega (arith, near, far.1, one_more (length (places_by_size_from (λ _. size) i rest))))
           | inr not ↦ rw not.0 (omega (arith, later))
         ])
         | false ↦ omega (arith, later)
       ]
 
-  few_places : (i k : ℕ) → length (places_by_size size (places_where test i k)) * size ≤ i + k + size
+  few_places : (i k : ℕ) → length (places_by_size (λ _. size) (places_where test i k)) * size ≤ i + k + size
   few_places i zero = rw nothing (omega arith)
   few_places i (suc k) =
       let later = few_places (i + 1) k in
       let near = few_from i (i + 1) k (omega arith) in
       let rest = places_where test (i + 1) k in
-      elim (test i) as (λ v. length (places_by_size size (cond v (i ∷ rest) rest)) * size ≤ i + suc k + size) [
-        | true ↦ omega (arith, near, one_more (length (places_by_size_from size i rest)))
+      elim (test i) as (λ v. length (places_by_size (λ _. size) (cond v (i ∷ rest) rest)) * size ≤ i + suc k + size) [
+        | true ↦ omega (arith, near, one_more (length (places_by_size_from (λ _. size) i rest)))
         | false ↦ omega (arith, later)
       ]
 
@@ -77,7 +76,7 @@ pub few_chunks : (rs : List ℕ) (files : List File) (size most : ℕ) → lengt
 few_chunks rs files size most one some lt =
     let bytes = (file_at files 0).bytes in
     let n = length bytes in
-    let places = places_by_size size (begins_by rs bytes) in
+    let places = places_by_size (λ _. size) (begins_by rs bytes) in
     let only : length (sized rs files size) ≡ length places =
     ap (λ l. length (sized rs l size)) (one_file files one) ∙ ap length (append-nil (chunks_at rs 0 bytes 0 places)) ∙ length-chunks_at rs 0 bytes 0 places in
     omega (arith, only, fits (length places) n lt (few_places size (begins_at rs bytes) 0 n))

@@ -162,12 +162,12 @@ module _ (rs s : List ℕ) where
   Rises-lower p q [] le h = tt
   Rises-lower p q (x ∷ xs) le h = (omega (arith, h.0), h.1, h.2, h.3)
 
-  Rises-places_by_size : (size from p : ℕ) (xs : List ℕ) → Rises rs s p xs → Rises rs s p (places_by_size_from size from xs)
+  Rises-places_by_size : (size : ℕ → ℕ) (from p : ℕ) (xs : List ℕ) → Rises rs s p xs → Rises rs s p (places_by_size_from size from xs)
   Rises-places_by_size size from p [] h = tt
   Rises-places_by_size size from p (x ∷ xs) h =
       let kept = Rises-places_by_size size x x xs h.3 in
       let later = Rises-lower p x (places_by_size_from size from xs) (omega (arith, h.0)) (Rises-places_by_size size from x xs h.3) in
-      elim (leb (from + size) x) as (λ v. Rises rs s p (cond v (x ∷ places_by_size_from size x xs) (places_by_size_from size from xs))) [
+      elim (leb (from + size from) x) as (λ v. Rises rs s p (cond v (x ∷ places_by_size_from size x xs) (places_by_size_from size from xs))) [
         | true ↦ (h.0, h.1, h.2, kept)
         | false ↦ later
       ]
@@ -214,7 +214,7 @@ first_place test i (suc n) =
       | inr here ↦ (let same : i ≡ k = omega (arith, here.1) in false≢true (sym e ∙ ap test same ∙ is))
     ]
 
-pub picked_by_size : (rs : List ℕ) (size : ℕ) (s : List ℕ) → Picked rs s (places_by_size size (begins_by rs s))
+pub picked_by_size : (rs : List ℕ) (size : ℕ → ℕ) (s : List ℕ) → Picked rs s (places_by_size size (begins_by rs s))
 picked_by_size rs size s = elim (first_place (begins_at rs s) 0 (length s)) [
   | inl none ↦ rw none none
   | inr h ↦ rw h.5 (omega (arith, h.2), h.4, h.3, Rises-places_by_size rs s size h.0 h.0 (places_where (begins_at rs s) (h.0 + 1) (0 + length s - (h.0 + 1))) (Rises-begins rs s (h.0 + 1) (0 + length s - (h.0 + 1)) h.0 (omega (arith, h.2)) (omega arith)))
@@ -239,6 +239,16 @@ module _ (rs : List ℕ) (files : List File) (chosen : ℕ → List ℕ → List
       let rest = chunks_of rs chosen (file + 1) later (drop (file + 1) files) in
       ap (λ l. l ++ rest) added ∙ append_assoc old (chunks_at rs file bytes nr (chosen file (begins_by rs bytes))) rest
       ∙ ap (λ l. old ++ l) (sym (planned_next later count)) ∙ is
+
+  -- there are at least as many as those and the next file's
+  pub planned_fits : (old all : List Chunk) → old ++ chunks_of rs chosen file nr (drop file files) ≡ all → length old + length (chunks_at rs file bytes nr (chosen file (begins_by rs bytes))) ≤ length all
+  planned_fits old all is =
+      let here = chunks_at rs file bytes nr (chosen file (begins_by rs bytes)) in
+      let count = nr + length (records_by rs bytes) in
+      let rest = chunks_of rs chosen (file + 1) count (drop (file + 1) files) in
+      let both = sym (length-append old (chunks_of rs chosen file nr (drop file files))) ∙ ap length is in
+      let next = ap length (planned_next count refl) ∙ length-append here rest in
+      omega (arith, both, next)
 
   -- and the bytes that are left
   pub total_size_next : total_size (drop file files) ≡ length bytes + total_size (drop (file + 1) files)

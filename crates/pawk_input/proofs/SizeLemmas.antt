@@ -60,36 +60,36 @@ module _ (rs s : List ℕ) where
   pub nothing_before : (q : ℕ) → IsBeginOrEnd rs s 0 q → records_by rs (take q s) ≡ []
   nothing_before q h = none_before rs s q h.within (λ k lt. h.none k (omega arith) lt)
 
-  module _ (size : ℕ) where
+  module _ (size : ℕ → ℕ) where
     -- the places of the chunks that are left
     abbrev pub places_left : ℕ → List ℕ
     places_left p = places_by_size size (begins_left p)
 
     -- those that lie too near are passed over
-    near : (from i n : ℕ) (l : List ℕ) → ((k : ℕ) → i ≤ k → k < i + n → test k ≡ true → k < from + size) → places_by_size_from size from (places_where test i n ++ l) ≡ places_by_size_from size from l
+    near : (from i n : ℕ) (l : List ℕ) → ((k : ℕ) → i ≤ k → k < i + n → test k ≡ true → k < from + size from) → places_by_size_from size from (places_where test i n ++ l) ≡ places_by_size_from size from l
     near from i zero l low = refl
     near from i (suc n) l low =
         let later = near from (i + 1) n l (λ k le lt is. low k (omega arith) (omega arith) is) in
         elim (test i) as (λ v. (test i ≡ v) → places_by_size_from size from (cond v (i ∷ places_where test (i + 1) n) (places_where test (i + 1) n) ++ l) ≡ places_by_size_from size from l) [
-          | true ↦ (λ e. rw (beyond (from + size) i (low i (omega arith) (omega arith) e)) later)
+          | true ↦ (λ e. rw (beyond (from + size from) i (low i (omega arith) (omega arith) e)) later)
           | false ↦ (λ e. later)
         ] refl
 
-    -- the next chunk begins at the first record that begins at least `size` past this one
-    far : (p q : ℕ) → IsBeginOrEnd rs s (p + size) q → places_by_size_from size p (begins_left q) ≡ places_left q
+    -- the next chunk begins at the first record that begins at least its size past this one
+    far : (p q : ℕ) → IsBeginOrEnd rs s (p + size p) q → places_by_size_from size p (begins_left q) ≡ places_left q
     far p q h = elim (leb_tells (length s) q) [
       | inl end ↦ ap (places_by_size_from size p) (none_left q end.1) ∙ sym (ap (places_by_size size) (none_left q end.1))
       | inr more ↦ (let there = h.begins more.1 in
-          ap (places_by_size_from size p) (first_of q more.1 there.1) ∙ rw (within (p + size) q there.0) (sym (ap (places_by_size size) (first_of q more.1 there.1))))
+          ap (places_by_size_from size p) (first_of q more.1 there.1) ∙ rw (within (p + size p) q there.0) (sym (ap (places_by_size size) (first_of q more.1 there.1))))
     ]
 
-    too_near : (v : ℕ) (p q : ℕ) → IsBeginOrEnd rs s (p + size) q → v < q → test v ≡ true → v < p + size
-    too_near v p q h lt is = elim (leb_tells (p + size) v) [
+    too_near : (v : ℕ) (p q : ℕ) → IsBeginOrEnd rs s (p + size p) q → v < q → test v ≡ true → v < p + size p
+    too_near v p q h lt is = elim (leb_tells (p + size p) v) [
       | inl past ↦ absurd (h.none v past.1 lt is)
       | inr low ↦ low.1
     ]
 
-    pub next_place : (p q : ℕ) → p < length s → BeginsAt rs s p → p < q → IsBeginOrEnd rs s (p + size) q → places_left p ≡ p ∷ places_left q
+    pub next_place : (p q : ℕ) → p < length s → BeginsAt rs s p → p < q → IsBeginOrEnd rs s (p + size p) q → places_left p ≡ p ∷ places_left q
     next_place p q lt is up h =
         let parts : length s - (p + 1) ≡ (q - (p + 1)) + (length s - q) = omega (arith, h.within) in
         let at : p + 1 + (q - (p + 1)) ≡ q = omega arith in
@@ -107,7 +107,7 @@ module _ (rs s : List ℕ) where
     pub no_places : (p : ℕ) → length s ≤ p → places_left p ≡ []
     no_places p le = ap (places_by_size size) (none_left p le)
 
-    pub next_chunk : (k nr p q : ℕ) → p < length s → BeginsAt rs s p → p < q → IsBeginOrEnd rs s (p + size) q
+    pub next_chunk : (k nr p q : ℕ) → p < length s → BeginsAt rs s p → p < q → IsBeginOrEnd rs s (p + size p) q
         → chunks_at rs k s nr (places_left p) ≡ record {
           file = k;
           range = record { start = p; end = q };
@@ -132,13 +132,13 @@ from_greatest rs s from q few h = record {
 }
 
 -- a turn of a loop over the chunks: the next chunk, of those that are left, begins at p and ends at q
-module _ (rs s : List ℕ) (size k nr p q : ℕ) (old all : List Chunk) (some : 0 < size) (few : length s < 18446744073709551615) (lt : p < length s) (begins : BeginsAt rs s p)
-    (ends : IsBeginOrEnd rs s (min (p + size) 18446744073709551615) q) (is : old ++ chunks_at rs k s nr (places_left rs s size p) ≡ all) where
-  ends_far : IsBeginOrEnd rs s (p + size) q
-  ends_far = from_greatest rs s (p + size) q few ends
+module _ (rs s : List ℕ) (size : ℕ → ℕ) (k nr p q : ℕ) (old all : List Chunk) (some : 0 < size p) (few : length s < 18446744073709551615) (lt : p < length s) (begins : BeginsAt rs s p)
+    (ends : IsBeginOrEnd rs s (min (p + size p) 18446744073709551615) q) (is : old ++ chunks_at rs k s nr (places_left rs s size p) ≡ all) where
+  ends_far : IsBeginOrEnd rs s (p + size p) q
+  ends_far = from_greatest rs s (p + size p) q few ends
 
   pub chunk_up : p < q
-  chunk_up = next_up rs s p size q some lt ends_far
+  chunk_up = next_up rs s p (size p) q some lt ends_far
 
   next : chunks_at rs k s nr (places_left rs s size p) ≡ record {
     file = k;

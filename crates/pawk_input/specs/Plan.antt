@@ -7,8 +7,9 @@ use Rattle.std.specs.Prelude.{slice_range}
 use Rattle.std.specs.List.{slice_index_or, flat_map, list_any}
 use Rattle.pawk_records.specs.Records.{records_by}
 use Rattle.pawk_records.specs.Begins.{BeginsAt, begins_by}
-use Rattle.pawk_input.specs.Input.{File, Item, file_at, file_items, items}
+use Rattle.pawk_input.specs.Input.{File, Item, file_at, file_items, items, total_size}
 use Rattle.pawk_input.specs.declared.cutting.Chunk.{Chunk}
+use Rattle.pawk_input.specs.declared.steps.Step.{Step}
 use Rattle.pawk_input.specs.declared.cutting.CutRefusal.{CutRefusal}
 use Rattle.pawk_input.specs.declared.cutting.CutRefusal.TheVariants.{NoRecord, NotRising}
 use Rattle.pawk_input.specs.declared.cutting.CutRefusal.TheVariants.{TooMany, Memory}
@@ -61,27 +62,51 @@ chunks_of rs chosen file nr (f ∷ fs) =
 
 -- ---- by size
 
--- of places that rise, each first one that lies at least `size` past the one taken before it; the
--- one before the first is `from`
-abbrev pub places_by_size_from : ℕ → ℕ → List ℕ → List ℕ
+-- Of places that rise, each first one that lies at least `size` past the one taken before it; the
+-- one before the first is `from`. The size may depend on the place that was taken before.
+abbrev pub places_by_size_from : (ℕ → ℕ) → ℕ → List ℕ → List ℕ
 places_by_size_from size from [] = []
 places_by_size_from size from (p ∷ ps) =
-    if nat_le (from + size) p then p ∷ places_by_size_from size p ps
+    if nat_le (from + size from) p then p ∷ places_by_size_from size p ps
     else places_by_size_from size from ps
 
 -- the first place, and each first one that lies at least `size` past the one taken before it
-abbrev pub places_by_size : ℕ → List ℕ → List ℕ
+abbrev pub places_by_size : (ℕ → ℕ) → List ℕ → List ℕ
 places_by_size size [] = []
 places_by_size size (p ∷ ps) = p ∷ places_by_size_from size p ps
 
 -- the chunks by size of a file before which nr records came
-abbrev pub sized_chunks : List ℕ → ℕ → ℕ → List ℕ → ℕ → List Chunk
-sized_chunks rs size file bytes nr = chunks_at rs file bytes nr (places_by_size size (begins_by rs bytes))
+abbrev pub sized_chunks : List ℕ → (ℕ → ℕ) → ℕ → List ℕ → ℕ → List Chunk
+sized_chunks rs size file bytes nr =
+    chunks_at rs file bytes nr (places_by_size size (begins_by rs bytes))
 
 -- The plan by size: a chunk ends before the first record that begins at least `size` bytes past the
 -- chunk's begin, or at the end of the file; a file with records always begins a chunk.
 abbrev pub sized : List ℕ → List File → ℕ → List Chunk
-sized rs files size = chunks_of rs (λ _ places. places_by_size size places) 0 0 files
+sized rs files size = chunks_of rs (λ _ places. places_by_size (λ _. size) places) 0 0 files
+
+-- ---- by steps: the plan by size, but from each step on with another size
+
+-- the size of the last of the first steps that lie at this place of all bytes or before it; `size`
+-- where there is none
+abbrev pub size_at : ℕ → List Step → ℕ → ℕ
+size_at size [] place = size
+size_at size (step ∷ steps) place =
+    if nat_le step.from place then size_at step.size steps place else size
+
+-- the same at a place of a file before which so many bytes came
+abbrev pub size_in_file : ℕ → List Step → ℕ → ℕ → ℕ
+size_in_file size steps before place = size_at size steps (before + place)
+
+-- how many bytes the files before this one have together
+abbrev pub bytes_before : List File → ℕ → ℕ
+bytes_before files file = total_size (take file files)
+
+-- the plan by steps: each chunk by the size at the place of its begin
+abbrev pub stepped : List ℕ → List File → ℕ → List Step → List Chunk
+stepped rs files size steps =
+    chunks_of rs (λ file. places_by_size (size_in_file size steps (bytes_before files file)))
+    0 0 files
 
 -- ---- at cuts, each a file's place and an offset in it, both counted from 0
 

@@ -1,6 +1,6 @@
 //! Plans by size out of the counts of records of blocks.
 
-ghost use Rattle.std.specs.Prelude.{◌≡◌, ◌+◌, ◌^◌, ◌<◌, ◌≤◌, ◌++◌, length, take, vec_len, OnOk, IfErr, IfOk};
+ghost use Rattle.std.specs.Prelude.{◌≡◌, ◌+◌, ◌^◌, ◌<◌, ◌≤◌, ◌++◌, length, take, vec_len, All, OnOk, IfErr, IfOk};
 ghost use Rattle.pawk_records.specs.Records.{records_by};
 ghost use Rattle.pawk_records.specs.Begins.{begins_within};
 ghost use Rattle.pawk_records.specs.Separator.{rs_of};
@@ -9,11 +9,12 @@ ghost use Rattle.pawk_blocks.specs.Blocks.{AreMended, joined};
 ghost use Rattle.pawk_input.specs.Input.{IsReady, file_at, files_of};
 ghost use Rattle.pawk_input.specs.Counts.{block_counts, blocks_of, counts_left};
 ghost use Rattle.pawk_input.specs.Passed.{IsPassed};
-ghost use Rattle.pawk_input.specs.Plan.{RefusesMany, sized_chunks};
+ghost use Rattle.pawk_input.specs.Plan.{RefusesMany, size_in_file, sized_chunks};
 
 use crate::cutting::{Chunk, CutRefusal};
 use crate::draft::{Draft, add_chunk, begin_or_end};
 use crate::files::Input;
+use crate::steps::FileSteps;
 use pawk_blocks::LentBlocks;
 use pawk_records::Separator;
 use std::alloc::{AllocError, Global};
@@ -141,30 +142,36 @@ pub(crate) fn block_number(size: usize, block: usize) -> usize
 }
 
 impl Draft {
-    /// Adds the next file's chunks by size, numbered by the counts of its blocks.
+    /// Adds the next file's chunks by steps, numbered by the counts of its blocks.
     pub(crate) fn add_by_counts(
         &mut self,
         file: usize,
         blocks: &LentBlocks<'_>,
         rs: &[u8],
-        size: u64,
+        steps: FileSteps<'_>,
         block: usize,
         counts: &[u64],
     ) -> Result<(), CutRefusal>
         requires one_byte { length rs.now ≤ 1 }
-        requires sized { 0 < size }
+        requires sized { 0 < steps.size }
+        requires each { All (λ step. 0 < step.size) steps.steps.now }
         requires some { 0 < block }
         requires mended { AreMended rs.now blocks.now }
         requires counts { counts.now ≡ counts_left rs.now block (joined blocks.now) 0 }
         requires room { self.old.nr + length (joined blocks.now) ≤ most_bytes }
+        requires place { steps.before + length (joined blocks.now) ≤ most_bytes }
         requires few { vec_len self.old.chunks ≤ most_chunks }
         ensures chunks { OnOk result (self.new.chunks.items ≡ self.old.chunks.items
-            ++ sized_chunks rs.now size file (joined blocks.now) self.old.nr) }
+            ++ sized_chunks rs.now
+            (size_in_file steps.entry.size steps.entry.steps.now steps.entry.before) file
+            (joined blocks.now) self.old.nr) }
         ensures counted { OnOk result
             (self.new.nr ≡ self.old.nr + length (records_by rs.now (joined blocks.now))) }
         ensures few { OnOk result (vec_len self.new.chunks ≤ most_chunks) }
         ensures refused { IfErr result (RefusesMany (vec_len self.old.chunks
-            + length (sized_chunks rs.now size file (joined blocks.now) self.old.nr)) most_chunks) }
+            + length (sized_chunks rs.now
+            (size_in_file steps.entry.size steps.entry.steps.now steps.entry.before) file
+            (joined blocks.now) self.old.nr)) most_chunks) }
     {
         let separator = Separator::of(rs);
         let mut passed = Passed {
@@ -175,7 +182,8 @@ impl Draft {
         let whole = blocks.size();
         let mut start = begin_or_end(separator, blocks, 0);
         while start < whole {
-            let end = begin_or_end(separator, blocks, start.saturating_add(size as usize));
+            let size = steps.size_at(start) as usize;
+            let end = begin_or_end(separator, blocks, start.saturating_add(size));
             let (fnr, later) = records_before(separator, blocks, block, passed, start);
             let chunk = Chunk {
                 file,

@@ -110,12 +110,13 @@ impl Draft {
         requires room { self.old.nr + length (joined blocks.now) ≤ most_bytes }
         requires few { vec_len self.old.chunks ≤ most_chunks }
         ensures chunks { OnOk result (self.new.chunks.items ≡ self.old.chunks.items
-            ++ sized_chunks rs.now size file (joined blocks.now) self.old.nr) }
+            ++ sized_chunks rs.now (λ _. size) file (joined blocks.now) self.old.nr) }
         ensures counted { OnOk result
             (self.new.nr ≡ self.old.nr + length (records_by rs.now (joined blocks.now))) }
         ensures few { OnOk result (vec_len self.new.chunks ≤ most_chunks) }
         ensures refused { IfErr result (RefusesMany (vec_len self.old.chunks
-            + length (sized_chunks rs.now size file (joined blocks.now) self.old.nr)) most_chunks) }
+            + length (sized_chunks rs.now (λ _. size) file (joined blocks.now) self.old.nr))
+            most_chunks) }
     {
         let separator = Separator::of(rs);
         let whole = blocks.size();

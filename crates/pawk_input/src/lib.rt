@@ -11,6 +11,7 @@ mod item;
 mod lent;
 mod passing;
 mod plan;
+mod steps;
 mod walk;
 
 pub use counts::{count_block, count_blocks};
@@ -28,4 +29,5 @@ pub use pawk_split::{
     expression_matcher, field_by, split_fields, split_fields_with, split_law,
 };
 pub use plan::Plan;
+pub use steps::Step;
 pub use walk::Records;

@@ -1,19 +1,20 @@
 //! Plans: the input cut into chunks of whole records.
 
-ghost use Rattle.std.specs.Prelude.{◌≡◌, ℕ, ◌<◌, ◌≤◌, [], None, length, slice_get};
+ghost use Rattle.std.specs.Prelude.{◌≡◌, ℕ, ◌<◌, ◌≤◌, [], None, All, length, slice_get};
 ghost use Rattle.std.specs.Prelude.{IfOk, IfErr, IfSome};
 ghost use Rattle.pawk_input.specs.Limits.{most_chunks};
 ghost use Rattle.pawk_input.specs.Input.{IsReady, files_of};
 ghost use Rattle.pawk_input.specs.Walk.{items_left};
 ghost use Rattle.pawk_input.specs.Counts.{block_counts};
 ghost use Rattle.pawk_input.specs.Plan.{IsPlanOf, RefusesCuts, RefusesMany, chunk_items};
-ghost use Rattle.pawk_input.specs.Plan.{cut_at, cut_fault, sized};
+ghost use Rattle.pawk_input.specs.Plan.{cut_at, cut_fault, sized, stepped};
 
 use crate::counts::block_number;
 use crate::cuts::{check_cuts, cuts_in};
 use crate::cutting::{Chunk, CutRefusal, MOST_CHUNKS};
 use crate::draft::{Draft, begin_or_end};
 use crate::files::Input;
+use crate::steps::{FileSteps, Step};
 use crate::walk::Records;
 use pawk_records::Separator;
 use std::alloc::Global;
@@ -86,12 +87,53 @@ impl Plan {
         ensures refused { IfErr result
             (RefusesMany (length (sized rs.now (files_of input.now) bytes)) most_chunks) }
     {
+        Plan::by_steps(alloc, input, rs, bytes, &[], block, counts)
+    }
+
+    /// The plan by steps, out of the counts of records of blocks: as `by_counts`, but from each step
+    /// on by the step's size: a chunk is as long as the last step says that lies at its begin or
+    /// before it, where no step before that one lies past its begin.
+    ///
+    /// `rs` holds the byte at which records end, or none for paragraphs.
+    ///
+    /// Gives `TooMany` where that are more than 1,048,576 chunks, and `Memory` where memory was
+    /// refused.
+    pub fn by_steps(
+        alloc: Global,
+        input: &Input,
+        rs: &[u8],
+        bytes: u64,
+        steps: &[Step],
+        block: usize,
+        counts: &[u64],
+    ) -> Result<Plan, CutRefusal>
+        requires one_byte { length rs.now ≤ 1 }
+        requires ready { IsReady rs.now input.now }
+        requires some { 0 < bytes }
+        requires each { All (λ step. 0 < step.size) steps.now }
+        requires block { 0 < block }
+        requires counts { counts.now ≡ block_counts rs.now block (files_of input.now) }
+        ensures value { IfOk result
+            (λ plan. plan ≡ stepped rs.now (files_of input.now) bytes steps.now) }
+        ensures plan { IfOk result (λ plan. IsPlanOf rs.now (files_of input.now) plan) }
+        ensures few { IfOk result (λ plan. length plan ≤ most_chunks) }
+        ensures refused { IfErr result
+            (RefusesMany (length (stepped rs.now (files_of input.now) bytes steps.now)) most_chunks) }
+    {
         let mut draft = Draft::new(alloc);
         let mut left = counts;
+        let mut before: u64 = 0;
         for file in 0..input.files() {
             let blocks = input.blocks(file);
-            let (here, later) = left.split_at(block_number(input.size(file), block));
-            draft.add_by_counts(file, &blocks, rs, bytes, block, here)?;
+            let size = input.size(file);
+            let (here, later) = left.split_at(block_number(size, block));
+            let file_steps = FileSteps {
+                size: bytes,
+                steps,
+                before,
+            };
+            draft.add_by_counts(file, &blocks, rs, file_steps, block, here)?;
+            before += size as u64;
             left = later;
         }
         Ok(Plan {

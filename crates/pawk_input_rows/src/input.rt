@@ -15,6 +15,7 @@
 //! | `many` count size | how many chunks of that size has a file of that many empty records |
 //! | `counts` block separator files | how many records begin in each block |
 //! | `counted` block size separator files | the chunks of the plan by size out of those counts |
+//! | `stepped` block sizes separator files | the chunks of the plan by a size and two steps, as `4:6:2:10:1` |
 //! | `begins` begin end separator bytes | how many records of the bytes begin in the range |
 //! | `split` separator paragraph record | the ranges of the fields between a byte, with `paragraph` 1 between newlines too |
 //! | `pieces` separator paragraph record | how many fields they are, and each |

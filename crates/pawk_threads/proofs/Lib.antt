@@ -3,3 +3,4 @@ pub mod RouteLemmas
 pub mod EndLemmas
 pub mod MergedLemmas
 pub mod OutputLemmas
+pub mod AllowedLemmas

@@ -11,35 +11,34 @@ ghost use Rattle.pawk_threads.specs.Cuttings.{IsSized, IsRefused};
 use crate::report::Refusal;
 use pawk_count::{block_size, count_records};
 use pawk_crew::{CrewRefusal, Gate};
-use pawk_input::{CutRefusal, Input, Plan};
+use pawk_input::{CutRefusal, Input, Plan, Step};
 use std::alloc::Global;
 use std::sync::Wait;
 use std::thread::Threads;
 
-/// How many chunks there may be for each worker before the input is cut by a greater size.
+/// How many chunks there may be for each worker before the input is cut by greater sizes.
 const CHUNKS_OF_WORKER: usize = 4;
-
-/// So many for each there may be of a great input, beside whose records a merge takes little time.
-const CHUNKS_OF_GREAT_INPUT: usize = 8;
-
-/// From so many bytes on an input is great.
-const GREAT_INPUT: u64 = 268_435_456;
 
 /// So many chunks there may always be.
 const FEW_CHUNKS: usize = 16;
 
-/// More there never are where a greater size gives fewer.
+/// More there never are where greater sizes give fewer.
 const MANY_CHUNKS: usize = 256;
+
+/// How many units of bytes each worker has where the input is cut by greater sizes: a chunk of four, one of two, and one
+/// of one.
+const UNITS_OF_WORKER: u64 = 7;
 
 /// How the input is to be cut into chunks.
 #[derive(Drop)]
 pub enum Cutting {
     /// A chunk ends before the first record that begins at least so many bytes past the chunk's begin,
     /// or at the end of the file. The size is 1 or more. Where there are more such chunks than 4 for each
-    /// worker, or than 8 where the input has 256 MiB or more (but 16 at least, and 256 at most), the input is
-    /// cut by a greater size, of which it has about so many: each chunk notes all keys that it meets, and the
-    /// merge, which one thread does, goes through all of these. By a single worker a single file of more than
-    /// 16 times the size is run as one chunk.
+    /// worker (but 16 at least, and 256 at most), the input is cut by greater sizes: each worker has a chunk
+    /// of about four sevenths of its share, then one of two, and at last one of one. So there are few, since
+    /// each chunk notes all keys that it meets, and the merge, which one thread does, goes through all of
+    /// these; and the last are small, since a worker that finds no more waits for the others. By a single
+    /// worker a single file of more than 16 times the size is run as one chunk.
     Size(u64),
     /// One more chunk begins at each of these places: a file, and an offset in it, both counted from 0.
     At(Vec<(usize, usize)>),
@@ -81,51 +80,66 @@ fn total_size(input: &Input) -> u64 {
     total
 }
 
-/// How many chunks there may be for so many workers and bytes before the input is cut by a greater size.
-fn many_chunks(workers: usize, total: u64) -> usize
+/// How many chunks there may be for so many workers before the input is cut by greater sizes.
+fn many_chunks(workers: usize) -> usize
     requires workers { IsCrew workers }
-    ensures some { 0 < result }
 {
-    let each = if total < GREAT_INPUT {
-        CHUNKS_OF_WORKER
-    } else {
-        CHUNKS_OF_GREAT_INPUT
-    };
-    (workers * each).clamp(FEW_CHUNKS, MANY_CHUNKS)
+    (workers * CHUNKS_OF_WORKER).clamp(FEW_CHUNKS, MANY_CHUNKS)
 }
 
-/// A size of which the input has so many chunks or fewer, but where files end; at least the one that is given.
-fn greater_size(bytes: u64, total: u64, many: usize) -> u64
-    requires sized { 0 < bytes }
-    requires some { 0 < many }
-    ensures sized { 0 < result }
-{
-    bytes.max((total / many as u64).saturating_add(1))
+/// Sizes of chunks that halve along the input, twice.
+#[derive(Clone, Copy)]
+struct HalvingSizes {
+    /// The last size, in bytes, 1 or more.
+    unit: u64,
+    /// How many bytes all workers' chunks of the last size have together.
+    batch: u64,
 }
 
-/// The plan by another size, if memory is there; else the plan that is given.
-fn with_fewer_chunks(
-    alloc: Global,
-    input: &Input,
-    rs: &[u8],
-    bytes: u64,
-    block: usize,
-    counts: &[u64],
-    plan: Plan,
-) -> Plan
-    requires sized { 0 < bytes }
-    requires one_byte { length rs.now ≤ 1 }
-    requires ready { IsReady rs.now input.now }
-    requires block { 0 < block }
-    requires counts { counts.now ≡ block_counts rs.now block (files_of input.now) }
-    requires plan { IsPlanOf rs.now (files_of input.now) plan }
-    requires few { length plan ≤ most_chunks }
-    ensures plan { IsPlanOf rs.now (files_of input.now) result }
-    ensures few { length result ≤ most_chunks }
-{
-    match Plan::by_counts(alloc, input, rs, bytes, block, counts) {
-        Ok(fewer) => fewer,
-        Err(_) => plan,
+impl HalvingSizes {
+    /// The sizes for so many workers, of an input of so many bytes; each is at least the one that is given.
+    fn new(bytes: u64, total: u64, workers: usize) -> Self
+        requires sized { 0 < bytes }
+        requires workers { IsCrew workers }
+        ensures sized { 0 < result.unit }
+    {
+        let workers = workers as u64;
+        let unit = bytes.max(total / (workers * UNITS_OF_WORKER) + 1);
+        HalvingSizes {
+            unit,
+            batch: unit.saturating_mul(workers),
+        }
+    }
+
+    /// The plan by these sizes, if memory is there.
+    fn plan(
+        self,
+        alloc: Global,
+        input: &Input,
+        rs: &[u8],
+        block: usize,
+        counts: &[u64],
+    ) -> Option<Plan>
+        requires sized { 0 < self.unit }
+        requires one_byte { length rs.now ≤ 1 }
+        requires ready { IsReady rs.now input.now }
+        requires block { 0 < block }
+        requires counts { counts.now ≡ block_counts rs.now block (files_of input.now) }
+        ensures plan { IfSome result (λ p. IsPlanOf rs.now (files_of input.now) p) }
+        ensures few { IfSome result (λ p. length p ≤ most_chunks) }
+    {
+        let steps = [
+            Step {
+                from: self.batch.saturating_mul(4),
+                size: self.unit.saturating_mul(2),
+            },
+            Step {
+                from: self.batch.saturating_mul(6),
+                size: self.unit,
+            },
+        ];
+        let first = self.unit.saturating_mul(4);
+        Plan::by_steps(alloc, input, rs, first, &steps, block, counts).ok()
     }
 }
 
@@ -157,13 +171,11 @@ fn plan_by_counts(
         Err(CutRefusal::Memory) => return Err(Refusal::Memory),
         Err(_) => return Err(Refusal::Cutting),
     };
-    let total = total_size(input);
-    let many = many_chunks(workers, total);
-    if plan.len() <= many {
+    if plan.len() <= many_chunks(workers) {
         return Ok(plan);
     }
-    let greater = greater_size(bytes, total, many);
-    Ok(with_fewer_chunks(alloc, input, rs, greater, block, counts, plan))
+    let sizes = HalvingSizes::new(bytes, total_size(input), workers);
+    Ok(sizes.plan(alloc, input, rs, block, counts).unwrap_or(plan))
 }
 
 /// The plan of one chunk, where the input is one file that has more than a few times the size of a chunk.

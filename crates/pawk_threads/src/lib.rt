@@ -3,6 +3,7 @@
 
 mod chunked;
 mod cutting;
+mod law;
 mod merging;
 mod prologue;
 mod report;

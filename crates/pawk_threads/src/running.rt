@@ -1,6 +1,6 @@
 //! Whole runs.
 
-ghost use Rattle.std.specs.Prelude.{◌≡◌, ◌↔◌, Err, IfOk, IsTrue};
+ghost use Rattle.std.specs.Prelude.{◌≡◌, ◌≢◌, ◌↔◌, Err, IfOk, IsTrue};
 ghost use Rattle.pawk_code.specs.ProgramViews.{code_view};
 ghost use Rattle.pawk_input.specs.Input.{files_of};
 ghost use Rattle.pawk_store.specs.Openings.{pairs_of};
@@ -15,12 +15,13 @@ ghost use Rattle.pawk_threads.specs.Routes.{HasRecords, IsRoute, begin_end, whol
 
 use crate::chunked::run_plan;
 use crate::cutting::{Way, plan_of};
+use crate::law::never_disallowed;
 use crate::prologue::{Prologue, begin, go_on, has_records};
 use crate::report::{Refusal, Report, Route};
 use pawk_admit::{Reason, Roles, admit};
 use pawk_crew::{Chunked, Gate};
 use pawk_input::Input;
-use pawk_one::{Job, Outcome, run_one};
+use pawk_one::{Ending, Job, Outcome, run_one};
 use pawk_settings::Assignment;
 use std::alloc::Global;
 use std::sync::Wait;
@@ -121,7 +122,7 @@ fn run_once<G: Gate + Sync, R: Threads + Wait>(
 
 /// Runs a program with these assignments made before, its records in chunks by threads where it may, and
 /// tells how it went. What it leaves is what a run of one thread leaves, whatever the cutting and the
-/// number of workers, 1 to 64.
+/// number of workers, 1 to 64. It never is disallowed, since globals answer each request.
 ///
 /// One worker is this thread, each other a thread of its own; all have ended when this returns. The gate is
 /// called round each chunk that is run, on its worker's thread. Where the chunks are not merged, the program is run again from its begin,
@@ -145,6 +146,7 @@ pub fn run<G: Gate + Sync, R: Threads + Wait>(
     requires workers { IsCrew way.workers }
     ensures outcome { IfOk result (λ r. Answers (whole_run (code_view job.entry.code.now)
         job.entry.budget (pairs_of assignments.now) (files_of input.old)) r.0) }
+    ensures allowed { IfOk result (λ r. r.0.ending ≢ Ending.Disallowed) }
     ensures route { IfOk result (λ r. IsRoute (code_view job.entry.code.now)
         job.entry.budget (files_of input.old)
         (begin_end (code_view job.entry.code.now) job.entry.budget (pairs_of assignments.now))
@@ -157,6 +159,7 @@ pub fn run<G: Gate + Sync, R: Threads + Wait>(
         (files_of input.old) way.entry.cutting.now }
     ensures same { files_of input.new ≡ files_of input.old }
 {
+    never_disallowed();
     match run_once(rt, alloc, job, assignments, input, way, gate)? {
         Some((outcome, route)) => Ok((outcome, Report { route })),
         None => {

@@ -14,7 +14,7 @@ fn first_file(verb: Verb) -> usize {
     match verb {
         Verb::Files => 1,
         Verb::Records => 2,
-        Verb::Counted | Verb::Begins => 4,
+        Verb::Counted | Verb::Stepped | Verb::Begins => 4,
         _ => 3,
     }
 }
@@ -190,6 +190,7 @@ fn push_on(
         Verb::Size => plans::push_by_size(alloc, rs, input, asked, out),
         Verb::Chunked => plans::push_chunked(alloc, rs, input, asked, out),
         Verb::Counted => plans::push_counted(alloc, row, rs, input, out),
+        Verb::Stepped => plans::push_stepped(alloc, row, rs, input, out),
         _ => out.extend_from_slice(b"no such row"),
     }
 }

@@ -1,10 +1,10 @@
 //! Rows about plans.
 
-ghost use Rattle.std.specs.Prelude.{◌≤◌, length};
+ghost use Rattle.std.specs.Prelude.{◌<◌, ◌≤◌, length};
 ghost use Rattle.pawk_input.specs.Input.{IsReady};
 
 use super::files::{push_numbers, push_records};
-use pawk_input::{CutRefusal, Input, Plan, TooLarge, count_blocks};
+use pawk_input::{CutRefusal, Input, Plan, Step, TooLarge, count_blocks};
 use pawk_rows::{cell, number, piece, push_decimal};
 use std::alloc::{AllocError, Global};
 
@@ -96,6 +96,40 @@ pub fn push_counted(
     }
     let counts = count_blocks(alloc, input, rs, block)?;
     let plan = Plan::by_counts(alloc, input, rs, size, block, counts.as_slice());
+    push_plan(alloc, plan, out)
+}
+
+/// The step whose place is a piece of the cell and whose size is the next, which is 1 at least.
+fn step(sizes: &[u8], place: usize) -> Step
+    requires { place < 8 }
+    ensures { 0 < result.size }
+{
+    Step {
+        from: number(piece(sizes, b':', place)),
+        size: number(piece(sizes, b':', place + 1)).max(1),
+    }
+}
+
+/// Adds the plan by two steps out of the counts of blocks.
+pub fn push_stepped(
+    alloc: Global,
+    row: &[u8],
+    rs: &[u8],
+    input: &Input,
+    out: &mut Vec<u8>,
+) -> Result<(), AllocError>
+    requires one_byte { length rs.now ≤ 1 }
+    requires ready { IsReady rs.now input.now }
+{
+    let block = number(cell(row, 1)) as usize;
+    if block == 0 {
+        return out.extend_from_slice(b"no such plan");
+    }
+    let sizes = cell(row, 2);
+    let size = number(piece(sizes, b':', 0)).max(1);
+    let steps = [step(sizes, 1), step(sizes, 3)];
+    let counts = count_blocks(alloc, input, rs, block)?;
+    let plan = Plan::by_steps(alloc, input, rs, size, &steps, block, counts.as_slice());
     push_plan(alloc, plan, out)
 }
 

@@ -11,6 +11,7 @@ pub enum Verb {
     Many,
     Counts,
     Counted,
+    Stepped,
     Begins,
     Split,
     Pieces,
@@ -21,7 +22,7 @@ pub enum Verb {
 }
 
 /// Each word, with what it asks for.
-static WORDS: [(&[u8], Verb); 14] = [
+static WORDS: [(&[u8], Verb); 15] = [
     (b"files", Verb::Files),
     (b"records", Verb::Records),
     (b"chunked", Verb::Chunked),
@@ -30,6 +31,7 @@ static WORDS: [(&[u8], Verb); 14] = [
     (b"many", Verb::Many),
     (b"counts", Verb::Counts),
     (b"counted", Verb::Counted),
+    (b"stepped", Verb::Stepped),
     (b"begins", Verb::Begins),
     (b"split", Verb::Split),
     (b"pieces", Verb::Pieces),

@@ -3,7 +3,7 @@ use Rattle.pawk_blocks.specs.Blocks.{joined}
 use Rattle.pawk_input.specs.Limits.{most_chunks}
 use Rattle.pawk_records.specs.Begins.{BeginsAt, begins_by}
 use Rattle.pawk_input.specs.Passed.{IsPassed}
-use Rattle.pawk_input.specs.Plan.{chunks_at, places_by_size}
+use Rattle.pawk_input.specs.Plan.{chunks_at, places_by_size, size_in_file}
 use Rattle.pawk_input.proofs.SizeLemmas.{places_left}
 use Rattle.pawk_input.proofs.draft.Draft.add_by_counts.Given as goal
 
@@ -14,8 +14,8 @@ invariant-loop-start l = record {
   within : l.start ≤ length (joined l.blocks);
   begins : l.start < length (joined l.blocks) → BeginsAt l.rs (joined l.blocks) l.start;
   few : vec_len l.self.chunks ≤ most_chunks;
-  chunks : l.self.chunks.items ++ chunks_at l.rs l.file (joined l.blocks) l.self.nr (places_left l.rs (joined l.blocks) l.size l.start)
-      ≡ l.initial.self.chunks.items ++ chunks_at l.rs l.file (joined l.blocks) l.initial.self.nr (places_by_size l.size (begins_by l.rs (joined l.blocks)));
+  chunks : l.self.chunks.items ++ chunks_at l.rs l.file (joined l.blocks) l.self.nr (places_left l.rs (joined l.blocks) (size_in_file l.steps.size l.steps.steps.now l.steps.before) l.start)
+      ≡ l.initial.self.chunks.items ++ chunks_at l.rs l.file (joined l.blocks) l.initial.self.nr (places_by_size (size_in_file l.steps.size l.steps.steps.now l.steps.before) (begins_by l.rs (joined l.blocks)));
 }
 
 abbrev pub decreases-loop-start : goal.decreases-loop-start

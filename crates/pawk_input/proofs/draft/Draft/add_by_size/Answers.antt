@@ -22,7 +22,7 @@ loop-start-init c =
       within = h.within;
       begins = λ lt. (h.begins lt).1;
       few = c.requires.few;
-      chunks = ap (λ l. c.args.self.now.chunks.items ++ chunks_at rs c.args.file s c.args.self.now.nr (places_by_size c.args.size l)) (sym (begins_first rs s p h));
+      chunks = ap (λ l. c.args.self.now.chunks.items ++ chunks_at rs c.args.file s c.args.self.now.nr (places_by_size (λ _. c.args.size) l)) (sym (begins_first rs s p h));
     }
 
 pub returns-in_err-fnr-clause-refused : goal.returns-in_err-fnr-clause-refused
@@ -30,8 +30,8 @@ returns-in_err-fnr-clause-refused c =
     let e = err_from_is_err_and c.from_residual.result c.from_residual.ensures.1 in
     let s = joined c.args.blocks.now in
     let ends = rw (c.of-separator.ensures, c.saturating_add.ensures) at c.begin_or_end-end.ensures in
-    let fits = chunk_fits c.args.rs.now s c.args.size c.args.file c.loop-start.self.nr c.loop-start.start _ c.loop-start.self.chunks.items _ (omega arith) (omega arith) (omega arith) (c.loop-start.invariant.begins (omega arith)) ends c.loop-start.invariant.chunks in
-    let all = length-append c.args.self.now.chunks.items (sized_chunks c.args.rs.now c.args.size c.args.file s c.args.self.now.nr) in
+    let fits = chunk_fits c.args.rs.now s (λ _. c.args.size) c.args.file c.loop-start.self.nr c.loop-start.start _ c.loop-start.self.chunks.items _ (omega arith) (omega arith) (omega arith) (c.loop-start.invariant.begins (omega arith)) ends c.loop-start.invariant.chunks in
+    let all = length-append c.args.self.now.chunks.items (sized_chunks c.args.rs.now (λ _. c.args.size) c.args.file s c.args.self.now.nr) in
     rw (e.1, e.2) (RefusesMany-longer _ _ most_chunks c.in_err-fnr.field-0.0 (omega (arith, fits, all, c.loop-start.self.chunks.ok.0, c.args.self.now.chunks.ok.0)) c.in_err-fnr.ensures.refused)
 
 pub loop-start-preserved : goal.loop-start-preserved
@@ -44,7 +44,7 @@ loop-start-preserved c =
     let is : BeginsAt rs s p = c.loop-start.invariant.begins (omega arith) in
     let ends = rw (c.of-separator.ensures, c.saturating_add.ensures) at c.begin_or_end-end.ensures in
     let nr = c.loop-start.self.nr in
-    let up : p < q = chunk_up rs s c.args.size c.args.file nr p q old _ (omega arith) (omega arith) (omega arith) is ends c.loop-start.invariant.chunks in
+    let up : p < q = chunk_up rs s (λ _. c.args.size) c.args.file nr p q old _ (omega arith) (omega arith) (omega arith) is ends c.loop-start.invariant.chunks in
     let before : c.loop-start.fnr ≡ length (records_by rs (take p s)) = c.loop-start.invariant.counted in
     let count : c.in_ok-fnr.fnr ≡ length (records_by rs (take q s)) = part_count rs s p q up ends.within c.loop-start.fnr c.in_ok-fnr.fnr is before (rw c.of-separator.ensures at c.in_ok-fnr.ensures.counted) in
     record {
@@ -54,5 +54,5 @@ loop-start-preserved c =
       within = ends.within;
       begins = λ lt. (ends.begins lt).1;
       few = c.in_ok-fnr.ensures.few;
-      chunks = rw c.in_ok-fnr.ensures.nr (chunk_moved rs s c.args.size c.args.file nr p q old _ (omega arith) (omega arith) (omega arith) is ends c.loop-start.invariant.chunks c.add_part.new.self.chunks.items c.loop-start.fnr before c.in_ok-fnr.ensures.added);
+      chunks = rw c.in_ok-fnr.ensures.nr (chunk_moved rs s (λ _. c.args.size) c.args.file nr p q old _ (omega arith) (omega arith) (omega arith) is ends c.loop-start.invariant.chunks c.add_part.new.self.chunks.items c.loop-start.fnr before c.in_ok-fnr.ensures.added);
     }

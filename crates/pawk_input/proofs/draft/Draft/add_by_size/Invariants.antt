@@ -15,8 +15,8 @@ invariant-loop-start l = record {
   within : l.start ≤ length (joined l.blocks);
   begins : l.start < length (joined l.blocks) → BeginsAt l.rs (joined l.blocks) l.start;
   few : vec_len l.self.chunks ≤ most_chunks;
-  chunks : l.self.chunks.items ++ chunks_at l.rs l.file (joined l.blocks) l.self.nr (places_left l.rs (joined l.blocks) l.size l.start)
-      ≡ l.initial.self.chunks.items ++ chunks_at l.rs l.file (joined l.blocks) l.initial.self.nr (places_by_size l.size (begins_by l.rs (joined l.blocks)));
+  chunks : l.self.chunks.items ++ chunks_at l.rs l.file (joined l.blocks) l.self.nr (places_left l.rs (joined l.blocks) (λ _. l.size) l.start)
+      ≡ l.initial.self.chunks.items ++ chunks_at l.rs l.file (joined l.blocks) l.initial.self.nr (places_by_size (λ _. l.size) (begins_by l.rs (joined l.blocks)));
 }
 
 abbrev pub decreases-loop-start : goal.decreases-loop-start

@@ -9,5 +9,5 @@ abbrev pub invariant-loop-file : goal.invariant-loop-file
 invariant-loop-file l = record {
   few : vec_len l.draft.chunks ≤ most_chunks;
   room : l.draft.nr + total_size (drop l.file (files_of l.input)) ≤ most_bytes;
-  chunks : l.draft.chunks.items ++ chunks_of l.rs (λ _ places. places_by_size l.bytes places) l.file l.draft.nr (drop l.file (files_of l.input)) ≡ sized l.rs (files_of l.input) l.bytes;
+  chunks : l.draft.chunks.items ++ chunks_of l.rs (λ _ places. places_by_size (λ _. l.bytes) places) l.file l.draft.nr (drop l.file (files_of l.input)) ≡ sized l.rs (files_of l.input) l.bytes;
 }

@@ -1,9 +1,7 @@
-use Rattle.std.proofs.Common.{◌≡◌, ℕ, ◌<◌, ◌≤◌, ◌/◌, ◌++◌, [], ◌∷◌, length, take, refl, ap, sym, ◌∙◌, subst, rules, arith}
-use Rattle.pawk_records.specs.Separator.{rs_of}
-use Rattle.pawk_blocks.specs.Blocks.{joined}
+use Rattle.std.proofs.Common.{◌≡◌, ◌<◌, ◌≤◌, ◌/◌, [], ◌∷◌, length, refl, ap, sym, ◌∙◌, rules, arith}
 use Rattle.pawk_input.specs.Limits.{most_chunks}
 use Rattle.pawk_input.specs.Input.{files_of, file_at}
-use Rattle.pawk_input.specs.Plan.{IsBeginOrEnd, IsPlanOf, cut_at, cut_places}
+use Rattle.pawk_input.specs.Plan.{IsBeginOrEnd, cut_places}
 use Rattle.pawk_input.proofs.PlanLemmas.{is_plan}
 use Rattle.pawk_input.proofs.CutPlanLemmas.{picked_at_cuts}
 use Rattle.pawk_input.proofs.OneLemmas.{no_chunk, one_chunk, few_chunks}
