@@ -25,8 +25,8 @@ const FEW_CHUNKS: usize = 16;
 /// More there never are where greater sizes give fewer.
 const MANY_CHUNKS: usize = 256;
 
-/// How many units of bytes each worker has where the input is cut by greater sizes: a chunk of four, one of two, and one
-/// of one.
+/// Into how many units a worker's share is cut where the input is cut by greater sizes: a chunk has four, one two, and one
+/// a single one.
 const UNITS_OF_WORKER: u64 = 7;
 
 /// How the input is to be cut into chunks.
@@ -87,28 +87,38 @@ fn many_chunks(workers: usize) -> usize
     (workers * CHUNKS_OF_WORKER).clamp(FEW_CHUNKS, MANY_CHUNKS)
 }
 
-/// Sizes of chunks that halve along the input, twice.
+/// Sizes of chunks that halve along the input, twice, down to a least one.
 #[derive(Clone, Copy)]
 struct HalvingSizes {
-    /// The last size, in bytes, 1 or more.
+    /// How many bytes a chunk has at least, 1 or more.
+    least: u64,
+    /// How many bytes the last chunk of a worker has, where that is more.
     unit: u64,
-    /// How many bytes all workers' chunks of the last size have together.
+    /// How many bytes the last chunks of all workers have together then.
     batch: u64,
 }
 
 impl HalvingSizes {
     /// The sizes for so many workers, of an input of so many bytes; each is at least the one that is given.
     fn new(bytes: u64, total: u64, workers: usize) -> Self
-        requires sized { 0 < bytes }
         requires workers { IsCrew workers }
-        ensures sized { 0 < result.unit }
+        ensures least { result.least ≡ bytes }
     {
         let workers = workers as u64;
-        let unit = bytes.max(total / (workers * UNITS_OF_WORKER) + 1);
+        let unit = total / (workers * UNITS_OF_WORKER) + 1;
         HalvingSizes {
+            least: bytes,
             unit,
             batch: unit.saturating_mul(workers),
         }
+    }
+
+    /// The size of so many units.
+    fn size(self, units: u64) -> u64
+        requires some { 0 < self.least }
+        ensures sized { 0 < result }
+    {
+        self.unit.saturating_mul(units).max(self.least)
     }
 
     /// The plan by these sizes, if memory is there.
@@ -120,7 +130,7 @@ impl HalvingSizes {
         block: usize,
         counts: &[u64],
     ) -> Option<Plan>
-        requires sized { 0 < self.unit }
+        requires some { 0 < self.least }
         requires one_byte { length rs.now ≤ 1 }
         requires ready { IsReady rs.now input.now }
         requires block { 0 < block }
@@ -131,15 +141,14 @@ impl HalvingSizes {
         let steps = [
             Step {
                 from: self.batch.saturating_mul(4),
-                size: self.unit.saturating_mul(2),
+                size: self.size(2),
             },
             Step {
                 from: self.batch.saturating_mul(6),
-                size: self.unit,
+                size: self.size(1),
             },
         ];
-        let first = self.unit.saturating_mul(4);
-        Plan::by_steps(alloc, input, rs, first, &steps, block, counts).ok()
+        Plan::by_steps(alloc, input, rs, self.size(4), &steps, block, counts).ok()
     }
 }
 
