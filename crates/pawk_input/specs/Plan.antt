@@ -9,7 +9,7 @@ use Rattle.pawk_records.specs.Records.{records_by}
 use Rattle.pawk_records.specs.Begins.{BeginsAt, begins_by}
 use Rattle.pawk_input.specs.Input.{File, Item, file_at, file_items, items, total_size}
 use Rattle.pawk_input.specs.declared.cutting.Chunk.{Chunk}
-use Rattle.pawk_input.specs.declared.steps.Step.{Step}
+use Rattle.pawk_input.specs.declared.steps.SizeStep.{SizeStep}
 use Rattle.pawk_input.specs.declared.cutting.CutRefusal.{CutRefusal}
 use Rattle.pawk_input.specs.declared.cutting.CutRefusal.TheVariants.{NoRecord, NotRising}
 use Rattle.pawk_input.specs.declared.cutting.CutRefusal.TheVariants.{TooMany, Memory}
@@ -89,13 +89,13 @@ sized rs files size = chunks_of rs (λ _ places. places_by_size (λ _. size) pla
 
 -- the size of the last of the first steps that lie at this place of all bytes or before it; `size`
 -- where there is none
-abbrev pub size_at : ℕ → List Step → ℕ → ℕ
+abbrev pub size_at : ℕ → List SizeStep → ℕ → ℕ
 size_at size [] place = size
 size_at size (step ∷ steps) place =
     if nat_le step.from place then size_at step.size steps place else size
 
 -- the same at a place of a file before which so many bytes came
-abbrev pub size_in_file : ℕ → List Step → ℕ → ℕ → ℕ
+abbrev pub size_in_file : ℕ → List SizeStep → ℕ → ℕ → ℕ
 size_in_file size steps before place = size_at size steps (before + place)
 
 -- how many bytes the files before this one have together
@@ -103,7 +103,7 @@ abbrev pub bytes_before : List File → ℕ → ℕ
 bytes_before files file = total_size (take file files)
 
 -- the plan by steps: each chunk by the size at the place of its begin
-abbrev pub stepped : List ℕ → List File → ℕ → List Step → List Chunk
+abbrev pub stepped : List ℕ → List File → ℕ → List SizeStep → List Chunk
 stepped rs files size steps =
     chunks_of rs (λ file. places_by_size (size_in_file size steps (bytes_before files file)))
     0 0 files

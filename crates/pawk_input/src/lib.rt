@@ -29,5 +29,5 @@ pub use pawk_split::{
     expression_matcher, field_by, split_fields, split_fields_with, split_law,
 };
 pub use plan::Plan;
-pub use steps::Step;
+pub use steps::SizeStep;
 pub use walk::Records;

@@ -14,7 +14,7 @@ use crate::cuts::{check_cuts, cuts_in};
 use crate::cutting::{Chunk, CutRefusal, MOST_CHUNKS};
 use crate::draft::{Draft, begin_or_end};
 use crate::files::Input;
-use crate::steps::{FileSteps, Step};
+use crate::steps::{FileSteps, SizeStep};
 use crate::walk::Records;
 use pawk_records::Separator;
 use std::alloc::Global;
@@ -103,7 +103,7 @@ impl Plan {
         input: &Input,
         rs: &[u8],
         bytes: u64,
-        steps: &[Step],
+        steps: &[SizeStep],
         block: usize,
         counts: &[u64],
     ) -> Result<Plan, CutRefusal>

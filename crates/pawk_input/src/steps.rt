@@ -5,7 +5,7 @@ ghost use Rattle.pawk_input.specs.Plan.{size_in_file};
 
 /// From a place of the input on, chunks have at least so many bytes.
 #[derive(Clone, Copy)]
-pub struct Step {
+pub struct SizeStep {
     /// The place among the bytes of all files, counted from 0.
     pub from: u64,
     /// How many bytes a chunk has at least that begins there, or later up to the next step.
@@ -17,7 +17,7 @@ pub struct Step {
 pub(crate) struct FileSteps<'s> {
     /// How many bytes chunks have at least before the first step.
     pub(crate) size: u64,
-    pub(crate) steps: &'s [Step],
+    pub(crate) steps: &'s [SizeStep],
     /// How many bytes the files before this one have together.
     pub(crate) before: u64,
 }

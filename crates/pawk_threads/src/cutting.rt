@@ -11,7 +11,7 @@ ghost use Rattle.pawk_threads.specs.Cuttings.{IsSized, IsRefused};
 use crate::report::Refusal;
 use pawk_count::{block_size, count_records};
 use pawk_crew::{CrewRefusal, Gate};
-use pawk_input::{CutRefusal, Input, Plan, Step};
+use pawk_input::{CutRefusal, Input, Plan, SizeStep};
 use std::alloc::Global;
 use std::sync::Wait;
 use std::thread::Threads;
@@ -25,9 +25,14 @@ const FEW_CHUNKS: usize = 16;
 /// More there never are where greater sizes give fewer.
 const MANY_CHUNKS: usize = 256;
 
-/// Into how many units a worker's share is cut where the input is cut by greater sizes: a chunk has four, one two, and one
-/// a single one.
-const UNITS_OF_WORKER: u64 = 7;
+/// How many units the first chunk of each worker has where the input is cut by greater sizes.
+const FIRST_UNITS: u64 = 4;
+
+/// How many its second chunk has.
+const SECOND_UNITS: u64 = 2;
+
+/// Into how many units a worker's share is cut: its third chunk, the last, has a single one.
+const UNITS_OF_WORKER: u64 = FIRST_UNITS + SECOND_UNITS + 1;
 
 /// How the input is to be cut into chunks.
 #[derive(Drop)]
@@ -113,10 +118,9 @@ impl HalvingSizes {
         }
     }
 
-    /// The size of so many units.
+    /// The size of so many units, and no less than the least.
     fn size(self, units: u64) -> u64
-        requires some { 0 < self.least }
-        ensures sized { 0 < result }
+        ensures least { self.least ≤ result }
     {
         self.unit.saturating_mul(units).max(self.least)
     }
@@ -139,16 +143,17 @@ impl HalvingSizes {
         ensures few { IfSome result (λ p. length p ≤ most_chunks) }
     {
         let steps = [
-            Step {
-                from: self.batch.saturating_mul(4),
-                size: self.size(2),
+            SizeStep {
+                from: self.batch.saturating_mul(FIRST_UNITS),
+                size: self.size(SECOND_UNITS),
             },
-            Step {
-                from: self.batch.saturating_mul(6),
+            SizeStep {
+                from: self.batch.saturating_mul(FIRST_UNITS + SECOND_UNITS),
                 size: self.size(1),
             },
         ];
-        Plan::by_steps(alloc, input, rs, self.size(4), &steps, block, counts).ok()
+        let size = self.size(FIRST_UNITS);
+        Plan::by_steps(alloc, input, rs, size, &steps, block, counts).ok()
     }
 }
 

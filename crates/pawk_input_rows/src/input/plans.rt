@@ -4,7 +4,7 @@ ghost use Rattle.std.specs.Prelude.{◌<◌, ◌≤◌, length};
 ghost use Rattle.pawk_input.specs.Input.{IsReady};
 
 use super::files::{push_numbers, push_records};
-use pawk_input::{CutRefusal, Input, Plan, Step, TooLarge, count_blocks};
+use pawk_input::{CutRefusal, Input, Plan, SizeStep, TooLarge, count_blocks};
 use pawk_rows::{cell, number, piece, push_decimal};
 use std::alloc::{AllocError, Global};
 
@@ -100,11 +100,11 @@ pub fn push_counted(
 }
 
 /// The step whose place is a piece of the cell and whose size is the next, which is 1 at least.
-fn step(sizes: &[u8], place: usize) -> Step
+fn step(sizes: &[u8], place: usize) -> SizeStep
     requires { place < 8 }
     ensures { 0 < result.size }
 {
-    Step {
+    SizeStep {
         from: number(piece(sizes, b':', place)),
         size: number(piece(sizes, b':', place + 1)).max(1),
     }
