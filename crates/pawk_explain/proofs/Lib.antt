@@ -1,0 +1,3 @@
+mod ColumnLemmas
+mod PlaceLemmas
+mod ReadingLemmas

@@ -1,0 +1,164 @@
+//! Regular expressions that cannot be read: the number 10.
+
+use crate::case::{Case, byte_at};
+use crate::lexical::tell_escape;
+use crate::note::Note;
+use memchr::memrchr;
+use pawk_pattern::{Ere, EreRefusal};
+use pawk_token::token::Value;
+use std::alloc::{AllocError, Global};
+
+/// How long an expression is at most in which the place is sought.
+const LONGEST: usize = 2_000;
+
+/// Why an expression cannot be read, and the place of the byte at fault in it, counted from 0.
+#[derive(Clone, Copy)]
+struct Finding {
+    why: EreRefusal,
+    place: usize,
+}
+
+/// Why a text is no expression.
+fn refusal_of(alloc: Global, text: &[u8]) -> Option<EreRefusal> {
+    match Ere::parse(alloc, text) {
+        Ok(_) => None,
+        Err(why) => Some(why),
+    }
+}
+
+/// The least length from which on the text is refused for this cause, whatever its length.
+fn least_length(alloc: Global, text: &[u8], why: EreRefusal) -> usize {
+    for length in (0..text.len()).rev() {
+        let part = text.get(..length).unwrap_or(&[]);
+        if refusal_of(alloc, part) != Some(why) {
+            return length.saturating_add(1);
+        }
+    }
+    0
+}
+
+/// Why an expression cannot be read, and where it is at fault.
+fn find(alloc: Global, text: &[u8]) -> Option<Finding> {
+    if text.len() > LONGEST {
+        return None;
+    }
+    let why = refusal_of(alloc, text)?;
+    let place = least_length(alloc, text, why).saturating_sub(1);
+    if why != EreRefusal::Bound {
+        return Some(Finding { why, place });
+    }
+    let before = text.get(..place).unwrap_or(text);
+    Some(Finding {
+        why,
+        place: memrchr(b'{', before).unwrap_or(place),
+    })
+}
+
+/// What is told of a form that is not defined, at this byte.
+fn words_of_form(byte: u8) -> &'static str {
+    match byte {
+        b'*' | b'+' | b'?' => "there is nothing to repeat before @",
+        b'{' => "this { begins no count of what is before it",
+        b'|' => "one side of this | is empty",
+        _ => "a group, or a side of a |, is empty",
+    }
+}
+
+/// What to write in place of a form that is not defined.
+fn advice_of_form(byte: u8) -> &'static str {
+    match byte {
+        b'{' => "the sign itself is written \\{; a count begins with a number, as a{0,3}",
+        b'*' | b'+' | b'?' => "the sign itself is written \\@; of two repetitions leave one: a*",
+        b'|' => "for one or nothing write (a)?; the sign itself is written \\|",
+        _ => "for something or nothing write (a)?; the signs themselves are written \\( and \\)",
+    }
+}
+
+/// What to write in place of an escape that expressions do not have.
+fn advice_of_escape(byte: u8) -> &'static str {
+    match byte {
+        b'd' => "write [0-9]",
+        b'D' => "write [^0-9]",
+        b's' => "write [ \\t]",
+        b'S' => "write [^ \\t]",
+        b'w' => "write [A-Za-z0-9_]",
+        b'W' => "write [^A-Za-z0-9_]",
+        b'B' | b'y' =>
+            "the ends of words have no sign: write what is round them, as (^|[^a-z])word([^a-z]|$)",
+        _ => "leave the backslash out: only signs, and a b f n r t v, have one",
+    }
+}
+
+/// An escape that expressions do not have.
+fn explain_escape(text: &[u8], place: usize, note: &mut Note) -> Result<(), AllocError> {
+    let escape = match text.get(place..) {
+        Some(rest) => rest.get(..2).unwrap_or(b"\\"),
+        None => b"\\",
+    };
+    let byte = byte_at(escape, 1);
+    tell_escape(note, "expressions have no escape @", escape)?;
+    note.advise(advice_of_escape(byte), &[])
+}
+
+/// A form that is not defined.
+fn explain_form(byte: u8, note: &mut Note) -> Result<(), AllocError> {
+    let sign = [byte];
+    note.tell(words_of_form(byte), &[sign.as_slice()])?;
+    note.advise(advice_of_form(byte), &[sign.as_slice()])
+}
+
+/// What is told of the other causes.
+fn words_of(why: EreRefusal) -> &'static str {
+    match why {
+        EreRefusal::Bound =>
+            "a count is greater than 255, or the first number greater than the second",
+        EreRefusal::Bracket => "what begins with this [ is no list of bytes",
+        EreRefusal::Group => "this bracket has no partner",
+        EreRefusal::TooLarge => "the expression is too large",
+        _ => "this expression cannot be read",
+    }
+}
+
+/// What to do about them.
+fn advice_of(why: EreRefusal) -> &'static str {
+    match why {
+        EreRefusal::Bound => "write a smaller count, as in a{2,5}",
+        EreRefusal::Bracket =>
+            "a ] is first, as in []a], a - first or last; ranges rise, as [a-z]; a / is written \\/\nthere are classes, as [[:alpha:]], but no [. and no [=",
+        EreRefusal::Group => "the signs themselves are written \\( and \\)",
+        EreRefusal::TooLarge =>
+            "its size with all counts written out is at most 4096: take smaller counts",
+        _ => "see docs/language.md",
+    }
+}
+
+/// Tells what was found in an expression.
+fn explain_finding(text: &[u8], found: Finding, note: &mut Note) -> Result<(), AllocError> {
+    match found.why {
+        EreRefusal::Form => explain_form(byte_at(text, found.place), note),
+        EreRefusal::Escape => explain_escape(text, found.place, note),
+        why => {
+            note.tell(words_of(why), &[])?;
+            note.advise(advice_of(why), &[])
+        }
+    }
+}
+
+/// 10: a regular expression that is none. The place is that in the expression.
+pub(crate) fn explain_expression(
+    alloc: Global,
+    case: &Case<'_, '_>,
+    note: &mut Note,
+) -> Result<(), AllocError> {
+    let text = match case.value(case.count_before()) {
+        Some(Value::Ere(text)) => text.as_slice(),
+        _ => &[],
+    };
+    match find(alloc, text) {
+        Some(found) => {
+            note.start = case.start.saturating_add(found.place).saturating_add(1);
+            explain_finding(text, found, note)
+        }
+        None => note.tell("this expression cannot be read", &[]),
+    }
+}

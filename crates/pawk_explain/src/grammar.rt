@@ -1,0 +1,159 @@
+//! What is at fault with a token where it is: the numbers 2, 4, 7 and 9.
+
+use crate::case::Case;
+use crate::note::Note;
+use crate::words::{append_beginning, append_number};
+use pawk_token::token::{Mark, Token, Value};
+use std::alloc::AllocError;
+
+/// How many bytes of a token are shown at most.
+const LONGEST: usize = 40;
+
+/// What comes before the text of a token.
+fn kind(value: &Value) -> &'static str {
+    match value {
+        Value::Number(_) => "the number ",
+        Value::String(_) => "the string ",
+        Value::Ere(_) => "the expression ",
+        Value::Name(_) => "the name ",
+        Value::FunctionName(_) => "the call of ",
+        Value::Builtin(_) => "the function ",
+        Value::Mark(mark) => kind_of_mark(*mark),
+    }
+}
+
+/// Whether a mark is a word.
+fn kind_of_mark(mark: Mark) -> &'static str {
+    if mark.text().iter().all(|byte| byte.is_ascii_alphabetic()) {
+        "the word "
+    } else {
+        ""
+    }
+}
+
+/// What to write where this sign may not stand.
+fn advice_of(mark: Mark) -> &'static str {
+    match mark {
+        Mark::Newline =>
+            "a newline may follow { , && || else do ; and the ) of a head; elsewhere write \\ before it",
+        Mark::Less
+        | Mark::LessEqual
+        | Mark::Equal
+        | Mark::NotEqual
+        | Mark::Greater
+        | Mark::GreaterEqual
+        | Mark::Tilde
+        | Mark::NotMatch =>
+            "comparisons and matches do not chain: write brackets, or a < b && b < c",
+        Mark::Assign
+        | Mark::PlusAssign
+        | Mark::MinusAssign
+        | Mark::StarAssign
+        | Mark::SlashAssign
+        | Mark::PercentAssign
+        | Mark::CaretAssign =>
+            "only a variable, an element or a field is assigned; after an operator write brackets: a && (b = 1)",
+        _ => "",
+    }
+}
+
+/// Names a token.
+fn tell_token(case: &Case<'_, '_>, token: &Token, note: &mut Note) -> Result<(), AllocError> {
+    if matches!(&token.value, Value::Mark(Mark::Newline)) {
+        return note.tell("the end of the line", &[]);
+    }
+    let text = case.script.text().get(token.span.start..token.span.end);
+    note.tell(kind(&token.value), &[])?;
+    append_beginning(&mut note.what, text.unwrap_or(&[]), LONGEST)
+}
+
+/// What to do about a token.
+fn advise_of_token(value: &Value, note: &mut Note) -> Result<(), AllocError> {
+    match value {
+        Value::Mark(mark) => match advice_of(*mark) {
+            "" => Ok(()),
+            words => note.advise(words, &[]),
+        },
+        _ => Ok(()),
+    }
+}
+
+/// 2: a token, or the end of the text, where it may not stand.
+pub(crate) fn explain_unexpected(case: &Case<'_, '_>, note: &mut Note) -> Result<(), AllocError> {
+    match case.token() {
+        Some(token) => {
+            tell_token(case, token, note)?;
+            note.tell(" is unexpected here", &[])?;
+            advise_of_token(&token.value, note)
+        }
+        None => {
+            note.tell("the end of the program is unexpected here", &[])?;
+            note.advise("is a }, a ) or a ] missing?", &[])
+        }
+    }
+}
+
+/// What to do in place of an assignment to a variable that the run sets.
+fn advice_of_variable(name: &[u8]) -> &'static str {
+    if name == b"NF".as_slice() {
+        "assign a field to lengthen a record: $(NF + 1) = x; to shorten one, print the fields that stay"
+    } else if name == b"NR".as_slice() || name == b"FNR".as_slice() {
+        "count in a variable of your own: { n++ }"
+    } else {
+        "take a variable of your own"
+    }
+}
+
+/// 4: a variable that may not be assigned is a target.
+pub(crate) fn explain_assigned(case: &Case<'_, '_>, note: &mut Note) -> Result<(), AllocError> {
+    let name = case.name();
+    note.tell("@ is set by the run, and cannot be assigned", &[name])?;
+    note.advise(advice_of_variable(name), &[])
+}
+
+/// 7: a statement outside what it belongs to.
+pub(crate) fn explain_misplaced(case: &Case<'_, '_>, note: &mut Note) -> Result<(), AllocError> {
+    let name = case.name();
+    match name.first() {
+        Some(b'n') => {
+            note.tell(
+                "@ is for rules alone, not for BEGIN, END and functions",
+                &[name],
+            )?;
+            note.advise(
+                "let a function return a value, and write @ in the rule",
+                &[name],
+            )
+        }
+        Some(b'r') => {
+            note.tell("return is for functions alone", &[])?;
+            note.advise("next ends the work on a record, exit the run", &[])
+        }
+        _ => {
+            note.tell("@ is for loops alone", &[name])?;
+            note.advise(
+                "next ends the work on a record, exit the run, return a call",
+                &[],
+            )
+        }
+    }
+}
+
+/// How many brackets may be open at once.
+const MOST_OPEN: u64 = 500;
+
+/// How many levels may lie in one another.
+const MOST_LEVELS: u64 = 200;
+
+/// 9: nesting that is too deep.
+pub(crate) fn explain_nesting(note: &mut Note) -> Result<(), AllocError> {
+    note.tell("here begins what has more than ", &[])?;
+    append_number(&mut note.what, MOST_OPEN)?;
+    note.tell(" open brackets, or more than ", &[])?;
+    append_number(&mut note.what, MOST_LEVELS)?;
+    note.tell(" levels", &[])?;
+    note.advise(
+        "part it: give what lies inside to a variable or a function",
+        &[],
+    )
+}

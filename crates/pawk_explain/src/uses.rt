@@ -1,0 +1,340 @@
+//! Names with two uses: the number 5.
+
+use crate::case::Case;
+use crate::display::append_position;
+use crate::note::Note;
+use pawk_token::token::{Builtin, Mark, Token, Value};
+use pawk_token::vocabulary::is_variable;
+use std::alloc::AllocError;
+
+/// How a name is used.
+#[derive(Clone, Copy, PartialEq, Eq)]
+enum Use {
+    Array,
+    Scalar,
+    Function,
+    /// Alone in a list, of parameters or of arguments.
+    Listed,
+}
+
+/// The places at which a name is first used in each way, counted from 0, how often a function of the name is
+/// defined, how often the name is alone in a list, and how it is used at the place at fault.
+#[derive(Clone, Copy)]
+struct Uses {
+    array: Option<usize>,
+    scalar: Option<usize>,
+    function: Option<usize>,
+    definitions: usize,
+    list_count: usize,
+    here: Use,
+}
+
+/// The tokens round a name: the two before it, and the one after it.
+#[derive(Clone, Copy)]
+struct Round<'t> {
+    earlier: Option<&'t Value>,
+    before: Option<&'t Value>,
+    after: Option<&'t Value>,
+    is_filled: bool,
+}
+
+/// Whether this is a mark.
+fn is_mark(value: Option<&Value>, sign: Mark) -> bool {
+    match value {
+        Some(Value::Mark(mark)) => *mark == sign,
+        _ => false,
+    }
+}
+
+/// Whether this may be the name of a function before the list of its parameters or arguments.
+fn is_called(value: Option<&Value>) -> bool {
+    matches!(value, Some(Value::FunctionName(_) | Value::Name(_)))
+}
+
+/// Whether a name between these is alone in a list of parameters or of arguments.
+fn is_listed(round: Round<'_>) -> bool {
+    let is_first = is_mark(round.before, Mark::LeftParenthesis) && is_called(round.earlier);
+    let ends = is_mark(round.after, Mark::RightParenthesis) || is_mark(round.after, Mark::Comma);
+    (is_first || is_mark(round.before, Mark::Comma)) && ends
+}
+
+/// How a name between these is used.
+fn use_of_name(round: Round<'_>) -> Use {
+    if is_mark(round.before, Mark::Function) {
+        Use::Function
+    } else if round.is_filled
+        || is_mark(round.after, Mark::LeftBracket)
+        || is_mark(round.before, Mark::In)
+        || is_mark(round.before, Mark::Delete)
+    {
+        Use::Array
+    } else if is_listed(round) {
+        Use::Listed
+    } else {
+        Use::Scalar
+    }
+}
+
+/// How a token uses a name, if it has this one.
+fn use_of(value: &Value, name: &[u8], round: Round<'_>) -> Option<Use> {
+    match value {
+        Value::Name(text) if text.as_slice() == name => Some(use_of_name(round)),
+        Value::FunctionName(text) if text.as_slice() == name => Some(Use::Function),
+        _ => None,
+    }
+}
+
+/// How many brackets are open after a token.
+fn depth_after(depth: usize, value: &Value) -> usize {
+    match value {
+        Value::Mark(Mark::LeftParenthesis | Mark::LeftBracket) => depth.saturating_add(1),
+        Value::Mark(Mark::RightParenthesis | Mark::RightBracket) => depth.saturating_sub(1),
+        _ => depth,
+    }
+}
+
+/// A walk over tokens, which knows the second argument of `split`.
+#[derive(Clone, Copy)]
+struct Walk {
+    depth: usize,
+    /// How many brackets are open in the list of a `split` whose first argument is read; 0 where there is none.
+    list: usize,
+    is_filled: bool,
+}
+
+impl Walk {
+    /// The walk past a token.
+    fn past(self, value: &Value) -> Walk {
+        let depth = depth_after(self.depth, value);
+        let is_split = matches!(value, Value::Builtin(Builtin::Split));
+        let is_comma = matches!(value, Value::Mark(Mark::Comma));
+        let is_filled = is_comma && self.list > 0 && self.list == depth;
+        let list = if is_split {
+            depth.saturating_add(1)
+        } else if is_filled || depth < self.list.saturating_sub(1) {
+            0
+        } else {
+            self.list
+        };
+        Walk {
+            depth,
+            list,
+            is_filled,
+        }
+    }
+}
+
+impl Uses {
+    /// No uses.
+    fn none() -> Uses {
+        Uses {
+            array: None,
+            scalar: None,
+            function: None,
+            definitions: 0,
+            list_count: 0,
+            here: Use::Listed,
+        }
+    }
+
+    /// The uses with one more at this place.
+    fn with(mut self, found: Use, start: usize) -> Uses {
+        match found {
+            Use::Array => self.array = self.array.or(Some(start)),
+            Use::Scalar => self.scalar = self.scalar.or(Some(start)),
+            Use::Function => self.function = self.function.or(Some(start)),
+            Use::Listed => self.list_count = self.list_count.saturating_add(1),
+        }
+        self
+    }
+
+    /// The uses with those of a token at this place, if it has the name.
+    fn with_token(mut self, token: &Token, name: &[u8], round: Round<'_>, place: usize) -> Uses {
+        let Some(found) = use_of(&token.value, name, round) else {
+            return self;
+        };
+        if token.span.start == place {
+            self.here = found;
+        }
+        if is_mark(round.before, Mark::Function) {
+            self.definitions = self.definitions.saturating_add(1);
+        }
+        self.with(found, token.span.start)
+    }
+}
+
+/// The uses of the name at the place at fault.
+fn read_uses(case: &Case<'_, '_>) -> Uses {
+    let name = case.name();
+    let mut uses = Uses::none();
+    let mut earlier = None;
+    let mut before = None;
+    let mut walk = Walk {
+        depth: 0,
+        list: 0,
+        is_filled: false,
+    };
+    for (number, token) in case.tokens.iter().enumerate() {
+        let round = Round {
+            earlier,
+            before,
+            after: case.value(number.saturating_add(1)),
+            is_filled: walk.is_filled,
+        };
+        uses = uses.with_token(token, name, round, case.start);
+        walk = walk.past(&token.value);
+        earlier = before;
+        before = Some(&token.value);
+    }
+    uses
+}
+
+/// How a use is called.
+fn words_of(found: Use) -> &'static str {
+    match found {
+        Use::Array => "an array",
+        Use::Scalar => "a scalar",
+        Use::Function => "a function",
+        Use::Listed => "a name",
+    }
+}
+
+/// Two uses of a name, and where the second one is; the first one is at the place at fault, or elsewhere.
+#[derive(Clone, Copy)]
+struct Clash {
+    first: Use,
+    elsewhere: Option<usize>,
+    second: Use,
+    place: usize,
+}
+
+/// The first place of a use that is another than this one.
+fn other_than(uses: Uses, first: Use, elsewhere: Option<usize>) -> Option<Clash> {
+    let others = [
+        (Use::Array, uses.array),
+        (Use::Scalar, uses.scalar),
+        (Use::Function, uses.function),
+    ];
+    for (second, start) in others {
+        if let (Some(place), false) = (start, second == first) {
+            return Some(Clash {
+                first,
+                elsewhere,
+                second,
+                place,
+            });
+        }
+    }
+    None
+}
+
+/// The two uses of a name that are told.
+fn find_clash(uses: Uses) -> Option<Clash> {
+    if uses.here != Use::Listed {
+        return other_than(uses, uses.here, None);
+    }
+    match (uses.array, uses.scalar) {
+        (Some(_), _) => other_than(uses, Use::Array, uses.array),
+        (None, Some(_)) => other_than(uses, Use::Scalar, uses.scalar),
+        (None, None) => None,
+    }
+}
+
+/// Tells of two uses.
+fn explain_clash(case: &Case<'_, '_>, clash: Clash, note: &mut Note) -> Result<(), AllocError> {
+    note.tell("@ is ", &[case.name()])?;
+    note.tell(words_of(clash.first), &[])?;
+    match clash.elsewhere {
+        Some(start) => {
+            note.tell(" at ", &[])?;
+            append_position(&mut note.what, case.script, start)?;
+        }
+        None => note.tell(" here", &[])?,
+    }
+    note.tell(", and ", &[])?;
+    note.tell(words_of(clash.second), &[])?;
+    note.tell(" at ", &[])?;
+    append_position(&mut note.what, case.script, clash.place)?;
+    note.advise("give one of them another name", &[])
+}
+
+/// Whether a token may stand before a parameter in a list of parameters.
+fn is_in_parameters(token: &Token) -> bool {
+    matches!(&token.value, Value::Name(_) | Value::Mark(Mark::Comma))
+}
+
+/// Whether the name at the place is in the list of the parameters of a function.
+fn is_parameter(case: &Case<'_, '_>) -> bool {
+    let before = case.tokens.get(..case.count_before()).unwrap_or(&[]);
+    let length = before
+        .iter()
+        .rev()
+        .position(|token| !is_in_parameters(token))
+        .unwrap_or(0);
+    match before.get(..before.len().saturating_sub(length)) {
+        Some([.., word, _, list]) => {
+            is_mark(Some(&word.value), Mark::Function)
+                && is_mark(Some(&list.value), Mark::LeftParenthesis)
+        }
+        _ => false,
+    }
+}
+
+/// What is told of a parameter.
+fn words_of_parameter(case: &Case<'_, '_>, uses: Uses) -> &'static str {
+    if is_variable(case.name()) {
+        "the parameter @ has the name of a variable of the language"
+    } else if uses.function.is_some() {
+        "the parameter @ has the name of a function"
+    } else if uses.list_count > 1 {
+        "the parameter @ is there twice"
+    } else {
+        OTHER_KIND
+    }
+}
+
+/// What is told of a name that is itself used in one way.
+const OTHER_KIND: &str =
+    "@ is of another kind than what is passed for it, or than what it is passed for";
+
+/// What is told of a function.
+fn words_of_function(case: &Case<'_, '_>, uses: Uses) -> &'static str {
+    if uses.definitions > 1 {
+        "the function @ is defined twice"
+    } else if is_variable(case.name()) {
+        "the function @ has the name of a variable of the language"
+    } else {
+        "@ is a function here, and a parameter or an argument elsewhere"
+    }
+}
+
+/// What is told of a name of which no two uses were seen.
+fn words_of_single(case: &Case<'_, '_>, uses: Uses) -> &'static str {
+    if uses.here == Use::Function {
+        words_of_function(case, uses)
+    } else if is_parameter(case) {
+        words_of_parameter(case, uses)
+    } else if is_variable(case.name()) {
+        "@ is a variable of the language, and a scalar"
+    } else {
+        OTHER_KIND
+    }
+}
+
+/// Tells of a name of which no two uses were seen.
+fn explain_single(case: &Case<'_, '_>, uses: Uses, note: &mut Note) -> Result<(), AllocError> {
+    note.tell(words_of_single(case, uses), &[case.name()])?;
+    note.advise(
+        "a name is an array, a scalar or a function in all its places, and where it is passed to",
+        &[],
+    )
+}
+
+/// 5: one name has two uses.
+pub(crate) fn explain_uses(case: &Case<'_, '_>, note: &mut Note) -> Result<(), AllocError> {
+    let uses = read_uses(case);
+    match find_clash(uses) {
+        Some(clash) => explain_clash(case, clash, note),
+        None => explain_single(case, uses, note),
+    }
+}
