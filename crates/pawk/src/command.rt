@@ -1,89 +1,148 @@
 //! What the command does.
 
-use crate::command_line::{CommandLine, Source, read_words};
-use crate::files::read_file;
-use crate::reports::{Stop, tell_ending, tell_stop};
+use crate::command_line::{CommandLine, read_words};
+use crate::explanations::explain_stop;
+use crate::outlet::Outlet;
+use crate::reports::{End, Stop, report_end, report_stop};
+use crate::script::read_script;
 use crate::whole::run_whole;
+use crate::words::unambiguous;
+use pawk_explain::Script;
 use std::io;
-use std::io::{Read, Write};
+use std::io::{IsTerminal, Read, Write};
 use std::os::unix::fs::FileExt;
-use std::rt::Files;
+use std::rt::{Clock, Files};
 use std::sync::Wait;
 use std::thread::Threads;
 
-/// The program's text.
-fn program_text<R: Files + AllocGlobal>(rt: &R, source: Source<'_>) -> Result<Vec<u8>, Stop> {
-    match source {
-        Source::Words(text) => Ok(Vec::from_slice(rt.alloc(), text.as_bytes())?),
-        Source::File(name) => match read_file(rt, name) {
-            Ok(text) => Ok(text),
-            Err(error) => Err(Stop::read(rt.alloc(), name, &error)),
-        },
-    }
-}
-
-/// Does what was asked for, and tells how it ended.
-fn do_line<R, I, O, E>(
+/// Does what was asked for with this program.
+fn do_script<R, I, O>(
     rt: &R,
     line: &CommandLine<'_>,
-    input: I,
-    output: &mut O,
-    errors: &mut E,
-) -> Result<io::Result<u8>, Stop>
+    script: &Script<'_>,
+    explains: bool,
+    input: &mut I,
+    output: &mut Outlet<O>,
+) -> Result<End, Stop>
 where
-    R: Files + AllocGlobal + Threads + Wait,
+    R: Files + AllocGlobal + Threads + Wait + Clock,
     R::File: FileExt + Sync,
-    I: Read + Drop,
+    I: Read,
     O: Write,
-    E: Write,
 {
-    let text = program_text(rt, line.program)?;
-    let end = run_whole(rt, line, text.as_slice(), input, output)?;
+    let end = run_whole(rt, line, script.text(), explains, input, output)?;
     if output.flush().is_err() {
         return Err(Stop::Write);
     }
-    Ok(tell_ending(end, line.why, errors))
+    Ok(end)
 }
 
+/// Reports why nothing was run to its end, with an explanation where it is asked for.
+fn report_with_explanation<R, O, E>(
+    rt: &R,
+    line: &CommandLine<'_>,
+    script: &Script<'_>,
+    stop: &Stop,
+    output: &mut Outlet<O>,
+    errors: &mut E,
+) -> io::Result<u8>
+where
+    R: AllocGlobal,
+    O: Write,
+    E: Write + IsTerminal,
+{
+    let alloc = rt.alloc();
+    let status = report_stop(alloc, stop, script, output, errors)?;
+    if line.tools.explains(errors)
+        && let Ok(lines) = explain_stop(alloc, line, script, stop)
+    {
+        errors.write_all(lines.as_slice())?;
+    }
+    Ok(status)
+}
+
+/// Does what was asked for, and reports how it ended.
+fn do_line<R, I, O, E>(
+    rt: &R,
+    line: &CommandLine<'_>,
+    input: &mut I,
+    output: &mut Outlet<O>,
+    errors: &mut E,
+) -> io::Result<u8>
+where
+    R: Files + AllocGlobal + Threads + Wait + Clock,
+    R::File: FileExt + Sync,
+    I: Read,
+    O: Write,
+    E: Write + IsTerminal,
+{
+    let script = match read_script(rt, &line.program, input) {
+        Ok(script) => script,
+        Err(stop) => {
+            let none = Script::new(rt.alloc());
+            return report_with_explanation(rt, line, &none, &stop, output, errors);
+        }
+    };
+    let explains = line.tools.explains(errors);
+    match do_script(rt, line, &script, explains, input, output) {
+        Ok(end) => report_end(&end, line.tools.why, errors),
+        Err(stop) => report_with_explanation(rt, line, &script, &stop, output, errors),
+    }
+}
+
+/// Reports why the words were not read.
+fn report_words<R: AllocGlobal, O: Write, E: Write>(
+    rt: &R,
+    stop: &Stop,
+    output: &mut Outlet<O>,
+    errors: &mut E,
+) -> io::Result<u8> {
+    let alloc = rt.alloc();
+    report_stop(alloc, stop, &Script::new(alloc), output, errors)
+}
+
+/// Does what the words ask for, and reports how it ended.
 fn do_words<R, I, O, E>(
     rt: &R,
     words: &[String],
-    input: I,
-    output: &mut O,
+    input: &mut I,
+    output: &mut Outlet<O>,
     errors: &mut E,
-) -> Result<io::Result<u8>, Stop>
+) -> io::Result<u8>
 where
-    R: Files + AllocGlobal + Threads + Wait,
+    R: Files + AllocGlobal + Threads + Wait + Clock,
     R::File: FileExt + Sync,
-    I: Read + Drop,
+    I: Read,
     O: Write,
-    E: Write,
+    E: Write + IsTerminal,
 {
-    let line = read_words(rt.alloc(), words)?;
-    do_line(rt, &line, input, output, errors)
+    let Ok(words) = unambiguous(rt.alloc(), words) else {
+        return report_words(rt, &Stop::Memory, output, errors);
+    };
+    match read_words(rt.alloc(), words.as_slice()) {
+        Ok(line) => do_line(rt, &line, input, output, errors),
+        Err(stop) => report_words(rt, &stop, output, errors),
+    }
 }
 
 /// Does what the words ask for, the first of which is the program's name, and gives the exit status: the output goes to
-/// `output`, what else there is to tell to `errors`. Without files in the words, `input` is the one file without a name.
+/// `output`, what else there is to report to `errors`. Without files in the words, `input` is the one file without a name.
 pub(crate) fn command<R, I, O, E>(
     rt: &R,
     words: &[String],
-    input: I,
-    mut output: O,
+    mut input: I,
+    output: O,
     mut errors: E,
 ) -> u8
 where
-    R: Files + AllocGlobal + Threads + Wait,
+    R: Files + AllocGlobal + Threads + Wait + Clock,
     R::File: FileExt + Sync,
     I: Read + Drop,
     O: Write + Drop,
-    E: Write + Drop,
+    E: Write + IsTerminal + Drop,
 {
-    let told = match do_words(rt, words, input, &mut output, &mut errors) {
-        Ok(told) => told,
-        Err(stop) => tell_stop(rt.alloc(), &stop, &mut output, &mut errors),
-    };
-    match told {
+    let mut output = Outlet::new(output);
+    match do_words(rt, words, &mut input, &mut output, &mut errors) {
         Ok(status) => status,
         Err(_) => {
             let _ = errors.write_all(b"pawk: cannot write\n");

@@ -6,29 +6,69 @@ use crate::reports::Stop;
 use clap::error::ErrorKind;
 use clap::{Arg, ArgAction, ArgMatches, Command, value_parser};
 use std::alloc::{AllocError, Global};
+use std::io::IsTerminal;
 
-/// The version that `--version` tells.
-const VERSION: &str = "0.1.0";
+/// The version that `--version` prints.
+const VERSION: &str = "1.0.0";
 
 /// What the program is, for `--help`.
 const ABOUT: &str = "awk in whole numbers, run over chunks of its input";
 
-/// How many workers there are where `-j` does not tell.
+/// How many workers there are where `-j` does not say.
 const WORKERS: u8 = 4;
 
-/// The size of a chunk in bytes where `-c` does not tell.
+/// The size of a chunk in bytes where `-c` does not say.
 const CHUNK: u64 = 1_048_576;
 
-/// How many steps BEGIN, each record and END may take where `-s` does not tell.
+/// How many steps BEGIN, each record and END may take where `-s` does not say.
 const STEPS: u64 = 10_000_000;
 
-/// Where the program's text stands.
-#[derive(Clone, Copy)]
+/// The words after `--explain=`.
+const WHEN: &[&str] = &["always", "auto", "never"];
+
+/// Where the program's text is.
+#[derive(Drop)]
 pub(crate) enum Source<'a> {
     /// In the words.
-    Words(&'a str),
-    /// In the file of this name.
-    File(&'a str),
+    Word(&'a str),
+    /// In the files of these names, one after the other.
+    Files(Vec<&'a str>),
+}
+
+/// When causes are explained in words.
+#[derive(Clone, Copy)]
+pub(crate) enum Explaining {
+    Always,
+    Never,
+    /// Where standard error is a terminal.
+    OnTerminal,
+}
+
+/// What is reported beside the output, and what is done in place of a run.
+#[derive(Clone, Copy)]
+pub(crate) struct Tools {
+    /// Whether the route is reported.
+    pub(crate) why: bool,
+    pub(crate) explaining: Explaining,
+    /// Whether the program and its settings are read, and nothing is run.
+    pub(crate) check: bool,
+    /// Whether the canonical text of the program is written, and nothing is run.
+    pub(crate) show: bool,
+    /// Whether the final variables are reported.
+    pub(crate) globals: bool,
+    /// Whether figures of the run are reported.
+    pub(crate) statistics: bool,
+}
+
+impl Tools {
+    /// Whether causes are explained on these errors.
+    pub(crate) fn explains<E: IsTerminal>(self, errors: &E) -> bool {
+        match self.explaining {
+            Explaining::Always => true,
+            Explaining::Never => false,
+            Explaining::OnTerminal => errors.is_terminal(),
+        }
+    }
 }
 
 /// What the words of the command line ask for.
@@ -41,14 +81,13 @@ pub(crate) struct CommandLine<'a> {
     pub(crate) separator: Option<&'a str>,
     /// How many steps BEGIN, each record and END may take.
     pub(crate) steps: u64,
-    /// The names of the files; with none standard input is read.
+    /// The names of the files, `-` for standard input; with none standard input is read.
     pub(crate) files: Vec<&'a str>,
     /// How many workers there are.
     pub(crate) workers: u8,
     /// The size of a chunk in bytes.
     pub(crate) chunk: u64,
-    /// Whether the route is told.
-    pub(crate) why: bool,
+    pub(crate) tools: Tools,
     ghost some: { 1 ≤ workers },
     ghost few: { workers ≤ 64 },
     ghost sized: { 0 < chunk },
@@ -70,13 +109,6 @@ fn chunk<'a>(alloc: Global) -> Arg<'a> {
         .help("The size of a chunk in bytes, 1 to 1073741824")
         .value_parser(value_parser!(u64).range(1..=1_073_741_824))
         .default_value("1048576")
-}
-
-fn why<'a>(alloc: Global) -> Arg<'a> {
-    Arg::new(alloc, "why")
-        .long("why")
-        .help("Tell on standard error which way the run went")
-        .action(ArgAction::SetTrue)
 }
 
 fn steps<'a>(alloc: Global) -> Arg<'a> {
@@ -103,11 +135,36 @@ fn assignments<'a>(alloc: Global) -> Arg<'a> {
         .action(ArgAction::Append)
 }
 
-fn program_file<'a>(alloc: Global) -> Arg<'a> {
+fn program_files<'a>(alloc: Global) -> Arg<'a> {
     Arg::new(alloc, "program-file")
         .short('f')
         .value_name("file")
-        .help("The file that has the program's text; all operands are files then")
+        .help(
+            "A file that has the program's text, - for standard input; all operands are files then",
+        )
+        .action(ArgAction::Append)
+}
+
+fn explain<'a>(alloc: Global) -> Arg<'a> {
+    Arg::new(alloc, "explain")
+        .long("explain")
+        .value_name("when")
+        .help(
+            "Explain faults and refusals in words: always, never, or auto, where standard error is a terminal",
+        )
+        .num_args(0..=1)
+        .require_equals(true)
+        .value_parser(WHEN)
+        .default_missing_value("always")
+        .default_value("auto")
+        .hide_possible_values(true)
+}
+
+fn flag<'a>(alloc: Global, name: &'a str, help: &'a str) -> Arg<'a> {
+    Arg::new(alloc, name)
+        .long(name)
+        .help(help)
+        .action(ArgAction::SetTrue)
 }
 
 fn program<'a>(alloc: Global) -> Arg<'a> {
@@ -116,22 +173,55 @@ fn program<'a>(alloc: Global) -> Arg<'a> {
 
 fn files<'a>(alloc: Global) -> Arg<'a> {
     Arg::new(alloc, "file")
-        .help("The files that are its input; without files it is standard input")
+        .help(
+            "The files that are its input, - for standard input; without files it is standard input",
+        )
         .action(ArgAction::Append)
         .num_args(0..)
 }
 
+/// The options that report beside the output, or in its place.
+fn with_tools<'a>(alloc: Global, command: Command<'a>) -> Result<Command<'a>, AllocError> {
+    command
+        .arg(flag(
+            alloc,
+            "why",
+            "Report on standard error which way the run went",
+        ))?
+        .arg(explain(alloc))?
+        .arg(flag(
+            alloc,
+            "check",
+            "Read the program and its settings, and run nothing",
+        ))?
+        .arg(flag(
+            alloc,
+            "show",
+            "Print the program in its canonical text, and run nothing",
+        ))?
+        .arg(flag(
+            alloc,
+            "globals",
+            "Report the final variables on standard error",
+        ))?
+        .arg(flag(
+            alloc,
+            "statistics",
+            "Report figures of the run on standard error",
+        ))
+}
+
 fn definition<'a>(alloc: Global) -> Result<Command<'a>, AllocError> {
-    Command::new(alloc, "pawk")
+    let command = Command::new(alloc, "pawk")
         .version(VERSION)
         .about(ABOUT)
         .arg(separator(alloc))?
         .arg(assignments(alloc))?
-        .arg(program_file(alloc))?
+        .arg(program_files(alloc))?
         .arg(workers(alloc))?
         .arg(chunk(alloc))?
-        .arg(steps(alloc))?
-        .arg(why(alloc))?
+        .arg(steps(alloc))?;
+    with_tools(alloc, command)?
         .arg(program(alloc))?
         .arg(files(alloc))
 }
@@ -144,22 +234,28 @@ fn is_plain(matches: &ArgMatches<'_>, id: &str) -> bool {
     }
 }
 
-/// Where the program's text stands, if the words tell.
-fn program_source<'a>(matches: &ArgMatches<'a>) -> Option<Source<'a>> {
-    match matches.get_str("program-file") {
-        Some(name) => Some(Source::File(name)),
-        None => Some(Source::Words(matches.get_str("program")?)),
+/// Where the program's text is, if the words say.
+fn program_source<'a>(
+    alloc: Global,
+    matches: &ArgMatches<'a>,
+) -> Result<Option<Source<'a>>, AllocError> {
+    match matches.get_strs("program-file") {
+        Some(names) => Ok(Some(Source::Files(Vec::from_slice(alloc, names)?))),
+        None => match matches.get_str("program") {
+            Some(text) => Ok(Some(Source::Word(text))),
+            None => Ok(None),
+        },
     }
 }
 
-/// The files: all operands where the program's text stands in a file, else those behind the text.
+/// The files: all operands where the program's text is in files, else those after the text.
 fn file_names<'a>(
     alloc: Global,
     matches: &ArgMatches<'a>,
-    program: Source<'a>,
+    program: &Source<'a>,
 ) -> Result<Vec<&'a str>, AllocError> {
     let mut names = Vec::new(alloc);
-    if let (Source::File(_), Some(first)) = (program, matches.get_str("program")) {
+    if let (Source::Files(_), Some(first)) = (program, matches.get_str("program")) {
         names.push(first)?;
     }
     names.extend_from_slice(matches.get_strs("file").unwrap_or(&[]))?;
@@ -171,11 +267,32 @@ fn are_plain(matches: &ArgMatches<'_>) -> bool {
     is_plain(matches, "workers") && is_plain(matches, "chunk") && is_plain(matches, "steps")
 }
 
-/// What is told of words at fault; want of memory where it cannot be told.
+/// What is reported of words at fault; want of memory where it cannot be.
 fn fault(command: &mut Command<'_>, kind: ErrorKind, text: &str) -> Stop {
     match command.error(kind, text) {
         Ok(error) => Stop::Line(error),
         Err(AllocError) => Stop::Memory,
+    }
+}
+
+/// When causes are explained.
+fn read_explaining(matches: &ArgMatches<'_>) -> Explaining {
+    match matches.get_str("explain") {
+        Some("always") => Explaining::Always,
+        Some("never") => Explaining::Never,
+        _ => Explaining::OnTerminal,
+    }
+}
+
+/// What is reported and done beside the run.
+fn read_tools(matches: &ArgMatches<'_>) -> Tools {
+    Tools {
+        why: matches.get_flag("why"),
+        explaining: read_explaining(matches),
+        check: matches.get_flag("check"),
+        show: matches.get_flag("show"),
+        globals: matches.get_flag("globals"),
+        statistics: matches.get_flag("statistics"),
     }
 }
 
@@ -185,10 +302,11 @@ fn line_of<'a>(
     matches: &ArgMatches<'a>,
     program: Source<'a>,
 ) -> Result<CommandLine<'a>, AllocError> {
-    let files = file_names(alloc, matches, program)?;
+    let files = file_names(alloc, matches, &program)?;
+    let assignments = Vec::from_slice(alloc, matches.get_strs("assignment").unwrap_or(&[]))?;
     Ok(CommandLine {
         program,
-        assignments: Vec::from_slice(alloc, matches.get_strs("assignment").unwrap_or(&[]))?,
+        assignments,
         separator: matches.get_str("separator"),
         steps: matches.get_one::<u64>("steps").unwrap_or(STEPS),
         files,
@@ -197,7 +315,7 @@ fn line_of<'a>(
             .unwrap_or(WORKERS)
             .clamp(1, 64),
         chunk: matches.get_one::<u64>("chunk").unwrap_or(CHUNK).max(1),
-        why: matches.get_flag("why"),
+        tools: read_tools(matches),
     })
 }
 
@@ -208,7 +326,7 @@ fn read_by<'a>(
     words: &'a [String],
 ) -> Result<CommandLine<'a>, Stop> {
     let matches = command.try_get_matches_from_mut(words)?;
-    match program_source(&matches) {
+    match program_source(alloc, &matches)? {
         Some(program) if are_plain(&matches) => Ok(line_of(alloc, &matches, program)?),
         Some(_) => {
             let text = "a number is written in digits alone";
@@ -218,7 +336,8 @@ fn read_by<'a>(
     }
 }
 
-/// Reads the words, of which the first is the program's name.
+/// Reads the words, of which the first is the program's name, as [`unambiguous`](crate::words::unambiguous)
+/// writes them.
 ///
 /// `Line` comes where the words are at fault or ask for help, `Memory` where memory was refused.
 pub(crate) fn read_words<'a>(alloc: Global, words: &'a [String]) -> Result<CommandLine<'a>, Stop> {

@@ -1,7 +1,9 @@
 //! The files that are the input.
 
 use crate::reports::Stop;
+use crate::script::STANDARD_INPUT;
 use crate::stripes::{count_readers, read_stripes};
+use pawk_device::{ReadStop, Reader, read_all};
 use pawk_input::{Blocks, Input, TooLarge};
 use std::alloc::Global;
 use std::fs::File;
@@ -70,21 +72,58 @@ where
     read_stripes(rt, alloc, &file, size, readers)
 }
 
-/// Reads the files of these names in order, each by so many threads at most; the first that cannot be
-/// read is told.
-pub(crate) fn read_files<R>(rt: &R, names: &[&str], workers: usize) -> Result<Input, Stop>
+/// Reads a stream to its end; a second time it is at its end.
+pub(crate) fn read_stream<I: Read>(alloc: Global, input: &mut I) -> Result<Vec<u8>, Stop> {
+    match read_all(alloc, &mut Reader::new(input)) {
+        Ok(bytes) => Ok(bytes),
+        Err(ReadStop::Memory) => Err(Stop::Memory),
+        Err(ReadStop::Failed) => Err(Stop::Stream),
+        Err(ReadStop::TooLarge) => Err(Stop::Input),
+    }
+}
+
+/// Reads a file to its end, by so many threads at most: its name in the program, which is empty for
+/// standard input, and its bytes.
+fn read_input<R, I>(
+    rt: &R,
+    name: &str,
+    workers: usize,
+    input: &mut I,
+) -> Result<(Vec<u8>, Blocks), Stop>
 where
     R: Files + AllocGlobal + Threads + Wait,
     R::File: FileExt + Sync,
+    I: Read,
 {
     let alloc = rt.alloc();
-    let mut files = Vec::with_capacity(alloc, names.len())?;
+    if name == STANDARD_INPUT {
+        let bytes = read_stream(alloc, input)?;
+        return Ok((Vec::new(alloc), Blocks::whole(alloc, bytes)?));
+    }
+    match read_blocks(rt, name, workers) {
+        Ok(blocks) => Ok((Vec::from_slice(alloc, name.as_bytes())?, blocks)),
+        Err(error) => Err(Stop::read(alloc, name, &error)),
+    }
+}
+
+/// Reads the files of these names in order, each by so many threads at most, and standard input where the
+/// name is `-`. The first that cannot be read is reported.
+///
+/// POSIX.1-2017, awk, "OPERANDS" and "STDIN".
+pub(crate) fn read_inputs<R, I>(
+    rt: &R,
+    names: &[&str],
+    workers: usize,
+    input: &mut I,
+) -> Result<Input, Stop>
+where
+    R: Files + AllocGlobal + Threads + Wait,
+    R::File: FileExt + Sync,
+    I: Read,
+{
+    let mut files = Vec::with_capacity(rt.alloc(), names.len())?;
     for name in names {
-        let blocks = match read_blocks(rt, *name, workers) {
-            Ok(blocks) => blocks,
-            Err(error) => return Err(Stop::read(alloc, *name, &error)),
-        };
-        files.push((Vec::from_slice(alloc, name.as_bytes())?, blocks))?;
+        files.push(read_input(rt, *name, workers, input)?)?;
     }
     match Input::from_blocks(files) {
         Ok(input) => Ok(input),

@@ -4,23 +4,29 @@
 mod command;
 mod command_line;
 mod deep;
+mod explanations;
 mod files;
+mod listing;
+mod outlet;
 mod reports;
+mod script;
+mod statistics;
 mod stripes;
 mod whole;
+mod words;
 
 use command::command;
 use deep::do_in;
 use std::process::ExitCode;
 use std::{io, thread};
 
-/// What is told where memory is refused.
+/// What is reported where memory is refused.
 const NO_MEMORY: &str = "pawk: refused: memory";
 
-/// What is told where the thread of the run cannot be started.
+/// What is reported where the thread of the run cannot be started.
 const NO_THREAD: &str = "pawk: refused: thread";
 
-/// What is told where an argument is no text.
+/// What is reported where an argument is no text.
 const NO_TEXT: &str = "pawk: an argument is no text";
 
 /// The words of the command line, or the line to print in their place.
@@ -35,7 +41,7 @@ fn words_of(rt: &HostRuntime) -> Result<Vec<String>, &'static str> {
     words.collect(rt.alloc()).map_err(|_| NO_MEMORY)
 }
 
-/// Tells a line on standard error, and gives the status of a run that was refused.
+/// Writes a line on standard error, and gives the status of a run that was refused.
 fn refuse(rt: &HostRuntime, line: &str) -> u8 {
     let _ = rt.eprintln(line);
     2

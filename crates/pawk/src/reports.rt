@@ -1,12 +1,36 @@
-//! What the program tells beside the output.
+//! What the program reports beside the output.
 
+use crate::outlet::Outlet;
+use crate::statistics::Statistics;
 use clap::Error;
 use clap::error::ErrorKind;
-use pawk_par::{StreamRefusal, SyntaxRefusal};
+use pawk_explain::Script;
+use pawk_par::{SettingsRefusal, StreamRefusal, SyntaxRefusal};
 use pawk_threads::{Ending, Place, Refusal, Route};
 use std::alloc::{AllocError, AllocFailed, Global};
 use std::io;
 use std::io::Write;
+
+/// Why a file could not be read, as far as it is explained.
+#[derive(Clone, Copy)]
+pub(crate) enum ReadCause {
+    Missing,
+    Directory,
+    Forbidden,
+    Other,
+}
+
+impl ReadCause {
+    /// The cause of an error.
+    fn of(error: &io::Error) -> ReadCause {
+        match error.kind() {
+            io::ErrorKind::NotFound => ReadCause::Missing,
+            io::ErrorKind::IsADirectory => ReadCause::Directory,
+            io::ErrorKind::PermissionDenied => ReadCause::Forbidden,
+            _ => ReadCause::Other,
+        }
+    }
+}
 
 /// Why nothing was run to its end.
 #[derive(Drop)]
@@ -21,10 +45,10 @@ pub(crate) enum Stop {
     Input,
     /// The text is no program that is read.
     Program(SyntaxRefusal),
-    /// An assignment or the budget is refused, by this number.
-    Settings(u8),
-    /// A file of this name, as messages show it, could not be read.
-    Read(String),
+    /// An assignment or the budget is refused.
+    Settings(SettingsRefusal),
+    /// A file of this name, as messages show it, could not be read, for this cause.
+    Read(String, ReadCause),
     /// Standard input could not be read.
     Stream,
     /// The output could not be written.
@@ -72,7 +96,7 @@ impl From<StreamRefusal> for Stop {
             StreamRefusal::Thread => Stop::Thread,
             StreamRefusal::Cutting => Stop::Cutting,
             StreamRefusal::Program(why) => Stop::Program(why),
-            StreamRefusal::Settings(why) => Stop::Settings(why.number()),
+            StreamRefusal::Settings(why) => Stop::Settings(why),
             StreamRefusal::Read => Stop::Stream,
             StreamRefusal::Write(_) => Stop::Write,
             StreamRefusal::Input => Stop::Input,
@@ -100,17 +124,23 @@ impl Stop {
             return Stop::Memory;
         }
         match printable(alloc, name) {
-            Ok(name) => Stop::Read(name),
+            Ok(name) => Stop::Read(name, ReadCause::of(error)),
             Err(_) => Stop::Memory,
         }
     }
 }
 
-/// Tells why nothing was run to its end, and gives the exit status.
-pub(crate) fn tell_stop<O: Write, E: Write>(
+/// The exit status of a run whose output nobody reads any more: what a shell shows where the signal PIPE
+/// ended a program.
+const CLOSED: u8 = 141;
+
+/// Reports why nothing was run to its end, and gives the exit status. The script is what was read of the
+/// program's text.
+pub(crate) fn report_stop<O: Write, E: Write>(
     alloc: Global,
     stop: &Stop,
-    output: &mut O,
+    script: &Script<'_>,
+    output: &mut Outlet<O>,
     errors: &mut E,
 ) -> io::Result<u8> {
     match stop {
@@ -118,69 +148,98 @@ pub(crate) fn tell_stop<O: Write, E: Write>(
         Stop::Thread => errors.write_all(b"pawk: refused: thread\n")?,
         Stop::Cutting => errors.write_all(b"pawk: refused: cutting\n")?,
         Stop::Input => errors.write_all(b"pawk: refused: input\n")?,
-        Stop::Program(refusal) => tell_program(*refusal, errors)?,
-        Stop::Settings(number) => writeln!(errors, "pawk: bad assignment: {number}")?,
-        Stop::Read(name) => writeln!(errors, "pawk: cannot read {name}")?,
+        Stop::Program(refusal) => report_program(*refusal, script, errors)?,
+        Stop::Settings(refusal) => writeln!(errors, "pawk: bad assignment: {refusal}")?,
+        Stop::Read(name, _) => writeln!(errors, "pawk: cannot read {name}")?,
         Stop::Stream => errors.write_all(b"pawk: cannot read \n")?,
+        Stop::Write if output.is_closed() => return Ok(CLOSED),
         Stop::Write => errors.write_all(b"pawk: cannot write\n")?,
-        Stop::Line(error) => return tell_line(alloc, error, output, errors),
+        Stop::Line(error) => return report_line(alloc, error, output, errors),
     }
     Ok(2)
 }
 
-fn tell_program<E: Write>(refusal: SyntaxRefusal, errors: &mut E) -> io::Result<()> {
+fn report_program<E: Write>(
+    refusal: SyntaxRefusal,
+    script: &Script<'_>,
+    errors: &mut E,
+) -> io::Result<()> {
     let number = refusal.number();
     match refusal.place() {
-        Some(place) => writeln!(errors, "pawk: program refused: {number} at byte {place}"),
+        Some(place) => {
+            let place = script.place(place);
+            writeln!(errors, "pawk: program refused: {number} at byte {place}")
+        }
         None => errors.write_all(b"pawk: refused: memory\n"),
     }
 }
 
-/// The command line's own text: help that was asked for goes to the output. A fault begins as every message does.
-fn tell_line<O: Write, E: Write>(
+/// Reports a fault of the command line; it begins as every message does.
+fn report_fault_of_line<E: Write>(alloc: Global, error: &Error, errors: &mut E) -> io::Result<u8> {
+    match format!(in alloc; "{error}") {
+        Ok(text) => {
+            let fault = text.as_str();
+            let rest = fault.strip_prefix("error: ").unwrap_or(fault);
+            write!(errors, "pawk: {rest}")?;
+        }
+        Err(_) => errors.write_all(b"pawk: refused: memory\n")?,
+    }
+    Ok(2)
+}
+
+/// Writes help or the version, which were asked for.
+fn write_help<O: Write>(error: &Error, output: &mut O) -> io::Result<()> {
+    write!(output, "{error}")?;
+    output.flush()
+}
+
+/// Reports the command line's own text: help that was asked for goes to the output.
+fn report_line<O: Write, E: Write>(
     alloc: Global,
     error: &Error,
-    output: &mut O,
+    output: &mut Outlet<O>,
     errors: &mut E,
 ) -> io::Result<u8> {
     if error.use_stderr() {
-        match format!(in alloc; "{error}") {
-            Ok(text) => {
-                let fault = text.as_str();
-                let rest = fault.strip_prefix("error: ").unwrap_or(fault);
-                write!(errors, "pawk: {rest}")?;
-            }
-            Err(_) => errors.write_all(b"pawk: refused: memory\n")?,
-        }
-        return Ok(2);
+        return report_fault_of_line(alloc, error, errors);
     }
-    write!(output, "{error}")?;
-    output.flush()?;
-    Ok(0)
+    if write_help(error, output).is_ok() {
+        return Ok(0);
+    }
+    if output.is_closed() {
+        return Ok(CLOSED);
+    }
+    errors.write_all(b"pawk: cannot write\n")?;
+    Ok(2)
 }
 
-/// How a run ended, and which way it went.
-#[derive(Clone, Copy)]
+/// How a run ended, which way it went, and what more there is to report.
+#[derive(Drop)]
 pub(crate) struct End {
     pub(crate) ending: Ending,
-    pub(crate) route: Route,
+    /// The route, where something was run.
+    pub(crate) route: Option<Route>,
+    /// Lines that follow the report: explanations, and the final variables.
+    pub(crate) lines: Vec<u8>,
+    /// Figures, where they are asked for.
+    pub(crate) statistics: Option<Statistics>,
 }
 
-/// Tells which way a run went.
-fn tell_route<E: Write>(route: Route, errors: &mut E) -> io::Result<()> {
+/// Writes which way a run went, and ends the line.
+pub(crate) fn write_route<E: Write>(route: Route, errors: &mut E) -> io::Result<()> {
     match route {
-        Route::NoMain => errors.write_all(b"pawk: route no main\n"),
+        Route::NoMain => errors.write_all(b"no main\n"),
         Route::NotAdmitted(reason) => {
             let number = reason.number();
-            writeln!(errors, "pawk: route not admitted {number}")
+            writeln!(errors, "not admitted {number}")
         }
-        Route::Redo => errors.write_all(b"pawk: route redo\n"),
-        Route::Parallel => errors.write_all(b"pawk: route parallel\n"),
+        Route::Redo => errors.write_all(b"redo\n"),
+        Route::Parallel => errors.write_all(b"parallel\n"),
     }
 }
 
-/// Tells a fault and where it came.
-fn tell_fault<E: Write>(name: &str, place: Place, errors: &mut E) -> io::Result<()> {
+/// Reports a fault and where it came.
+fn report_fault<E: Write>(name: &str, place: Place, errors: &mut E) -> io::Result<()> {
     match place {
         Place::Begin => writeln!(errors, "pawk: fault {name} in BEGIN"),
         Place::Record(number) => writeln!(errors, "pawk: fault {name} at record {number}"),
@@ -188,16 +247,13 @@ fn tell_fault<E: Write>(name: &str, place: Place, errors: &mut E) -> io::Result<
     }
 }
 
-/// Tells the route where it is asked for, and a fault, and gives the exit status. The globals of a run
-/// allow all that is asked of them, so it is never disallowed.
-pub(crate) fn tell_ending<E: Write>(end: End, why: bool, errors: &mut E) -> io::Result<u8> {
-    if why {
-        tell_route(end.route, errors)?;
-    }
-    match end.ending {
+/// Reports a fault, and gives the exit status. The globals of a run allow all that is asked of them, so it
+/// is never disallowed.
+fn report_ending<E: Write>(ending: Ending, errors: &mut E) -> io::Result<u8> {
+    match ending {
         Ending::Status(status) => Ok(status),
         Ending::Fault(fault, place) => {
-            tell_fault(fault.name(), place, errors)?;
+            report_fault(fault.name(), place, errors)?;
             Ok(2)
         }
         Ending::Disallowed => {
@@ -205,4 +261,20 @@ pub(crate) fn tell_ending<E: Write>(end: End, why: bool, errors: &mut E) -> io::
             Ok(2)
         }
     }
+}
+
+/// Reports the route where it is asked for, a fault, and what more there is, and gives the exit status.
+pub(crate) fn report_end<E: Write>(end: &End, why: bool, errors: &mut E) -> io::Result<u8> {
+    if let Some(route) = end.route
+        && why
+    {
+        errors.write_all(b"pawk: route ")?;
+        write_route(route, errors)?;
+    }
+    let status = report_ending(end.ending, errors)?;
+    errors.write_all(end.lines.as_slice())?;
+    if let Some(statistics) = &end.statistics {
+        statistics.write(errors)?;
+    }
+    Ok(status)
 }

@@ -3,18 +3,25 @@
 ghost use Rattle.pawk_threads.specs.Task.{IsCrew};
 ghost use Rattle.pawk_threads.specs.Cuttings.{IsSized};
 
-use crate::command_line::CommandLine;
-use crate::files::read_files;
+use crate::command_line::{CommandLine, Tools};
+use crate::explanations::{Remains, explain_end};
+use crate::files::read_inputs;
+use crate::listing::append_globals;
 use crate::reports::{End, Stop};
+use crate::script::STANDARD_INPUT;
+use crate::statistics::{ChunkCount, Moment, Moments, Statistics};
+use pawk_code::program::Code;
 use pawk_input::Input;
 use pawk_par::{Reader, Request, Writer, prepare, run_streams};
 use pawk_settings::Assignment;
-use pawk_threads::{Cutting, Ending, Job, Open, Output, Route, Way, run};
+use pawk_store::Names;
+use pawk_syntax::{SyntaxRefusal, parse, show};
+use pawk_threads::{Cutting, Ending, Job, Open, Outcome, Output, Route, Way, run};
 use std::alloc::{AllocError, Global};
 use std::io;
 use std::io::{Read, Write};
 use std::os::unix::fs::FileExt;
-use std::rt::Files;
+use std::rt::{Clock, Files};
 use std::sync::Wait;
 use std::thread::Threads;
 
@@ -26,7 +33,7 @@ fn assignment(alloc: Global, text: &str) -> Result<(Vec<u8>, Vec<u8>), AllocErro
 }
 
 /// What is assigned before the program runs: the values of `-v` in order, and then FS.
-fn assignments(
+pub(crate) fn assignments(
     alloc: Global,
     line: &CommandLine<'_>,
 ) -> Result<Vec<(Vec<u8>, Vec<u8>)>, AllocError> {
@@ -54,7 +61,7 @@ fn ends_statement(rest: &[u8]) -> bool {
     }
 }
 
-/// Whether a program's text assigns one byte to the name behind which it goes on so.
+/// Whether a program's text assigns one byte to the name after which it goes on so.
 fn assigns_one_byte(rest: &[u8]) -> bool {
     let Some(value) = rest.trim_ascii_start().strip_prefix(b"=".as_slice()) else {
         return false;
@@ -67,7 +74,7 @@ fn assigns_one_byte(rest: &[u8]) -> bool {
     }
 }
 
-/// Whether RS stands in a program's text behind what is before, and something else than one byte may be assigned to it there.
+/// Whether RS is in a program's text after what is before, and something else than one byte may be assigned to it there.
 fn may_be_empty(before: &[u8], rest: &[u8]) -> bool {
     match rest.strip_prefix(b"RS".as_slice()) {
         Some(rest) => {
@@ -108,87 +115,234 @@ fn write_parts<O: Write>(output: &mut O, parts: Output) -> io::Result<()> {
     Ok(())
 }
 
-/// What a run shows: its output, how it ended, and which way it went.
+/// What is asked of a run beside its output.
+#[derive(Clone, Copy)]
+struct Wishes {
+    tools: Tools,
+    /// Whether its end is explained.
+    explains: bool,
+}
+
+impl Wishes {
+    /// Whether more is asked for than the output, the route and the fault.
+    fn are_more(self) -> bool {
+        self.explains || self.tools.globals || self.tools.statistics
+    }
+}
+
+/// A run that is ready: what is asked for, the program's code, and what is assigned before it.
+#[derive(Clone, Copy)]
+struct Ready<'a> {
+    request: Request<'a>,
+    wishes: Wishes,
+    code: &'a Code,
+    assignments: &'a [Assignment],
+}
+
+impl<'a> Ready<'a> {
+    fn job(self) -> Job<'a> {
+        Job {
+            code: self.code,
+            budget: self.request.budget,
+        }
+    }
+
+    /// The names of the program's globals, by their slots.
+    fn names(self) -> Names<'a> {
+        Names {
+            scalars: self.code.scalars.as_slice(),
+            arrays: self.code.arrays.as_slice(),
+            assignments: self.assignments,
+        }
+    }
+}
+
+/// What a run shows: its output, how it ended, which way it went, how many records it read, and the lines
+/// that follow the report.
 #[derive(Drop)]
 struct Shown {
     output: Output,
     ending: Ending,
     route: Route,
+    records: i64,
+    lines: Vec<u8>,
 }
 
-/// Runs a program, and drops its globals.
-fn show<R: Threads + Wait>(
+/// The lines that follow the report of a run.
+fn more_lines(
+    alloc: Global,
+    ready: Ready<'_>,
+    outcome: &Outcome,
+    route: Route,
+    input: &mut Input,
+) -> Result<Vec<u8>, AllocError> {
+    let mut lines = Vec::new(alloc);
+    if !ready.wishes.are_more() {
+        return Ok(lines);
+    }
+    let globals = outcome
+        .globals
+        .list(alloc, ready.names(), &outcome.specials)?;
+    if ready.wishes.explains {
+        let remains = Remains {
+            ending: outcome.ending,
+            route,
+            globals: globals.as_slice(),
+            specials: &outcome.specials,
+        };
+        lines = explain_end(
+            alloc,
+            ready.request.text,
+            ready.wishes.tools.why,
+            remains,
+            input,
+        )?;
+    }
+    if ready.wishes.tools.globals {
+        append_globals(&mut lines, globals.as_slice())?;
+    }
+    Ok(lines)
+}
+
+/// Runs a program, and drops its globals once their lines were made.
+fn show_run<R: Threads + Wait>(
     rt: &R,
     alloc: Global,
-    job: Job<'_>,
-    assignments: &[Assignment],
+    ready: Ready<'_>,
+    gate: &ChunkCount,
     input: &mut Input,
-    way: Way<'_>,
 ) -> Result<Shown, Stop>
-    requires sized { IsSized way.cutting.now }
-    requires workers { IsCrew way.workers }
+    requires sized { IsSized ready.request.cutting.now }
+    requires workers { IsCrew ready.request.workers }
 {
-    let (outcome, report) = run(rt, alloc, job, assignments, input, way, &Open)?;
+    let way = Way {
+        cutting: ready.request.cutting,
+        workers: ready.request.workers,
+    };
+    let assignments = ready.assignments;
+    let (outcome, report) = run(rt, alloc, ready.job(), assignments, input, way, gate)?;
+    let lines = more_lines(alloc, ready, &outcome, report.route, input)?;
     Ok(Shown {
         output: outcome.output,
         ending: outcome.ending,
         route: report.route,
+        records: outcome.specials.nr,
+        lines,
     })
 }
 
-/// The input of a program over the files that are named: none is read where no record is.
-fn open_files<R>(rt: &R, line: &CommandLine<'_>, text: &[u8], job: Job<'_>) -> Result<Input, Stop>
+/// The input of a program: the files that are named, or standard input; none where no record is read.
+fn open_inputs<R, I>(
+    rt: &R,
+    line: &CommandLine<'_>,
+    text: &[u8],
+    job: Job<'_>,
+    input: &mut I,
+) -> Result<Input, Stop>
 where
     R: Files + AllocGlobal + Threads + Wait,
     R::File: FileExt + Sync,
+    I: Read,
 {
     if !job.reads_records() {
-        return read_files(rt, &[], 1);
+        return read_inputs(rt, &[], 1, input);
     }
-    read_files(rt, &line.files, readers(line, text))
+    let workers = readers(line, text);
+    if line.files.is_empty() {
+        return read_inputs(rt, &[STANDARD_INPUT], workers, input);
+    }
+    read_inputs(rt, line.files.as_slice(), workers, input)
 }
 
-/// Runs a request over the files that are named, and writes its output.
-fn run_files<R, O>(
+/// How many bytes an input has.
+fn size_of(input: &Input) -> u64 {
+    let mut size = 0u64;
+    for file in 0..input.files() {
+        size = size.saturating_add(input.size(file) as u64);
+    }
+    size
+}
+
+/// Runs what is ready over its input, and writes its output. The reading of the input began at this moment.
+fn run_ready<R, I, O>(
     rt: &R,
     line: &CommandLine<'_>,
-    request: Request<'_>,
+    ready: Ready<'_>,
+    start: Moment,
+    input: &mut I,
     output: &mut O,
 ) -> Result<End, Stop>
 where
-    R: Files + AllocGlobal + Threads + Wait,
+    R: Files + AllocGlobal + Threads + Wait + Clock,
     R::File: FileExt + Sync,
+    I: Read,
+    O: Write,
+    requires sized { IsSized ready.request.cutting.now }
+    requires workers { IsCrew ready.request.workers }
+{
+    let mut inputs = open_inputs(rt, line, ready.request.text, ready.job(), input)?;
+    let read = Moment::now(rt);
+    let gate = ChunkCount::new();
+    let shown = show_run(rt, rt.alloc(), ready, &gate, &mut inputs)?;
+    let ran = Moment::now(rt);
+    if write_parts(output, shown.output).is_err() {
+        return Err(Stop::Write);
+    }
+    let statistics = Statistics {
+        route: shown.route,
+        workers: if gate.get() == 0 { 1 } else { line.workers },
+        chunks: gate.get(),
+        records: shown.records,
+        bytes: size_of(&inputs),
+        moments: Moments {
+            start,
+            read,
+            ran,
+            written: Moment::now(rt),
+        },
+    };
+    Ok(End {
+        ending: shown.ending,
+        route: Some(shown.route),
+        lines: shown.lines,
+        statistics: ready.wishes.tools.statistics.then_some(statistics),
+    })
+}
+
+/// Runs a request over the files that are named, or over standard input, and writes its output.
+fn run_files<R, I, O>(
+    rt: &R,
+    line: &CommandLine<'_>,
+    request: Request<'_>,
+    wishes: Wishes,
+    input: &mut I,
+    output: &mut O,
+) -> Result<End, Stop>
+where
+    R: Files + AllocGlobal + Threads + Wait + Clock,
+    R::File: FileExt + Sync,
+    I: Read,
     O: Write,
     requires sized { IsSized request.cutting.now }
     requires workers { IsCrew request.workers }
 {
-    let alloc = rt.alloc();
-    let (code, settings) = prepare(alloc, &request)?;
-    let job = Job {
+    let start = Moment::now(rt);
+    let (code, settings) = prepare(rt.alloc(), &request)?;
+    let ready = Ready {
+        request,
+        wishes,
         code: &code,
-        budget: request.budget,
+        assignments: settings.assignments(),
     };
-    let mut input = open_files(rt, line, request.text, job)?;
-    let way = Way {
-        cutting: request.cutting,
-        workers: request.workers,
-    };
-    let shown = show(rt, alloc, job, settings.assignments(), &mut input, way)?;
-    if write_parts(output, shown.output).is_err() {
-        return Err(Stop::Write);
-    }
-    Ok(End {
-        ending: shown.ending,
-        route: shown.route,
-    })
+    run_ready(rt, line, ready, start, input, output)
 }
 
 /// Runs a request over a stream, and writes its output.
-fn run_stream<R: Threads + Wait, I: Read + Drop, O: Write>(
+fn run_stream<R: Threads + Wait, I: Read, O: Write>(
     rt: &R,
     alloc: Global,
     request: Request<'_>,
-    input: I,
+    input: &mut I,
     output: &mut O,
 ) -> Result<End, Stop>
     requires sized { IsSized request.cutting.now }
@@ -199,23 +353,59 @@ fn run_stream<R: Threads + Wait, I: Read + Drop, O: Write>(
     let (ending, report) = run_streams(rt, alloc, &request, &mut source, &mut sink, &Open)?;
     Ok(End {
         ending,
-        route: report.route,
+        route: Some(report.route),
+        lines: Vec::new(alloc),
+        statistics: None,
     })
 }
 
-/// Runs the program of this text over the files that are named, or where there are none over standard input,
-/// and writes its output.
+/// Writes the canonical text of a program.
+fn write_program<O: Write>(alloc: Global, text: &[u8], output: &mut O) -> Result<(), Stop> {
+    let program = match parse(alloc, text) {
+        Ok(program) => program,
+        Err(SyntaxRefusal::Memory) => return Err(Stop::Memory),
+        Err(refusal) => return Err(Stop::Program(refusal)),
+    };
+    let canonical = show(alloc, &program)?;
+    if output.write_all(canonical.as_slice()).is_err() {
+        return Err(Stop::Write);
+    }
+    Ok(())
+}
+
+/// Reads a request's program and its settings, and writes the program where that is asked for.
+fn check<O: Write>(
+    alloc: Global,
+    tools: Tools,
+    request: Request<'_>,
+    output: &mut O,
+) -> Result<End, Stop> {
+    let _ = prepare(alloc, &request)?;
+    if tools.show {
+        write_program(alloc, request.text, output)?;
+    }
+    Ok(End {
+        ending: Ending::Status(0),
+        route: None,
+        lines: Vec::new(alloc),
+        statistics: None,
+    })
+}
+
+/// Does with the program of this text what is asked for: reads it alone, or runs it over the files that are
+/// named, or where there are none over standard input, and writes its output.
 pub(crate) fn run_whole<R, I, O>(
     rt: &R,
     line: &CommandLine<'_>,
     text: &[u8],
-    input: I,
+    explains: bool,
+    input: &mut I,
     output: &mut O,
 ) -> Result<End, Stop>
 where
-    R: Files + AllocGlobal + Threads + Wait,
+    R: Files + AllocGlobal + Threads + Wait + Clock,
     R::File: FileExt + Sync,
-    I: Read + Drop,
+    I: Read,
     O: Write,
 {
     let alloc = rt.alloc();
@@ -228,8 +418,13 @@ where
         cutting: &cutting,
         workers: usize::from(line.workers),
     };
-    if line.files.is_empty() {
-        return run_stream(rt, alloc, request, input, output);
+    let tools = line.tools;
+    let wishes = Wishes { tools, explains };
+    if tools.check || tools.show {
+        check(alloc, tools, request, output)
+    } else if line.files.is_empty() && !wishes.are_more() {
+        run_stream(rt, alloc, request, input, output)
+    } else {
+        run_files(rt, line, request, wishes, input, output)
     }
-    run_files(rt, line, request, output)
 }

@@ -1,0 +1,237 @@
+//! Explanations of how a run ended, where they are asked for.
+
+use crate::command_line::CommandLine;
+use crate::reports::{ReadCause, Stop};
+use crate::whole::assignments;
+use pawk_explain::{
+    Origin, RecordPlace, Script, explain_fault, explain_no_main, explain_parallel, explain_program,
+    explain_reason, explain_redo, explain_setting,
+};
+use pawk_input::Input;
+use pawk_lex::lexer::Lexer;
+use pawk_settings::{Settings, SettingsRefusal};
+use pawk_store::{Content, Named, Specials};
+use pawk_syntax::parse;
+use pawk_threads::{Ending, Place, Route};
+use pawk_token::token::{Mark, Value as Token};
+use pawk_value::{Value, push_text_lent};
+use std::alloc::{AllocError, Global};
+
+/// The value of `-v`, or of `-F`, that is the assignment of this number, counted from 0.
+fn origin<'a>(line: &CommandLine<'a>, number: usize) -> Option<Origin<'a>> {
+    match line.assignments.get(number) {
+        Some(text) => Some(Origin::Assignment(*text)),
+        None => Some(Origin::Separator(line.separator?)),
+    }
+}
+
+/// The first value of `-v` and `-F` that is refused beside the program of this text.
+fn refused_value<'a>(
+    alloc: Global,
+    line: &CommandLine<'a>,
+    text: &[u8],
+) -> Result<Option<Origin<'a>>, AllocError> {
+    let Ok(program) = parse(alloc, text) else {
+        return Ok(None);
+    };
+    let pairs = assignments(alloc, line)?;
+    for (number, pair) in pairs.chunks(1).enumerate() {
+        if Settings::new(alloc, program.tree(), pair, line.steps).is_err() {
+            return Ok(origin(line, number));
+        }
+    }
+    Ok(None)
+}
+
+/// Explains why an assignment is refused.
+fn explain_settings(
+    alloc: Global,
+    line: &CommandLine<'_>,
+    text: &[u8],
+    refusal: SettingsRefusal,
+) -> Result<Vec<u8>, AllocError> {
+    match refused_value(alloc, line, text)? {
+        Some(origin) => explain_setting(alloc, refusal, origin),
+        None => Ok(Vec::new(alloc)),
+    }
+}
+
+/// Explains why the file of this name could not be read.
+fn explain_file(alloc: Global, name: &str, cause: ReadCause) -> Result<Vec<u8>, AllocError> {
+    let words = match cause {
+        ReadCause::Missing if name.contains('=') =>
+            "  there is no such file; an assignment is made by -v, before the program\n",
+        ReadCause::Missing => "  there is no such file\n",
+        ReadCause::Directory => "  it is a directory\n",
+        ReadCause::Forbidden => "  you may not read it\n",
+        ReadCause::Other => "",
+    };
+    Vec::from_slice(alloc, words.as_bytes())
+}
+
+/// Explains why nothing was run to its end.
+pub(crate) fn explain_stop(
+    alloc: Global,
+    line: &CommandLine<'_>,
+    script: &Script<'_>,
+    stop: &Stop,
+) -> Result<Vec<u8>, AllocError> {
+    match stop {
+        Stop::Program(refusal) => explain_program(alloc, script, *refusal),
+        Stop::Settings(refusal) => explain_settings(alloc, line, script.text(), *refusal),
+        Stop::Read(name, cause) => explain_file(alloc, name.as_str(), *cause),
+        _ => Ok(Vec::new(alloc)),
+    }
+}
+
+/// Where the walk over a program's tokens is.
+#[derive(Clone, Copy)]
+struct Walk {
+    /// How many braces are open.
+    depth: usize,
+    /// Whether the item is an action of BEGIN.
+    is_begin: bool,
+}
+
+impl Walk {
+    /// Where it is after a mark.
+    fn after(self, mark: Mark) -> Walk {
+        match mark {
+            Mark::Begin => Walk {
+                depth: self.depth,
+                is_begin: true,
+            },
+            Mark::LeftBrace => Walk {
+                depth: self.depth.saturating_add(1),
+                is_begin: self.is_begin,
+            },
+            Mark::RightBrace => Walk {
+                depth: self.depth.saturating_sub(1),
+                is_begin: self.is_begin && self.depth > 1,
+            },
+            _ => self,
+        }
+    }
+}
+
+/// Whether a program names RS elsewhere than in BEGIN. Where it does not, its records were read by the RS
+/// that it has at the end.
+fn names_separator_after_begin(alloc: Global, text: &[u8]) -> bool {
+    let mut lexer = Lexer::new(alloc, text);
+    let mut walk = Walk {
+        depth: 0,
+        is_begin: false,
+    };
+    for _ in 0..text.len() {
+        let Ok(Some(token)) = lexer.next() else {
+            return false;
+        };
+        match &token.value {
+            Token::Mark(mark) => walk = walk.after(*mark),
+            Token::Name(name) => {
+                if !walk.is_begin && name.as_slice() == b"RS".as_slice() {
+                    return true;
+                }
+            }
+            _ => {}
+        }
+    }
+    false
+}
+
+/// The text of RS among the final variables.
+fn separator_among(alloc: Global, globals: &[Named<'_>]) -> Result<Vec<u8>, AllocError> {
+    let mut text = Vec::new(alloc);
+    for global in globals {
+        if let Content::Value(value) = &global.content
+            && global.name.as_slice() == b"RS".as_slice()
+        {
+            push_text_lent(*value, &mut text)?;
+        }
+    }
+    Ok(text)
+}
+
+/// What a run left that is needed to explain its end.
+#[derive(Clone, Copy)]
+pub(crate) struct Remains<'a> {
+    pub(crate) ending: Ending,
+    pub(crate) route: Route,
+    pub(crate) globals: &'a [Named<'a>],
+    pub(crate) specials: &'a Specials,
+}
+
+/// The bytes of the record of this number, where it is known by which RS it was read.
+fn record_bytes<'a>(
+    alloc: Global,
+    text: &[u8],
+    number: u64,
+    globals: &[Named<'_>],
+    input: &'a mut Input,
+) -> Result<Option<&'a [u8]>, AllocError> {
+    let rs = separator_among(alloc, globals)?;
+    if rs.len() > 1 || names_separator_after_begin(alloc, text) {
+        return Ok(None);
+    }
+    input.mend(rs.as_slice())?;
+    for item in input.records(rs.as_slice()) {
+        if item.nr == number {
+            return Ok(Some(item.bytes));
+        }
+    }
+    Ok(None)
+}
+
+/// Where the record at which a run ended is, if it ended at one that was read.
+fn record_place<'a>(
+    alloc: Global,
+    text: &[u8],
+    place: Place,
+    remains: Remains<'a>,
+    input: &'a mut Input,
+) -> Result<Option<RecordPlace<'a>>, AllocError> {
+    let Place::Record(number) = place else {
+        return Ok(None);
+    };
+    if u64::try_from(remains.specials.nr) != Ok(number) {
+        return Ok(None);
+    }
+    let file = match &remains.specials.filename {
+        Value::Maybe(name) => name.as_slice(),
+        _ => b"",
+    };
+    Ok(Some(RecordPlace {
+        file,
+        fnr: u64::try_from(remains.specials.fnr).unwrap_or(0),
+        bytes: record_bytes(alloc, text, number, remains.globals, input)?,
+    }))
+}
+
+/// Explains which way a run went.
+fn explain_route(alloc: Global, route: Route) -> Result<Vec<u8>, AllocError> {
+    match route {
+        Route::NoMain => explain_no_main(alloc),
+        Route::NotAdmitted(reason) => explain_reason(alloc, reason),
+        Route::Redo => explain_redo(alloc),
+        Route::Parallel => explain_parallel(alloc),
+    }
+}
+
+/// Explains how a run of the program of this text ended, and where `why` says so which way it went.
+pub(crate) fn explain_end(
+    alloc: Global,
+    text: &[u8],
+    why: bool,
+    remains: Remains<'_>,
+    input: &mut Input,
+) -> Result<Vec<u8>, AllocError> {
+    let mut lines = Vec::new(alloc);
+    if why {
+        lines.append(&mut explain_route(alloc, remains.route)?)?;
+    }
+    if let Ending::Fault(fault, place) = remains.ending {
+        let record = record_place(alloc, text, place, remains, input)?;
+        lines.append(&mut explain_fault(alloc, fault, record)?)?;
+    }
+    Ok(lines)
+}

@@ -1,0 +1,50 @@
+//! The program's text.
+
+use crate::command_line::Source;
+use crate::files::{read_file, read_stream};
+use crate::reports::Stop;
+use pawk_explain::Script;
+use std::io::Read;
+use std::rt::Files;
+
+/// The name that standard input has among files.
+pub(crate) const STANDARD_INPUT: &str = "-";
+
+/// Appends the text of a file, or of standard input.
+fn append_file<'a, R: Files + AllocGlobal, I: Read>(
+    rt: &R,
+    script: &mut Script<'a>,
+    name: &'a str,
+    input: &mut I,
+) -> Result<(), Stop> {
+    let alloc = rt.alloc();
+    if name == STANDARD_INPUT {
+        let text = read_stream(alloc, input)?;
+        return Ok(script.append_file(name, text.as_slice())?);
+    }
+    match read_file(rt, name) {
+        Ok(text) => Ok(script.append_file(name, text.as_slice())?),
+        Err(error) => Err(Stop::read(alloc, name, &error)),
+    }
+}
+
+/// The program's text, out of the words or of its files, in which CR LF ends a line as LF does.
+///
+/// POSIX.1-2017, awk, "OPTIONS" (-f).
+pub(crate) fn read_script<'a, R: Files + AllocGlobal, I: Read>(
+    rt: &R,
+    source: &Source<'a>,
+    input: &mut I,
+) -> Result<Script<'a>, Stop> {
+    let alloc = rt.alloc();
+    match source {
+        Source::Word(text) => Ok(Script::of_word(alloc, text.as_bytes())?),
+        Source::Files(names) => {
+            let mut script = Script::new(alloc);
+            for name in names {
+                append_file(rt, &mut script, *name, input)?;
+            }
+            Ok(script)
+        }
+    }
+}
