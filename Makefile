@@ -1,37 +1,45 @@
-# pawk: `make` proves and builds the program, and leaves it as build/pawk.
+# pawk: the released program in a minute, or proved and built from nothing.
 #
-#   make            prove and build build/pawk
-#   make demo       build it and run it on three lines: the last line is 6
-#   make test       the whole gate, and then what stands beside it (tests/run)
-#   make wrong      the wrong bodies that the gate leaves out (tests/wrong)
-#   make bench      compare its user time with that of mawk and gawk, its elapsed time by workers, the times of
-#                   expressions, of fields and of keys, and 24 programs beside mawk, gawk and original-awk
-#   make install    put it at $(PREFIX)/bin/pawk (PREFIX is /usr/local)
-#   make clean      remove what was built and what checks keep here (what the gate passed stays kept)
+# With a C compiler, make and xz:
+#
+#   make demo        link the released program as build/pawk, and run it on three lines: the last line is 6
+#   make test        the rows, the rows of programs, the cookbook and the memory drive on build/pawk (linked as by `make demo`
+#                    where it is missing)
+#   make static      the released program as build/pawk-static, one file that needs no library
+#   make deb         the released program as a Debian package in build/
+#   make install     put the program, its page and its completions below $(DESTDIR)$(PREFIX) (PREFIX is /usr/local)
+#   make uninstall   remove those files
+#
+# With the Rattle kit (the command rt) too:
+#
+#   make             prove and build build/pawk, and keep in build/proved what was proved (release/gate)
+#   make prove       the whole gate, then `make test`, what the gate's programs do where memory is refused, the scripts of
+#                    the release, and the comparison of the proved object with the released one
+#   make release     make release/ of what the gate proved (release/README.md)
+#   make wrong       the wrong bodies that the gate leaves out (tests/wrong)
+#   make bench       compare build/pawk's user time with that of mawk and gawk, its elapsed time by workers, the times of
+#                    expressions, of fields and of keys, and 24 programs beside mawk, gawk and original-awk
+#
+#   make clean       remove what was built and what checks keep here (what the gate passed stays kept)
 
 PREFIX = /usr/local
 BENCH_DATA = bench/files
 MAKEFLAGS += --no-print-directory
 # How many crates the gate proves side by side, each by one job: at most four, since one takes 1 to 4 GB. Without a number
-# `rt` gives several jobs to a crate that nothing else can stand beside, and each job loads what is below once more.
+# `rt` gives several jobs to a crate that nothing else can be proved beside, and each job loads what is below once more.
 export RT_JOBS ?= $(shell jobs=$$(nproc); echo $$((jobs < 4 ? jobs : 4)))
+export CC
 
-.PHONY: all build fetch demo test wrong bench install clean toolchain
+.PHONY: all build fetch program demo test prove release static deb install uninstall wrong bench clean toolchain
 
 all: build
 
 toolchain:
-	$(if $(shell command -v rt 2>/dev/null),@:,$(error the command rt of the Rattle kit is missing on PATH))
+	$(if $(shell command -v rt 2>/dev/null),@:,$(error the command rt of the Rattle kit is missing on PATH: make demo links the released program without it))
 
-# What the gate reads.
-SOURCES = crates.txt $(shell find crates -name out -prune -o -name '*.rt' -print -o -name '*.antt' -print)
-
-build: build/pawk
-
-# The gate is what builds the program: it proves crates side by side, and what it passed is kept on the machine, so that
-# `make test` behind it proves nothing again.
-build/pawk: $(SOURCES) | toolchain
-	rt ci
+# The gate is what builds the program: it proves crates side by side. What it proved is not proved again (release/gate).
+build: toolchain
+	@release/gate
 	@$(MAKE) fetch
 
 # The program as rt built it last.
@@ -39,18 +47,57 @@ fetch:
 	@mkdir -p build
 	@cp crates/pawk/out/pawk build/pawk.new && mv build/pawk.new build/pawk
 
-demo: build
+# The program in build/, whichever it is; where there is none, the released one.
+program:
+	@test -x build/pawk || release/link build/pawk
+
+demo:
+	@release/link build/pawk
 	@printf '1\n2\n3\n' | build/pawk -j 2 -c 1 '{ n += $$1 } END { print n }'
 
-test: toolchain
-	rt ci
+test: program
+	@tests/run rows programs devices cookbook completions memory
+
+prove: toolchain
+	@release/gate always
 	@$(MAKE) fetch
-	tests/run
+	@$(MAKE) test
+	@tests/run crates
+	@tests/release
+	@release/compare
+
+release: toolchain
+	@release/make
+
+static:
+	@release/link build/pawk-static -static-pie -s
+
+deb:
+	@release/deb
+
+# Where each file is put, after its name here.
+FILES = \
+	build/pawk:bin/pawk:755 \
+	man/pawk.1:share/man/man1/pawk.1:644 \
+	completions/pawk.bash:share/bash-completion/completions/pawk:644 \
+	completions/_pawk:share/zsh/site-functions/_pawk:644 \
+	completions/pawk.fish:share/fish/vendor_completions.d/pawk.fish:644
+
+install: program
+	@for file in $(FILES); do \
+	    from=$${file%%:*}; to=$${file#*:}; \
+	    install -D -m "$${to#*:}" "$$from" "$(DESTDIR)$(PREFIX)/$${to%:*}" || exit 1; \
+	done
+	@echo "installed below $(DESTDIR)$(PREFIX)"
+
+uninstall:
+	@for file in $(FILES); do to=$${file#*:}; rm -f "$(DESTDIR)$(PREFIX)/$${to%:*}" || exit 1; done
+	@echo "removed from $(DESTDIR)$(PREFIX)"
 
 wrong: toolchain
 	tests/wrong
 
-bench: build
+bench: toolchain program
 	@test -e $(BENCH_DATA)/wide.txt || bench/data $(BENCH_DATA)
 	@test -e $(BENCH_DATA)/log.txt || bench/log $(BENCH_DATA)
 	@test -e $(BENCH_DATA)/suite/values.txt || bench/records $(BENCH_DATA)/suite
@@ -62,10 +109,6 @@ bench: build
 	bench/fields $(BENCH_DATA)
 	bench/keys $(BENCH_DATA)
 	bench/suite $(BENCH_DATA)/suite
-
-install: build
-	mkdir -p $(DESTDIR)$(PREFIX)/bin
-	install -m 755 build/pawk $(DESTDIR)$(PREFIX)/bin/pawk
 
 clean:
 	rm -rf build crates/*/out $(BENCH_DATA)

@@ -92,6 +92,11 @@ part() {
     fi
 }
 
+# Writes the text $2 so many times as $1 tells, for a shell command that writes a part.
+repeat() {
+    text=$2 awk -v count="$1" 'BEGIN { for (at = 0; at < count; at++) printf "%s", ENVIRON["text"] }' </dev/null
+}
+
 # The same, of a part that the shell command $3 writes.
 part_of() {
     eval "$3" >"$work/part"
