@@ -1,0 +1,16 @@
+# Completion of pawk's command line for fish. `make install` puts it into vendor_completions.d.
+
+complete -c pawk -s F -x -d 'The field separator'
+complete -c pawk -s v -x -a 'FS= OFS= ORS= RS= SUBSEP=' -d 'A variable assigned before BEGIN'
+complete -c pawk -s f -r -F -d 'A file that has the program'
+complete -c pawk -s j -x -a '1 2 4 8 16 32 64' -d 'The number of workers, 1 to 64'
+complete -c pawk -s c -x -a '65536 1048576 16777216 1073741824' -d 'The size of a chunk in bytes'
+complete -c pawk -s s -x -a '10000000 1000000000 1000000000000' -d 'The steps that BEGIN, each record and END have'
+complete -c pawk -l why -d 'Write which way the run went'
+complete -c pawk -l explain -f -a 'always never auto' -d 'Explain faults and refusals'
+complete -c pawk -l check -d 'Read the program and run nothing'
+complete -c pawk -l show -d 'Write the canonical text of the program and run nothing'
+complete -c pawk -l globals -d 'Write the final variables'
+complete -c pawk -l statistics -d 'Write counts and times of the run'
+complete -c pawk -s h -l help -d 'Write help'
+complete -c pawk -s V -l version -d 'Write the version'
