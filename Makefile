@@ -3,7 +3,7 @@
 # With a C compiler, make and xz:
 #
 #   make demo        link the released program as build/pawk, and run it on three lines: the last line is 6
-#   make test        the rows, the rows of programs, the cookbook and the memory drive on build/pawk (linked as by `make demo`
+#   make test        the rows, the tables, the cookbook and the memory drive on build/pawk (linked as by `make demo`
 #                    where it is missing)
 #   make static      the released program as build/pawk-static, one file that needs no library
 #   make deb         the released program as a Debian package in build/
@@ -56,7 +56,7 @@ demo:
 	@printf '1\n2\n3\n' | build/pawk -j 2 -c 1 '{ n += $$1 } END { print n }'
 
 test: program
-	@tests/run rows programs devices cookbook completions memory
+	@tests/run rows programs tables devices cookbook completions memory
 
 prove: toolchain
 	@release/gate always
