@@ -1,4 +1,4 @@
-# pawk: the released program in a minute, or proved and built from nothing.
+# pawk: the released program in a minute, or proved and built from scratch.
 #
 # With a C compiler, make and xz:
 #
@@ -18,7 +18,7 @@
 #   make release     make release/ of what the gate proved (release/README.md)
 #   make wrong       the wrong bodies that the gate leaves out (tests/wrong)
 #   make bench       compare build/pawk's user time with that of mawk and gawk, its elapsed time by workers, the times of
-#                    expressions, of fields and of keys, and 24 programs beside mawk, gawk and original-awk
+#                    expressions and of fields, and 24 programs beside mawk, gawk and original-awk
 #
 #   make clean       remove what was built and what checks keep here (what the gate passed stays kept)
 
@@ -103,11 +103,9 @@ bench: toolchain program
 	@test -e $(BENCH_DATA)/suite/values.txt || bench/records $(BENCH_DATA)/suite
 	bench/run $(BENCH_DATA)
 	bench/workers $(BENCH_DATA)
-	cd crates/pawk_bench && rt run </dev/null
 	bench/expressions $(BENCH_DATA)
 	@test -e $(BENCH_DATA)/paragraphs.txt || bench/words $(BENCH_DATA)
 	bench/fields $(BENCH_DATA)
-	bench/keys $(BENCH_DATA)
 	bench/suite $(BENCH_DATA)/suite
 
 clean:

@@ -1,7 +1,8 @@
 # How rows of programs are read, as programs/README writes them: for a script that says what `check` does at the end of
 # each row, and has set $work to a folder of its own. Then read_rows FILE TOPIC goes through a file, and in `check`
-# run_row WORDS.. runs the row with its words behind those, which stand in $words, one run in a line. $row is its name, $work/output and $work/errors what it must
-# write, $work/got_output and $work/got_errors what it wrote; $want_status and $status are the same of its status.
+# run_row WORDS.. runs the row with its words after those, which are in $words, one run in a line. $row is its name,
+# $work/output and $work/errors what it must write, $work/got_output and $work/got_errors what it wrote;
+# $want_status and $status are the status that it must have and the one that it had.
 newline='
 '
 
@@ -92,12 +93,12 @@ part() {
     fi
 }
 
-# Writes the text $2 so many times as $1 tells, for a shell command that writes a part.
+# Writes the text $2 as many times as $1 says, for a shell command that writes a part.
 repeat() {
     text=$2 awk -v count="$1" 'BEGIN { for (at = 0; at < count; at++) printf "%s", ENVIRON["text"] }' </dev/null
 }
 
-# The same, of a part that the shell command $3 writes.
+# A part with key $1 and name $2, its bytes written by the shell command $3.
 part_of() {
     eval "$3" >"$work/part"
     case $1 in
@@ -115,7 +116,7 @@ part_of() {
     fi
 }
 
-# Runs the row in the folder of its files, with its words behind those that are given.
+# Runs the row in the folder of its files, with its words after those that are given.
 run_row() {
     eval "set -- \"\$@\" $words"
     if [ "$program_told" = yes ]; then
@@ -127,7 +128,7 @@ run_row() {
         <"$work/input" >"$work/got_output" 2>"$work/got_errors" || status=$?
 }
 
-# The status that the row wants where it tells none.
+# The status that the row wants where it names none.
 set_status() {
     if [ -z "$want_status" ]; then
         want_status=0

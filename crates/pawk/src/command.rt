@@ -3,7 +3,7 @@
 use crate::command_line::{CommandLine, read_words};
 use crate::explanations::explain_stop;
 use crate::outlet::Outlet;
-use crate::reports::{End, Stop, report_end, report_stop};
+use crate::reports::{End, RunFailure, report_end, report_stop};
 use crate::script::read_script;
 use crate::whole::run_whole;
 use crate::words::unambiguous;
@@ -23,7 +23,7 @@ fn do_script<R, I, O>(
     explains: bool,
     input: &mut I,
     output: &mut Outlet<O>,
-) -> Result<End, Stop>
+) -> Result<End, RunFailure>
 where
     R: Files + AllocGlobal + Threads + Wait + Clock,
     R::File: FileExt + Sync,
@@ -32,7 +32,7 @@ where
 {
     let end = run_whole(rt, line, script.text(), explains, input, output)?;
     if output.flush().is_err() {
-        return Err(Stop::Write);
+        return Err(RunFailure::Write);
     }
     Ok(end)
 }
@@ -42,7 +42,7 @@ fn report_with_explanation<R, O, E>(
     rt: &R,
     line: &CommandLine<'_>,
     script: &Script<'_>,
-    stop: &Stop,
+    stop: &RunFailure,
     output: &mut Outlet<O>,
     errors: &mut E,
 ) -> io::Result<u8>
@@ -93,7 +93,7 @@ where
 /// Reports why the words were not read.
 fn report_words<R: AllocGlobal, O: Write, E: Write>(
     rt: &R,
-    stop: &Stop,
+    stop: &RunFailure,
     output: &mut Outlet<O>,
     errors: &mut E,
 ) -> io::Result<u8> {
@@ -117,7 +117,7 @@ where
     E: Write + IsTerminal,
 {
     let Ok(words) = unambiguous(rt.alloc(), words) else {
-        return report_words(rt, &Stop::Memory, output, errors);
+        return report_words(rt, &RunFailure::Memory, output, errors);
     };
     match read_words(rt.alloc(), words.as_slice()) {
         Ok(line) => do_line(rt, &line, input, output, errors),

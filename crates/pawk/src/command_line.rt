@@ -2,7 +2,7 @@
 
 ghost use Rattle.std.specs.Prelude.{◌<◌, ◌≤◌};
 
-use crate::reports::Stop;
+use crate::reports::RunFailure;
 use clap::error::ErrorKind;
 use clap::{Arg, ArgAction, ArgMatches, Command, value_parser};
 use std::alloc::{AllocError, Global};
@@ -28,7 +28,7 @@ const WHEN: &[&str] = &["always", "auto", "never"];
 
 /// Where the program's text is.
 #[derive(Drop)]
-pub(crate) enum Source<'a> {
+pub(crate) enum ProgramSource<'a> {
     /// In the words.
     Word(&'a str),
     /// In the files of these names, one after the other.
@@ -74,7 +74,7 @@ impl Tools {
 /// What the words of the command line ask for.
 #[derive(Drop)]
 pub(crate) struct CommandLine<'a> {
-    pub(crate) program: Source<'a>,
+    pub(crate) program: ProgramSource<'a>,
     /// The values of `-v`, each a name and a value with `=` between.
     pub(crate) assignments: Vec<&'a str>,
     /// The value of `-F`.
@@ -238,11 +238,11 @@ fn is_plain(matches: &ArgMatches<'_>, id: &str) -> bool {
 fn program_source<'a>(
     alloc: Global,
     matches: &ArgMatches<'a>,
-) -> Result<Option<Source<'a>>, AllocError> {
+) -> Result<Option<ProgramSource<'a>>, AllocError> {
     match matches.get_strs("program-file") {
-        Some(names) => Ok(Some(Source::Files(Vec::from_slice(alloc, names)?))),
+        Some(names) => Ok(Some(ProgramSource::Files(Vec::from_slice(alloc, names)?))),
         None => match matches.get_str("program") {
-            Some(text) => Ok(Some(Source::Word(text))),
+            Some(text) => Ok(Some(ProgramSource::Word(text))),
             None => Ok(None),
         },
     }
@@ -252,10 +252,10 @@ fn program_source<'a>(
 fn file_names<'a>(
     alloc: Global,
     matches: &ArgMatches<'a>,
-    program: &Source<'a>,
+    program: &ProgramSource<'a>,
 ) -> Result<Vec<&'a str>, AllocError> {
     let mut names = Vec::new(alloc);
-    if let (Source::Files(_), Some(first)) = (program, matches.get_str("program")) {
+    if let (ProgramSource::Files(_), Some(first)) = (program, matches.get_str("program")) {
         names.push(first)?;
     }
     names.extend_from_slice(matches.get_strs("file").unwrap_or(&[]))?;
@@ -267,11 +267,11 @@ fn are_plain(matches: &ArgMatches<'_>) -> bool {
     is_plain(matches, "workers") && is_plain(matches, "chunk") && is_plain(matches, "steps")
 }
 
-/// What is reported of words at fault; want of memory where it cannot be.
-fn fault(command: &mut Command<'_>, kind: ErrorKind, text: &str) -> Stop {
+/// What is reported of words at fault; `Memory` where it cannot be.
+fn fault(command: &mut Command<'_>, kind: ErrorKind, text: &str) -> RunFailure {
     match command.error(kind, text) {
-        Ok(error) => Stop::Line(error),
-        Err(AllocError) => Stop::Memory,
+        Ok(error) => RunFailure::Line(error),
+        Err(AllocError) => RunFailure::Memory,
     }
 }
 
@@ -300,7 +300,7 @@ fn read_tools(matches: &ArgMatches<'_>) -> Tools {
 fn line_of<'a>(
     alloc: Global,
     matches: &ArgMatches<'a>,
-    program: Source<'a>,
+    program: ProgramSource<'a>,
 ) -> Result<CommandLine<'a>, AllocError> {
     let files = file_names(alloc, matches, &program)?;
     let assignments = Vec::from_slice(alloc, matches.get_strs("assignment").unwrap_or(&[]))?;
@@ -324,7 +324,7 @@ fn read_by<'a>(
     alloc: Global,
     command: &mut Command<'a>,
     words: &'a [String],
-) -> Result<CommandLine<'a>, Stop> {
+) -> Result<CommandLine<'a>, RunFailure> {
     let matches = command.try_get_matches_from_mut(words)?;
     match program_source(alloc, &matches)? {
         Some(program) if are_plain(&matches) => Ok(line_of(alloc, &matches, program)?),
@@ -340,7 +340,10 @@ fn read_by<'a>(
 /// writes them.
 ///
 /// `Line` comes where the words are at fault or ask for help, `Memory` where memory was refused.
-pub(crate) fn read_words<'a>(alloc: Global, words: &'a [String]) -> Result<CommandLine<'a>, Stop> {
+pub(crate) fn read_words<'a>(
+    alloc: Global,
+    words: &'a [String],
+) -> Result<CommandLine<'a>, RunFailure> {
     let mut command = definition(alloc)?;
     read_by(alloc, &mut command, words)
 }

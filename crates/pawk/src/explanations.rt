@@ -1,7 +1,7 @@
 //! Explanations of how a run ended, where they are asked for.
 
 use crate::command_line::CommandLine;
-use crate::reports::{ReadCause, Stop};
+use crate::reports::{ReadCause, RunFailure};
 use crate::whole::assignments;
 use pawk_explain::{
     Origin, RecordPlace, Script, explain_fault, explain_no_main, explain_parallel, explain_program,
@@ -9,11 +9,11 @@ use pawk_explain::{
 };
 use pawk_input::Input;
 use pawk_lex::lexer::Lexer;
+use pawk_lex::token::{Mark, TokenValue as Token};
 use pawk_settings::{Settings, SettingsRefusal};
 use pawk_store::{Content, Named, Specials};
 use pawk_syntax::parse;
 use pawk_threads::{Ending, Place, Route};
-use pawk_token::token::{Mark, Value as Token};
 use pawk_value::{Value, push_text_lent};
 use std::alloc::{AllocError, Global};
 
@@ -74,38 +74,38 @@ pub(crate) fn explain_stop(
     alloc: Global,
     line: &CommandLine<'_>,
     script: &Script<'_>,
-    stop: &Stop,
+    stop: &RunFailure,
 ) -> Result<Vec<u8>, AllocError> {
     match stop {
-        Stop::Program(refusal) => explain_program(alloc, script, *refusal),
-        Stop::Settings(refusal) => explain_settings(alloc, line, script.text(), *refusal),
-        Stop::Read(name, cause) => explain_file(alloc, name.as_str(), *cause),
+        RunFailure::Program(refusal) => explain_program(alloc, script, *refusal),
+        RunFailure::Settings(refusal) => explain_settings(alloc, line, script.text(), *refusal),
+        RunFailure::Read(name, cause) => explain_file(alloc, name.as_str(), *cause),
         _ => Ok(Vec::new(alloc)),
     }
 }
 
 /// Where the walk over a program's tokens is.
 #[derive(Clone, Copy)]
-struct Walk {
+struct ProgramWalk {
     /// How many braces are open.
     depth: usize,
     /// Whether the item is an action of BEGIN.
     is_begin: bool,
 }
 
-impl Walk {
+impl ProgramWalk {
     /// Where it is after a mark.
-    fn after(self, mark: Mark) -> Walk {
+    fn after(self, mark: Mark) -> ProgramWalk {
         match mark {
-            Mark::Begin => Walk {
+            Mark::Begin => ProgramWalk {
                 depth: self.depth,
                 is_begin: true,
             },
-            Mark::LeftBrace => Walk {
+            Mark::LeftBrace => ProgramWalk {
                 depth: self.depth.saturating_add(1),
                 is_begin: self.is_begin,
             },
-            Mark::RightBrace => Walk {
+            Mark::RightBrace => ProgramWalk {
                 depth: self.depth.saturating_sub(1),
                 is_begin: self.is_begin && self.depth > 1,
             },
@@ -118,7 +118,7 @@ impl Walk {
 /// that it has at the end.
 fn names_separator_after_begin(alloc: Global, text: &[u8]) -> bool {
     let mut lexer = Lexer::new(alloc, text);
-    let mut walk = Walk {
+    let mut walk = ProgramWalk {
         depth: 0,
         is_begin: false,
     };

@@ -1,6 +1,6 @@
 //! The files that are the input.
 
-use crate::reports::Stop;
+use crate::reports::RunFailure;
 use crate::script::STANDARD_INPUT;
 use crate::stripes::{count_readers, read_stripes};
 use pawk_device::{ReadStop, Reader, read_all};
@@ -45,7 +45,7 @@ fn read_known<F: Read>(
     Ok(())
 }
 
-/// Reads a file to its end, into room for the size that is known of it, and one byte more, in which
+/// Reads a file to its end, into space for the size that is known of it, and one byte more, in which
 /// its end is seen.
 pub(crate) fn read_file<R: Files + AllocGlobal>(rt: &R, name: &str) -> io::Result<Vec<u8>> {
     let mut file = File::open(rt, name)?;
@@ -56,7 +56,7 @@ pub(crate) fn read_file<R: Files + AllocGlobal>(rt: &R, name: &str) -> io::Resul
     Ok(bytes)
 }
 
-/// Reads a file to its end, by so many threads at most.
+/// Reads a file to its end, by at most `workers` threads.
 fn read_blocks<R>(rt: &R, name: &str, workers: usize) -> io::Result<Blocks>
 where
     R: Files + AllocGlobal + Threads + Wait,
@@ -73,23 +73,23 @@ where
 }
 
 /// Reads a stream to its end; a second time it is at its end.
-pub(crate) fn read_stream<I: Read>(alloc: Global, input: &mut I) -> Result<Vec<u8>, Stop> {
+pub(crate) fn read_stream<I: Read>(alloc: Global, input: &mut I) -> Result<Vec<u8>, RunFailure> {
     match read_all(alloc, &mut Reader::new(input)) {
         Ok(bytes) => Ok(bytes),
-        Err(ReadStop::Memory) => Err(Stop::Memory),
-        Err(ReadStop::Failed) => Err(Stop::Stream),
-        Err(ReadStop::TooLarge) => Err(Stop::Input),
+        Err(ReadStop::Memory) => Err(RunFailure::Memory),
+        Err(ReadStop::Failed) => Err(RunFailure::Stream),
+        Err(ReadStop::TooLarge) => Err(RunFailure::Input),
     }
 }
 
-/// Reads a file to its end, by so many threads at most: its name in the program, which is empty for
+/// Reads a file to its end, by at most `workers` threads: its name in the program, which is empty for
 /// standard input, and its bytes.
 fn read_input<R, I>(
     rt: &R,
     name: &str,
     workers: usize,
     input: &mut I,
-) -> Result<(Vec<u8>, Blocks), Stop>
+) -> Result<(Vec<u8>, Blocks), RunFailure>
 where
     R: Files + AllocGlobal + Threads + Wait,
     R::File: FileExt + Sync,
@@ -102,11 +102,11 @@ where
     }
     match read_blocks(rt, name, workers) {
         Ok(blocks) => Ok((Vec::from_slice(alloc, name.as_bytes())?, blocks)),
-        Err(error) => Err(Stop::read(alloc, name, &error)),
+        Err(error) => Err(RunFailure::read(alloc, name, &error)),
     }
 }
 
-/// Reads the files of these names in order, each by so many threads at most, and standard input where the
+/// Reads the files of these names in order, each by at most `workers` threads, and standard input where the
 /// name is `-`. The first that cannot be read is reported.
 ///
 /// POSIX.1-2017, awk, "OPERANDS" and "STDIN".
@@ -115,7 +115,7 @@ pub(crate) fn read_inputs<R, I>(
     names: &[&str],
     workers: usize,
     input: &mut I,
-) -> Result<Input, Stop>
+) -> Result<Input, RunFailure>
 where
     R: Files + AllocGlobal + Threads + Wait,
     R::File: FileExt + Sync,
@@ -127,6 +127,6 @@ where
     }
     match Input::from_blocks(files) {
         Ok(input) => Ok(input),
-        Err(TooLarge) => Err(Stop::Input),
+        Err(TooLarge) => Err(RunFailure::Input),
     }
 }

@@ -34,7 +34,7 @@ impl ReadCause {
 
 /// Why nothing was run to its end.
 #[derive(Drop)]
-pub(crate) enum Stop {
+pub(crate) enum RunFailure {
     /// Memory was refused.
     Memory,
     /// A worker could not be started.
@@ -57,49 +57,49 @@ pub(crate) enum Stop {
     Line(Error),
 }
 
-impl From<AllocError> for Stop {
-    fn from(_error: AllocError) -> Stop {
-        Stop::Memory
+impl From<AllocError> for RunFailure {
+    fn from(_error: AllocError) -> RunFailure {
+        RunFailure::Memory
     }
 }
 
-impl<T: Drop> From<AllocFailed<T>> for Stop {
-    fn from(_error: AllocFailed<T>) -> Stop {
-        Stop::Memory
+impl<T: Drop> From<AllocFailed<T>> for RunFailure {
+    fn from(_error: AllocFailed<T>) -> RunFailure {
+        RunFailure::Memory
     }
 }
 
-impl From<Error> for Stop {
-    fn from(error: Error) -> Stop {
+impl From<Error> for RunFailure {
+    fn from(error: Error) -> RunFailure {
         if error.kind() == ErrorKind::OutOfMemory {
-            Stop::Memory
+            RunFailure::Memory
         } else {
-            Stop::Line(error)
+            RunFailure::Line(error)
         }
     }
 }
 
-impl From<Refusal> for Stop {
-    fn from(refusal: Refusal) -> Stop {
+impl From<Refusal> for RunFailure {
+    fn from(refusal: Refusal) -> RunFailure {
         match refusal {
-            Refusal::Memory => Stop::Memory,
-            Refusal::Thread => Stop::Thread,
-            Refusal::Cutting => Stop::Cutting,
+            Refusal::Memory => RunFailure::Memory,
+            Refusal::Thread => RunFailure::Thread,
+            Refusal::Cutting => RunFailure::Cutting,
         }
     }
 }
 
-impl From<StreamRefusal> for Stop {
-    fn from(refusal: StreamRefusal) -> Stop {
+impl From<StreamRefusal> for RunFailure {
+    fn from(refusal: StreamRefusal) -> RunFailure {
         match refusal {
-            StreamRefusal::Memory => Stop::Memory,
-            StreamRefusal::Thread => Stop::Thread,
-            StreamRefusal::Cutting => Stop::Cutting,
-            StreamRefusal::Program(why) => Stop::Program(why),
-            StreamRefusal::Settings(why) => Stop::Settings(why),
-            StreamRefusal::Read => Stop::Stream,
-            StreamRefusal::Write(_) => Stop::Write,
-            StreamRefusal::Input => Stop::Input,
+            StreamRefusal::Memory => RunFailure::Memory,
+            StreamRefusal::Thread => RunFailure::Thread,
+            StreamRefusal::Cutting => RunFailure::Cutting,
+            StreamRefusal::Program(why) => RunFailure::Program(why),
+            StreamRefusal::Settings(why) => RunFailure::Settings(why),
+            StreamRefusal::Read => RunFailure::Stream,
+            StreamRefusal::Write(_) => RunFailure::Write,
+            StreamRefusal::Input => RunFailure::Input,
         }
     }
 }
@@ -117,15 +117,15 @@ fn printable(alloc: Global, name: &str) -> Result<String, AllocError> {
     Ok(text)
 }
 
-impl Stop {
-    /// A file that could not be read, or want of memory where the name cannot be kept or the error says so.
-    pub(crate) fn read(alloc: Global, name: &str, error: &io::Error) -> Stop {
+impl RunFailure {
+    /// A file that could not be read, or `Memory` where the name cannot be kept or the error says so.
+    pub(crate) fn read(alloc: Global, name: &str, error: &io::Error) -> RunFailure {
         if error.kind() == io::ErrorKind::OutOfMemory {
-            return Stop::Memory;
+            return RunFailure::Memory;
         }
         match printable(alloc, name) {
-            Ok(name) => Stop::Read(name, ReadCause::of(error)),
-            Err(_) => Stop::Memory,
+            Ok(name) => RunFailure::Read(name, ReadCause::of(error)),
+            Err(_) => RunFailure::Memory,
         }
     }
 }
@@ -138,23 +138,23 @@ const CLOSED: u8 = 141;
 /// program's text.
 pub(crate) fn report_stop<O: Write, E: Write>(
     alloc: Global,
-    stop: &Stop,
+    stop: &RunFailure,
     script: &Script<'_>,
     output: &mut Outlet<O>,
     errors: &mut E,
 ) -> io::Result<u8> {
     match stop {
-        Stop::Memory => errors.write_all(b"pawk: refused: memory\n")?,
-        Stop::Thread => errors.write_all(b"pawk: refused: thread\n")?,
-        Stop::Cutting => errors.write_all(b"pawk: refused: cutting\n")?,
-        Stop::Input => errors.write_all(b"pawk: refused: input\n")?,
-        Stop::Program(refusal) => report_program(*refusal, script, errors)?,
-        Stop::Settings(refusal) => writeln!(errors, "pawk: bad assignment: {refusal}")?,
-        Stop::Read(name, _) => writeln!(errors, "pawk: cannot read {name}")?,
-        Stop::Stream => errors.write_all(b"pawk: cannot read \n")?,
-        Stop::Write if output.is_closed() => return Ok(CLOSED),
-        Stop::Write => errors.write_all(b"pawk: cannot write\n")?,
-        Stop::Line(error) => return report_line(alloc, error, output, errors),
+        RunFailure::Memory => errors.write_all(b"pawk: refused: memory\n")?,
+        RunFailure::Thread => errors.write_all(b"pawk: refused: thread\n")?,
+        RunFailure::Cutting => errors.write_all(b"pawk: refused: cutting\n")?,
+        RunFailure::Input => errors.write_all(b"pawk: refused: input\n")?,
+        RunFailure::Program(refusal) => report_program(*refusal, script, errors)?,
+        RunFailure::Settings(refusal) => report_settings(*refusal, errors)?,
+        RunFailure::Read(name, _) => writeln!(errors, "pawk: cannot read {name}")?,
+        RunFailure::Stream => errors.write_all(b"pawk: cannot read \n")?,
+        RunFailure::Write if output.is_closed() => return Ok(CLOSED),
+        RunFailure::Write => errors.write_all(b"pawk: cannot write\n")?,
+        RunFailure::Line(error) => return report_line(alloc, error, output, errors),
     }
     Ok(2)
 }
@@ -172,6 +172,11 @@ fn report_program<E: Write>(
         }
         None => errors.write_all(b"pawk: refused: memory\n"),
     }
+}
+
+fn report_settings<E: Write>(refusal: SettingsRefusal, errors: &mut E) -> io::Result<()> {
+    let number = refusal.number();
+    writeln!(errors, "pawk: bad assignment: {number}")
 }
 
 /// Reports a fault of the command line; it begins as every message does.

@@ -1,8 +1,8 @@
 //! The program's text.
 
-use crate::command_line::Source;
+use crate::command_line::ProgramSource;
 use crate::files::{read_file, read_stream};
-use crate::reports::Stop;
+use crate::reports::RunFailure;
 use pawk_explain::Script;
 use std::io::Read;
 use std::rt::Files;
@@ -16,7 +16,7 @@ fn append_file<'a, R: Files + AllocGlobal, I: Read>(
     script: &mut Script<'a>,
     name: &'a str,
     input: &mut I,
-) -> Result<(), Stop> {
+) -> Result<(), RunFailure> {
     let alloc = rt.alloc();
     if name == STANDARD_INPUT {
         let text = read_stream(alloc, input)?;
@@ -24,7 +24,7 @@ fn append_file<'a, R: Files + AllocGlobal, I: Read>(
     }
     match read_file(rt, name) {
         Ok(text) => Ok(script.append_file(name, text.as_slice())?),
-        Err(error) => Err(Stop::read(alloc, name, &error)),
+        Err(error) => Err(RunFailure::read(alloc, name, &error)),
     }
 }
 
@@ -33,13 +33,13 @@ fn append_file<'a, R: Files + AllocGlobal, I: Read>(
 /// POSIX.1-2017, awk, "OPTIONS" (-f).
 pub(crate) fn read_script<'a, R: Files + AllocGlobal, I: Read>(
     rt: &R,
-    source: &Source<'a>,
+    source: &ProgramSource<'a>,
     input: &mut I,
-) -> Result<Script<'a>, Stop> {
+) -> Result<Script<'a>, RunFailure> {
     let alloc = rt.alloc();
     match source {
-        Source::Word(text) => Ok(Script::of_word(alloc, text.as_bytes())?),
-        Source::Files(names) => {
+        ProgramSource::Word(text) => Ok(Script::of_word(alloc, text.as_bytes())?),
+        ProgramSource::Files(names) => {
             let mut script = Script::new(alloc);
             for name in names {
                 append_file(rt, &mut script, *name, input)?;

@@ -25,10 +25,10 @@ const PART: usize = 32_768;
 /// How many bytes are copied at once: so few that they are near when their newlines are counted.
 const PIECE: usize = 4_096;
 
-/// How much more room a block has than its stripe: for the rest of a record that goes on in the next one.
+/// How much more capacity a block has than its stripe: for the rest of a record that goes on in the next one.
 const ROOM_BEHIND: usize = 65_536;
 
-/// How many threads read a file of this size, where so many may work.
+/// How many threads read a file of this size, where at most `workers` may work.
 pub(crate) fn count_readers(size: usize, workers: usize) -> usize {
     workers.min(size / LEAST_SHARE)
 }
@@ -48,7 +48,7 @@ struct Stripes {
 }
 
 impl Stripes {
-    /// The stripes of a file of this size, as many for each of so many threads.
+    /// The stripes of a file of this size, as many for each of `readers` threads.
     fn of(size: usize, readers: usize) -> Self {
         let share = size / readers.max(1);
         let count = (share / LEAST_STRIPE)
@@ -74,20 +74,20 @@ impl Stripes {
     }
 }
 
-/// What a thread reads into: blocks with room for a stripe each, and room for a part of one.
+/// What a thread reads into: blocks with space for a stripe each, and space for a part of one.
 #[derive(Drop)]
 struct Rooms {
     blocks: Vec<Block>,
     part: Vec<u8>,
 }
 
-/// A block with room for one of these stripes.
+/// A block with space for one of these stripes.
 fn block_for(alloc: Global, stripes: Stripes) -> Result<Block, AllocError> {
     Block::with_capacity(alloc, stripes.each.saturating_add(ROOM_BEHIND))
 }
 
 impl Rooms {
-    /// Room for as many of these stripes as each of so many threads reads where none is slower than another.
+    /// Space for as many of these stripes as each of `readers` threads reads where none is slower than another.
     fn new(alloc: Global, stripes: Stripes, readers: usize) -> Result<Self, AllocError> {
         let count = stripes.count / readers.max(1);
         let mut blocks = Vec::with_capacity(alloc, count)?;
@@ -108,7 +108,7 @@ impl Rooms {
     }
 }
 
-/// The rooms of all of so many threads but one.
+/// The spaces of all of `readers` threads but one.
 fn rooms_of_others(
     alloc: Global,
     stripes: Stripes,
@@ -210,8 +210,8 @@ fn file_of(alloc: Global, stripes: NumberedBlocks, each: usize) -> io::Result<Bl
     Ok(Blocks::of(blocks))
 }
 
-/// The shares of so many threads, of which this is one; where one cannot be started, the others read what it would. All
-/// rooms are asked for before the first one reads: what fills its memory waits while another asks for some.
+/// The shares of `readers` threads, of which this is one; where one cannot be started, the others read what it would.
+/// All memory is asked for before the first one reads: what fills its memory waits while another asks for some.
 fn read_shares<R: Threads + Wait, F: FileExt + Sync>(
     rt: &R,
     alloc: Global,
@@ -244,8 +244,8 @@ fn read_shares<R: Threads + Wait, F: FileExt + Sync>(
     )
 }
 
-/// Reads a file of about this size by so many threads, a block for each stripe. Each thread draws one stripe after the other,
-/// so that none waits long for another.
+/// Reads a file of about this size by `readers` threads, a block for each stripe. Each thread draws one stripe after
+/// the other, so that none waits long for another.
 pub(crate) fn read_stripes<R: Threads + Wait, F: FileExt + Sync>(
     rt: &R,
     alloc: Global,

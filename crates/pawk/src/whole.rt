@@ -7,7 +7,7 @@ use crate::command_line::{CommandLine, Tools};
 use crate::explanations::{Remains, explain_end};
 use crate::files::read_inputs;
 use crate::listing::append_globals;
-use crate::reports::{End, Stop};
+use crate::reports::{End, RunFailure};
 use crate::script::STANDARD_INPUT;
 use crate::statistics::{ChunkCount, Moment, Moments, Statistics};
 use pawk_code::program::Code;
@@ -48,7 +48,7 @@ pub(crate) fn assignments(
     Ok(pairs)
 }
 
-/// Whether a byte may stand in a name.
+/// Whether a byte may occur in a name.
 fn is_in_name(byte: &u8) -> bool {
     byte.is_ascii_alphanumeric() || *byte == b'_'
 }
@@ -107,7 +107,7 @@ fn readers(line: &CommandLine<'_>, text: &[u8]) -> usize {
     }
 }
 
-/// Writes the parts of what a run wrote in order, and gives the room of each back when it was written.
+/// Writes the parts of what a run wrote in order, and frees each when it was written.
 fn write_parts<O: Write>(output: &mut O, parts: Output) -> io::Result<()> {
     for part in parts.into_parts() {
         output.write_all(part.as_slice())?;
@@ -211,7 +211,7 @@ fn show_run<R: Threads + Wait>(
     ready: Ready<'_>,
     gate: &ChunkCount,
     input: &mut Input,
-) -> Result<Shown, Stop>
+) -> Result<Shown, RunFailure>
     requires sized { IsSized ready.request.cutting.now }
     requires workers { IsCrew ready.request.workers }
 {
@@ -238,7 +238,7 @@ fn open_inputs<R, I>(
     text: &[u8],
     job: Job<'_>,
     input: &mut I,
-) -> Result<Input, Stop>
+) -> Result<Input, RunFailure>
 where
     R: Files + AllocGlobal + Threads + Wait,
     R::File: FileExt + Sync,
@@ -271,7 +271,7 @@ fn run_ready<R, I, O>(
     start: Moment,
     input: &mut I,
     output: &mut O,
-) -> Result<End, Stop>
+) -> Result<End, RunFailure>
 where
     R: Files + AllocGlobal + Threads + Wait + Clock,
     R::File: FileExt + Sync,
@@ -286,7 +286,7 @@ where
     let shown = show_run(rt, rt.alloc(), ready, &gate, &mut inputs)?;
     let ran = Moment::now(rt);
     if write_parts(output, shown.output).is_err() {
-        return Err(Stop::Write);
+        return Err(RunFailure::Write);
     }
     let statistics = Statistics {
         route: shown.route,
@@ -317,7 +317,7 @@ fn run_files<R, I, O>(
     wishes: Wishes,
     input: &mut I,
     output: &mut O,
-) -> Result<End, Stop>
+) -> Result<End, RunFailure>
 where
     R: Files + AllocGlobal + Threads + Wait + Clock,
     R::File: FileExt + Sync,
@@ -344,7 +344,7 @@ fn run_stream<R: Threads + Wait, I: Read, O: Write>(
     request: Request<'_>,
     input: &mut I,
     output: &mut O,
-) -> Result<End, Stop>
+) -> Result<End, RunFailure>
     requires sized { IsSized request.cutting.now }
     requires workers { IsCrew request.workers }
 {
@@ -360,15 +360,15 @@ fn run_stream<R: Threads + Wait, I: Read, O: Write>(
 }
 
 /// Writes the canonical text of a program.
-fn write_program<O: Write>(alloc: Global, text: &[u8], output: &mut O) -> Result<(), Stop> {
+fn write_program<O: Write>(alloc: Global, text: &[u8], output: &mut O) -> Result<(), RunFailure> {
     let program = match parse(alloc, text) {
         Ok(program) => program,
-        Err(SyntaxRefusal::Memory) => return Err(Stop::Memory),
-        Err(refusal) => return Err(Stop::Program(refusal)),
+        Err(SyntaxRefusal::Memory) => return Err(RunFailure::Memory),
+        Err(refusal) => return Err(RunFailure::Program(refusal)),
     };
     let canonical = show(alloc, &program)?;
     if output.write_all(canonical.as_slice()).is_err() {
-        return Err(Stop::Write);
+        return Err(RunFailure::Write);
     }
     Ok(())
 }
@@ -379,7 +379,7 @@ fn check<O: Write>(
     tools: Tools,
     request: Request<'_>,
     output: &mut O,
-) -> Result<End, Stop> {
+) -> Result<End, RunFailure> {
     let _ = prepare(alloc, &request)?;
     if tools.show {
         write_program(alloc, request.text, output)?;
@@ -401,7 +401,7 @@ pub(crate) fn run_whole<R, I, O>(
     explains: bool,
     input: &mut I,
     output: &mut O,
-) -> Result<End, Stop>
+) -> Result<End, RunFailure>
 where
     R: Files + AllocGlobal + Threads + Wait + Clock,
     R::File: FileExt + Sync,

@@ -7,7 +7,7 @@ const VALUED: &[u8] = b"Fvfjcs";
 
 /// What a word may be.
 #[derive(Clone, Copy)]
-enum Role {
+enum WordRole {
     /// An option or an operand.
     Any,
     /// The value of the option before it, or the program's name.
@@ -24,19 +24,19 @@ fn attached_value(word: &[u8]) -> Option<&[u8]> {
     }
 }
 
-impl Role {
+impl WordRole {
     /// What the word after this one may be.
-    fn next(self, word: &[u8]) -> Role {
+    fn next(self, word: &[u8]) -> WordRole {
         match self {
-            Role::Operand => Role::Operand,
-            Role::Value => Role::Any,
-            Role::Any => {
+            WordRole::Operand => WordRole::Operand,
+            WordRole::Value => WordRole::Any,
+            WordRole::Any => {
                 if word == b"--".as_slice() {
-                    Role::Operand
+                    WordRole::Operand
                 } else if attached_value(word).is_some_and(|value| value.is_empty()) {
-                    Role::Value
+                    WordRole::Value
                 } else {
-                    Role::Any
+                    WordRole::Any
                 }
             }
         }
@@ -45,9 +45,9 @@ impl Role {
     /// Whether this word is an option with a value in it that begins with `=`.
     fn has_equals(self, word: &[u8]) -> bool {
         match self {
-            Role::Any => attached_value(word).is_some_and(|value| value.first() == Some(&b'=')),
-            Role::Value => false,
-            Role::Operand => false,
+            WordRole::Any => attached_value(word).is_some_and(|value| value.first() == Some(&b'=')),
+            WordRole::Value => false,
+            WordRole::Operand => false,
         }
     }
 }
@@ -70,7 +70,7 @@ fn double_equals(alloc: Global, word: &str) -> Result<String, AllocError> {
 /// POSIX.1-2017, XBD 12.2, Guideline 6.
 pub(crate) fn unambiguous(alloc: Global, words: &[String]) -> Result<Vec<String>, AllocError> {
     let mut plain = Vec::with_capacity(alloc, words.len())?;
-    let mut role = Role::Value;
+    let mut role = WordRole::Value;
     for word in words {
         let text = word.as_str();
         plain.push(if role.has_equals(text.as_bytes()) {

@@ -1,5 +1,5 @@
--- How the functions that are reach_one are found: what was found is walked from its front, and what stands in a function that
--- is called there is added behind it, once.
+-- How the functions that are reach_one are found: what was found is walked from its front, and what occurs in a
+-- function that is called there is added after it, once.
 use Rattle.std.proofs.Common.{◌≡◌, ◌≢◌, ℕ, zero, suc, ◌+◌, ◌-◌, ◌<◌, ◌≤◌, Bool, true, false, List, [], ◌∷◌, ◌++◌, length, get_or, set, replicate, refl, sym, ap, subst, ◌∙◌, inl, inr, arith, length-append, length-set}
 use Rattle.std.specs.Prelude.{◌↔◌, Contains}
 use Rattle.std.specs.Bool.{MatchBool}
@@ -13,7 +13,7 @@ use Rattle.pawk_admit.specs.declared.occurrence.Occurrence.TheVariants.{Call}
 use Rattle.pawk_admit.specs.Occurrences.{of_rules, of_function, of_function_if_any, of_body}
 use Rattle.pawk_admit.specs.Reaches.{Reached, from_rules, from_function, Occurs}
 
--- the flags tell the functions that were added, and calls before `next` are of such
+-- the flags say the functions that were added, and calls before `next` are of such
 pub record IsUnderway (code : Code) (list : List Occurrence) (flags : List Bool) (next : ℕ) : Type 0 where
   pub lengths : length flags ≡ length code.functions
   pub sound : (o : Occurrence) → Contains list o → Occurs code o
@@ -190,7 +190,7 @@ left-set (f ∷ fs) (false ∷ bs) (suc slot) e h =
 
 -- ---- a step
 
--- what holds behind a step, and what is left is less
+-- what holds after a step, and what is left is less
 abbrev pub IsStep : Code → List Occurrence → List Bool → ℕ → List Occurrence → List Bool → Type 0
 IsStep code list flags next list' flags' =
     IsUnderway code list' flags' (next + 1)

@@ -5,8 +5,8 @@ use Rattle.std.proofs.lemmas.Bool.{eqb-true, or_cases, or_parts}
 use Rattle.pawk_code.specs.FirstSlots.{fs_slot, ofs_slot, ors_slot, subsep_slot}
 use Rattle.pawk_admit.specs.declared.occurrence.Touch.{Touch}
 use Rattle.pawk_admit.specs.declared.occurrence.Touch.TheVariants.{Look, Set, Assign, Add, AddAndLook, Test, Walk, Split, Pass, Delete}
-use Rattle.pawk_admit.specs.declared.occurrence.Name.{Name}
-use Rattle.pawk_admit.specs.declared.occurrence.Name.TheVariants.{Scalar, Array}
+use Rattle.pawk_admit.specs.declared.occurrence.GlobalName.{GlobalName}
+use Rattle.pawk_admit.specs.declared.occurrence.GlobalName.TheVariants.{Scalar, Array}
 use Rattle.pawk_admit.specs.declared.occurrence.Occurrence.{Occurrence}
 use Rattle.pawk_admit.specs.declared.occurrence.Occurrence.TheVariants as occurrence
 use Rattle.pawk_admit.specs.declared.reason.Reason.{Reason}
@@ -30,11 +30,11 @@ and_false false y h e = absurd (apart (sym e))
 
 -- ---- names that separate
 
-abbrev pub separating : Name → Bool
+abbrev pub separating : GlobalName → Bool
 separating (Scalar n) = separates n
 separating (Array n) = false
 
-pub separator_from : (name : Name) → separating name ≡ true → IsSeparator name
+pub separator_from : (name : GlobalName) → separating name ≡ true → IsSeparator name
 separator_from (Array n) h = absurd (apart (sym h))
 separator_from (Scalar n) h = elim (or_cases _ (nat_eq n subsep_slot) h) [
   | inr d ↦ inr (inr (inr (eqb-true n subsep_slot d)))
@@ -47,7 +47,7 @@ separator_from (Scalar n) h = elim (or_cases _ (nat_eq n subsep_slot) h) [
   ]
 ]
 
-pub separator_to : (name : Name) → IsSeparator name → separating name ≡ true
+pub separator_to : (name : GlobalName) → IsSeparator name → separating name ≡ true
 separator_to (Array n) h = absurd h
 separator_to (Scalar n) (inl a) = ap separates a
 separator_to (Scalar n) (inr (inl b)) = ap separates b
@@ -136,19 +136,19 @@ addition_of Delete h = absurd (apart (sym h))
 
 -- ---- what the marks of one name show
 
-touch_of_class : (list : List Occurrence) (name : Name) (c : Class) → has c (marks_among list name) ≡ true →
+touch_of_class : (list : List Occurrence) (name : GlobalName) (c : Class) → has c (marks_among list name) ≡ true →
     (k : Class → Bool) → (t : Touch) × (k (class_of t) ≡ k c) × Touches (Contains list) t name
 touch_of_class list name c h k = let f = touch_of_mark list name c h in (f.0, ap k f.1, f.2)
 
 -- another kind beside assignments
-beside_set : (list : List Occurrence) (name : Name) (c : Class) → is_set c ≡ false → has c (marks_among list name) ≡ true →
+beside_set : (list : List Occurrence) (name : GlobalName) (c : Class) → is_set c ≡ false → has c (marks_among list name) ≡ true →
     ¬ IsSetter (Contains list) name
 beside_set list name c never h s =
     let f = touch_of_class list name c h is_set in
     let only : f.0 ≡ Set = s.0.1 f.0 f.2 in
     apart (ap (λ t. is_set (class_of t)) (sym only) ∙ f.1 ∙ never)
 
-pub assigned_from : (list : List Occurrence) (name : Name) →
+pub assigned_from : (list : List Occurrence) (name : GlobalName) →
     clashes reason.Assignment (marks_among list name) (separating name) ≡ true → IsAssigned (Contains list) name
 assigned_from list name h =
     let m = marks_among list name in
@@ -167,13 +167,13 @@ assigned_from list name h =
     ] in
     inr (inr (sets, never))
 
-beside_add : (list : List Occurrence) (name : Name) (c : Class) → is_add c ≡ false → has c (marks_among list name) ≡ true →
+beside_add : (list : List Occurrence) (name : GlobalName) (c : Class) → is_add c ≡ false → has c (marks_among list name) ≡ true →
     (t : Touch) × Touches (Contains list) t name × ¬ IsAddition t
 beside_add list name c never h =
     let f = touch_of_class list name c h is_add in
     (f.0, f.2, no_addition f.0 (f.1 ∙ never))
 
-pub added_from : (list : List Occurrence) (name : Name) →
+pub added_from : (list : List Occurrence) (name : GlobalName) →
     clashes reason.Addition (marks_among list name) (separating name) ≡ true → IsAddedBeside (Contains list) name
 added_from list name h =
     let m = marks_among list name in
@@ -197,12 +197,12 @@ added_from list name h =
     )
 
 -- the mark that would be there is not
-no_touch_of_class : (list : List Occurrence) (name : Name) (t : Touch) (c : Class) → class_of t ≡ c → has c (marks_among list name) ≡ false →
+no_touch_of_class : (list : List Occurrence) (name : GlobalName) (t : Touch) (c : Class) → class_of t ≡ c → has c (marks_among list name) ≡ false →
     Touches (Contains list) t name → ⊥
 no_touch_of_class list name t c e never h = apart (sym (subst (λ k. has k (marks_among list name) ≡ true) e (mark_of_touch list name t h)) ∙ never)
 
 -- where a name has marks of one kind alone, what is done with it is of that kind
-set_alone : (list : List Occurrence) (name : Name) → has add (marks_among list name) ≡ false → has look (marks_among list name) ≡ false →
+set_alone : (list : List Occurrence) (name : GlobalName) → has add (marks_among list name) ≡ false → has look (marks_among list name) ≡ false →
     has other (marks_among list name) ≡ false → (t : Touch) → Touches (Contains list) t name → t ≡ Set
 set_alone list name a l o Look h = absurd (no_touch_of_class list name Look look refl l h)
 set_alone list name a l o Set h = refl
@@ -215,7 +215,7 @@ set_alone list name a l o Split h = absurd (no_touch_of_class list name Split ot
 set_alone list name a l o Pass h = absurd (no_touch_of_class list name Pass other refl o h)
 set_alone list name a l o Delete h = absurd (no_touch_of_class list name Delete other refl o h)
 
-pub look_alone : (list : List Occurrence) (name : Name) → has set (marks_among list name) ≡ false → has add (marks_among list name) ≡ false →
+pub look_alone : (list : List Occurrence) (name : GlobalName) → has set (marks_among list name) ≡ false → has add (marks_among list name) ≡ false →
     has other (marks_among list name) ≡ false → (t : Touch) → Touches (Contains list) t name → t ≡ Look
 look_alone list name s a o Look h = refl
 look_alone list name s a o Set h = absurd (no_touch_of_class list name Set set refl s h)
@@ -228,7 +228,7 @@ look_alone list name s a o Split h = absurd (no_touch_of_class list name Split o
 look_alone list name s a o Pass h = absurd (no_touch_of_class list name Pass other refl o h)
 look_alone list name s a o Delete h = absurd (no_touch_of_class list name Delete other refl o h)
 
-add_alone : (list : List Occurrence) (name : Name) → has set (marks_among list name) ≡ false → has look (marks_among list name) ≡ false →
+add_alone : (list : List Occurrence) (name : GlobalName) → has set (marks_among list name) ≡ false → has look (marks_among list name) ≡ false →
     has other (marks_among list name) ≡ false → (t : Touch) → Touches (Contains list) t name → IsAddition t
 add_alone list name s l o Look h = absurd (no_touch_of_class list name Look look refl l h)
 add_alone list name s l o Set h = absurd (no_touch_of_class list name Set set refl s h)
@@ -242,7 +242,7 @@ add_alone list name s l o Pass h = absurd (no_touch_of_class list name Pass othe
 add_alone list name s l o Delete h = absurd (no_touch_of_class list name Delete other refl o h)
 
 -- a name that is set, with no other mark, is a setter
-pub setter_from : (list : List Occurrence) (name : Name) → has set (marks_among list name) ≡ true →
+pub setter_from : (list : List Occurrence) (name : GlobalName) → has set (marks_among list name) ≡ true →
     clashes reason.Assignment (marks_among list name) (separating name) ≡ false → IsSetter (Contains list) name
 setter_from list name sets never =
     let m = marks_among list name in
@@ -255,12 +255,12 @@ setter_from list name sets never =
       λ s. apart (sym (separator_to name s) ∙ a.1),
     )
 
-pub assigned_no : (list : List Occurrence) (name : Name) → Touches (Contains list) Set name → ¬ IsSetter (Contains list) name →
+pub assigned_no : (list : List Occurrence) (name : GlobalName) → Touches (Contains list) Set name → ¬ IsSetter (Contains list) name →
     clashes reason.Assignment (marks_among list name) (separating name) ≡ false → ⊥
 assigned_no list name h never e = never (setter_from list name (mark_of_touch list name Set h) e)
 
 -- a name that is added to, with no other mark
-pub additions_from : (list : List Occurrence) (name : Name) → has add (marks_among list name) ≡ true →
+pub additions_from : (list : List Occurrence) (name : GlobalName) → has add (marks_among list name) ≡ true →
     clashes reason.Addition (marks_among list name) (separating name) ≡ false →
     ((t : Touch) → Touches (Contains list) t name → IsAddition t) × ¬ IsSeparator name
 additions_from list name adds never =
@@ -271,7 +271,7 @@ additions_from list name adds never =
     let c = or_parts m.sets m.looks b.0 in
     (add_alone list name c.0 c.1 b.1, λ s. apart (sym (separator_to name s) ∙ a.1))
 
-pub added_no : (list : List Occurrence) (name : Name) → IsAddedBeside (Contains list) name →
+pub added_no : (list : List Occurrence) (name : GlobalName) → IsAddedBeside (Contains list) name →
     clashes reason.Addition (marks_among list name) (separating name) ≡ false → ⊥
 added_no list name h e =
     let adds : has add (marks_among list name) ≡ true = elim h.0 [
@@ -286,7 +286,7 @@ added_no list name h e =
 
 -- ---- reasons
 
-pub clash_means : (list : List Occurrence) (r : Reason) (name : Name) → clashes r (marks_among list name) (separating name) ≡ true →
+pub clash_means : (list : List Occurrence) (r : Reason) (name : GlobalName) → clashes r (marks_among list name) (separating name) ≡ true →
     Holds (Contains list) r
 clash_means list reason.Assignment name h = (name, assigned_from list name h)
 clash_means list reason.Addition name h = (name, added_from list name h)
@@ -322,7 +322,7 @@ shown_means list r occurrence.NextFile h e = subst (Holds (Contains list)) (same
 
 -- no occurrence alone shows it, nor do the marks of any name
 pub none_means : (list : List Occurrence) (r : Reason) → ((o : Occurrence) → Contains list o → reason_of o ≡ Some r → ⊥) →
-    ((name : Name) → clashes r (marks_among list name) (separating name) ≡ false) → ¬ Holds (Contains list) r
+    ((name : GlobalName) → clashes r (marks_among list name) (separating name) ≡ false) → ¬ Holds (Contains list) r
 none_means list reason.Assignment never clash h = elim h.1 [
   | inl a ↦ never (occurrence.Touch Assign h.0) a refl
   | inr rest ↦ elim rest [
@@ -354,7 +354,7 @@ array_means list tables are r n h =
 no_clash : (list : List Occurrence) (tables : Tables) → AreTables list tables → (r : Reason) →
     ((n : ℕ) → clashes r (marks_at tables.scalars.items n) (separates n) ≡ false) →
     ((n : ℕ) → clashes r (marks_at tables.arrays.items n) false ≡ false) →
-    (name : Name) → clashes r (marks_among list name) (separating name) ≡ false
+    (name : GlobalName) → clashes r (marks_among list name) (separating name) ≡ false
 no_clash list tables are r s a (Scalar n) = subst (λ m. clashes r m (separates n) ≡ false) (are (Scalar n)) (s n)
 no_clash list tables are r s a (Array n) = subst (λ m. clashes r m false ≡ false) (are (Array n)) (a n)
 

@@ -3,8 +3,8 @@ use Rattle.std.proofs.Common.{◌≡◌, ℕ, zero, suc, Bool, true, false, List
 use Rattle.std.specs.Prelude.{Contains, ◌&&◌, ◌↔◌, not, if◌then◌else◌}
 use Rattle.pawk_admit.specs.declared.occurrence.Touch.{Touch}
 use Rattle.pawk_admit.specs.declared.occurrence.Touch.TheVariants.{Look, Set, Assign, Add, AddAndLook, Test, Walk, Split, Pass, Delete}
-use Rattle.pawk_admit.specs.declared.occurrence.Name.{Name}
-use Rattle.pawk_admit.specs.declared.occurrence.Name.TheVariants.{Scalar, Array}
+use Rattle.pawk_admit.specs.declared.occurrence.GlobalName.{GlobalName}
+use Rattle.pawk_admit.specs.declared.occurrence.GlobalName.TheVariants.{Scalar, Array}
 use Rattle.pawk_admit.specs.declared.occurrence.Occurrence.{Occurrence}
 use Rattle.pawk_admit.specs.declared.reason.Reason.{Reason}
 use Rattle.pawk_admit.specs.declared.reason.Reason.TheVariants as reason
@@ -24,19 +24,19 @@ apart h = cc
 -- ---- texts with the same occurrences
 
 only_along : (P Q : Occurrence → Type 0) → ((o : Occurrence) → P o → Q o) → ((o : Occurrence) → Q o → P o) →
-    (t : Touch) (name : Name) → OnlyTouches P t name → OnlyTouches Q t name
+    (t : Touch) (name : GlobalName) → OnlyTouches P t name → OnlyTouches Q t name
 only_along P Q to from t name h = (to _ h.0, λ u q. h.1 u (from _ q))
 
 setter_along : (P Q : Occurrence → Type 0) → ((o : Occurrence) → P o → Q o) → ((o : Occurrence) → Q o → P o) →
-    (name : Name) → IsSetter P name → IsSetter Q name
+    (name : GlobalName) → IsSetter P name → IsSetter Q name
 setter_along P Q to from name h = (only_along P Q to from Set name h.0, h.1)
 
 reader_along : (P Q : Occurrence → Type 0) → ((o : Occurrence) → P o → Q o) → ((o : Occurrence) → Q o → P o) →
-    (name : Name) → IsReader P name → IsReader Q name
+    (name : GlobalName) → IsReader P name → IsReader Q name
 reader_along P Q to from name h = (h.0, only_along P Q to from Look name h.1)
 
 role_along : (P Q : Occurrence → Type 0) → ((o : Occurrence) → P o → Q o) → ((o : Occurrence) → Q o → P o) →
-    (role : Role) (name : Name) → IsRole P role name → IsRole Q role name
+    (role : Role) (name : GlobalName) → IsRole P role name → IsRole Q role name
 role_along P Q to from Fixed name h =
     (λ a. h.0 (only_along Q P from to Add name a), λ s. h.1 (setter_along Q P from to name s), λ r. h.2 (reader_along Q P from to name r))
 role_along P Q to from Adder name h = only_along P Q to from Add name h
@@ -44,17 +44,17 @@ role_along P Q to from Setter name h = setter_along P Q to from name h
 role_along P Q to from Reader name h = reader_along P Q to from name h
 
 assigned_along : (P Q : Occurrence → Type 0) → ((o : Occurrence) → P o → Q o) → ((o : Occurrence) → Q o → P o) →
-    (name : Name) → IsAssigned P name → IsAssigned Q name
+    (name : GlobalName) → IsAssigned P name → IsAssigned Q name
 assigned_along P Q to from name (inl a) = inl (to _ a)
 assigned_along P Q to from name (inr (inl d)) = inr (inl (to _ d))
 assigned_along P Q to from name (inr (inr s)) = inr (inr (to _ s.0, λ h. s.1 (setter_along Q P from to name h)))
 
-target_along : (P Q : Occurrence → Type 0) → ((o : Occurrence) → P o → Q o) → (name : Name) →
+target_along : (P Q : Occurrence → Type 0) → ((o : Occurrence) → P o → Q o) → (name : GlobalName) →
     Touches P Add name ⊎ Touches P AddAndLook name → Touches Q Add name ⊎ Touches Q AddAndLook name
 target_along P Q to name (inl a) = inl (to _ a)
 target_along P Q to name (inr b) = inr (to _ b)
 
-beside_along : (P Q : Occurrence → Type 0) → ((o : Occurrence) → P o → Q o) → (name : Name) →
+beside_along : (P Q : Occurrence → Type 0) → ((o : Occurrence) → P o → Q o) → (name : GlobalName) →
     IsSeparator name ⊎ ((t : Touch) × Touches P t name × ¬ IsAddition t) → IsSeparator name ⊎ ((t : Touch) × Touches Q t name × ¬ IsAddition t)
 beside_along P Q to name (inl s) = inl s
 beside_along P Q to name (inr h) = inr (h.0, to _ h.1, h.2)
@@ -100,15 +100,15 @@ no_clash_if : (b : Bool) → (b ≡ true → ⊥) → b ≡ false
 no_clash_if true h = absurd (h refl)
 no_clash_if false h = refl
 
-no_clash : (list : List Occurrence) → ((r : Reason) → ¬ Holds (Contains list) r) → (r : Reason) (name : Name) →
+no_clash : (list : List Occurrence) → ((r : Reason) → ¬ Holds (Contains list) r) → (r : Reason) (name : GlobalName) →
     clashes r (marks_among list name) (separating name) ≡ false
 no_clash list none r name = no_clash_if _ (λ h. none r (clash_means list r name h))
 
-setter_by : (list : List Occurrence) → ((r : Reason) → ¬ Holds (Contains list) r) → (name : Name) →
+setter_by : (list : List Occurrence) → ((r : Reason) → ¬ Holds (Contains list) r) → (name : GlobalName) →
     has set (marks_among list name) ≡ true → IsSetter (Contains list) name
 setter_by list none name h = setter_from list name h (no_clash list none reason.Assignment name)
 
-add_not_value : (list : List Occurrence) → ((r : Reason) → ¬ Holds (Contains list) r) → (name : Name) (t : Touch) →
+add_not_value : (list : List Occurrence) → ((r : Reason) → ¬ Holds (Contains list) r) → (name : GlobalName) (t : Touch) →
     Touches (Contains list) t name → (t ≡ Add) ⊎ (t ≡ AddAndLook) → t ≡ Add
 add_not_value list none name t h (inl e) = e
 add_not_value list none name t h (inr e) = absurd (none reason.Value (name, subst (λ u. Touches (Contains list) u name) e h))
@@ -125,7 +125,7 @@ either Split h = absurd h
 either Pass h = absurd h
 either Delete h = absurd h
 
-adder_by : (list : List Occurrence) → ((r : Reason) → ¬ Holds (Contains list) r) → (name : Name) →
+adder_by : (list : List Occurrence) → ((r : Reason) → ¬ Holds (Contains list) r) → (name : GlobalName) →
     has add (marks_among list name) ≡ true → IsAdder (Contains list) name
 adder_by list none name h =
     let f = touch_of_mark list name add h in
@@ -133,7 +133,7 @@ adder_by list none name h =
     let first : f.0 ≡ Add = add_not_value list none name f.0 f.2 (only_add f.0 f.1) in
     (subst (λ t. Touches (Contains list) t name) first f.2, λ t u. add_not_value list none name t u (either t (all.0 t u)))
 
-not_only : (list : List Occurrence) (name : Name) (t : Touch) → has (class_of t) (marks_among list name) ≡ false →
+not_only : (list : List Occurrence) (name : GlobalName) (t : Touch) → has (class_of t) (marks_among list name) ≡ false →
     ¬ OnlyTouches (Contains list) t name
 not_only list name t h only = apart (sym (mark_of_touch list name t only.0) ∙ h)
 
@@ -151,7 +151,7 @@ is_other add = false
 is_other look = false
 is_other other = true
 
-reader_not : (list : List Occurrence) (name : Name) → has other (marks_among list name) ≡ true → ¬ IsReader (Contains list) name
+reader_not : (list : List Occurrence) (name : GlobalName) → has other (marks_among list name) ≡ true → ¬ IsReader (Contains list) name
 unfolding is_other
 reader_not list name h r =
     let f = touch_of_mark list name other h in

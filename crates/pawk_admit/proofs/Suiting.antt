@@ -3,8 +3,8 @@ use Rattle.std.proofs.Common.{◌≡◌, ℕ, refl, inl, inr}
 use Rattle.pawk_code.specs.Programs.{Code}
 use Rattle.pawk_admit.specs.declared.occurrence.Touch.{Touch}
 use Rattle.pawk_admit.specs.declared.occurrence.Touch.TheVariants.{Look, Set, Assign, Add, AddAndLook, Test, Walk, Split, Pass, Delete}
-use Rattle.pawk_admit.specs.declared.occurrence.Name.{Name}
-use Rattle.pawk_admit.specs.declared.occurrence.Name.TheVariants.{Scalar, Array}
+use Rattle.pawk_admit.specs.declared.occurrence.GlobalName.{GlobalName}
+use Rattle.pawk_admit.specs.declared.occurrence.GlobalName.TheVariants.{Scalar, Array}
 use Rattle.pawk_admit.specs.declared.occurrence.Occurrence.{Occurrence}
 use Rattle.pawk_admit.specs.declared.reason.Reason.{Reason}
 use Rattle.pawk_admit.specs.declared.reason.Reason.TheVariants as reason
@@ -15,7 +15,7 @@ use Rattle.pawk_admit.specs.Reaches.{Reached, from_rules, from_function, Occurs}
 use Rattle.pawk_admit.specs.Admission.{IsSeparator, IsArray, Touches, IsRole, Holds, role_of, Suits, KeepToRoles, SeparatorsAreFixed}
 
 -- something is added to a name, and this is done with it
-adds_alone : (P : Occurrence → Type 0) → ((r : Reason) → ¬ Holds P r) → (name : Name) → Touches P Add name →
+adds_alone : (P : Occurrence → Type 0) → ((r : Reason) → ¬ Holds P r) → (name : GlobalName) → Touches P Add name →
     (t : Touch) → Touches P t name → t ≡ Add
 adds_alone P none name h Look q = absurd (none reason.Addition (name, (inl h, inr (Look, q, λ i. i))))
 adds_alone P none name h Set q = absurd (none reason.Addition (name, (inl h, inr (Set, q, λ i. i))))
@@ -29,7 +29,7 @@ adds_alone P none name h Pass q = absurd (none reason.Addition (name, (inl h, in
 adds_alone P none name h Delete q = absurd (none reason.Addition (name, (inl h, inr (Delete, q, λ i. i))))
 
 -- what is done with a name that no role but the first has
-fixed_suits : (P : Occurrence → Type 0) → ((r : Reason) → ¬ Holds P r) → (name : Name) → IsRole P Fixed name →
+fixed_suits : (P : Occurrence → Type 0) → ((r : Reason) → ¬ Holds P r) → (name : GlobalName) → IsRole P Fixed name →
     (t : Touch) → Touches P t name → Suits Fixed t
 fixed_suits P none name is Look h = inl refl
 fixed_suits P none name is Test h = inr (inl refl)
@@ -42,7 +42,7 @@ fixed_suits P none name is AddAndLook h = absurd (none reason.Value (name, h))
 fixed_suits P none name is Split h = absurd (none reason.Split (name, h))
 fixed_suits P none name is Pass h = absurd (none reason.Passing (name, h))
 
-suits : (P : Occurrence → Type 0) → ((r : Reason) → ¬ Holds P r) → (role : Role) (name : Name) → IsRole P role name →
+suits : (P : Occurrence → Type 0) → ((r : Reason) → ¬ Holds P r) → (role : Role) (name : GlobalName) → IsRole P role name →
     (t : Touch) → Touches P t name → Suits role t
 suits P none Fixed name is t h = fixed_suits P none name is t h
 suits P none Adder name is t h = is.1 t h
@@ -52,11 +52,11 @@ suits P none Reader name is t h = is.1.1 t h
 pub keep_to_roles : KeepToRoles
 keep_to_roles code roles none are t name h = suits (Occurs code) none (role_of roles name) name (are name) t h
 
-array_apart : (name : Name) → IsSeparator name → IsArray name → ⊥
+array_apart : (name : GlobalName) → IsSeparator name → IsArray name → ⊥
 array_apart (Scalar n) s a = a
 array_apart (Array n) s a = s
 
-fixed_only : (P : Occurrence → Type 0) → ((r : Reason) → ¬ Holds P r) → (role : Role) (name : Name) → IsRole P role name →
+fixed_only : (P : Occurrence → Type 0) → ((r : Reason) → ¬ Holds P r) → (role : Role) (name : GlobalName) → IsRole P role name →
     IsSeparator name → role ≡ Fixed
 fixed_only P none Fixed name is s = refl
 fixed_only P none Adder name is s = absurd (none reason.Addition (name, (inl is.0, inl s)))

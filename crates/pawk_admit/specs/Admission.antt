@@ -5,8 +5,8 @@ use Rattle.pawk_code.specs.FirstSlots.{fs_slot, ofs_slot, ors_slot, subsep_slot}
 use Rattle.pawk_code.specs.Programs.{Code}
 use Rattle.pawk_admit.specs.declared.occurrence.Touch.{Touch}
 use Rattle.pawk_admit.specs.declared.occurrence.Touch.TheVariants.{Look, Set, Assign, Add, AddAndLook, Test, Walk, Split, Pass, Delete}
-use Rattle.pawk_admit.specs.declared.occurrence.Name.{Name}
-use Rattle.pawk_admit.specs.declared.occurrence.Name.TheVariants.{Scalar, Array}
+use Rattle.pawk_admit.specs.declared.occurrence.GlobalName.{GlobalName}
+use Rattle.pawk_admit.specs.declared.occurrence.GlobalName.TheVariants.{Scalar, Array}
 use Rattle.pawk_admit.specs.declared.occurrence.Occurrence.{Occurrence}
 use Rattle.pawk_admit.specs.declared.occurrence.Occurrence.TheVariants as occurrence
 use Rattle.pawk_admit.specs.declared.reason.Reason.{Reason}
@@ -28,11 +28,11 @@ number reason.Memory = 8
 number reason.NextFile = 9
 
 -- FS, OFS, ORS, SUBSEP: the run itself looks at them while it reads, prints and subscripts
-abbrev pub IsSeparator : Name → Type 0
+abbrev pub IsSeparator : GlobalName → Type 0
 IsSeparator (Scalar n) = (n ≡ fs_slot) ⊎ (n ≡ ofs_slot) ⊎ (n ≡ ors_slot) ⊎ (n ≡ subsep_slot)
 IsSeparator (Array n) = ⊥
 
-abbrev pub IsArray : Name → Type 0
+abbrev pub IsArray : GlobalName → Type 0
 IsArray (Scalar n) = ⊥
 IsArray (Array n) = Unit {0}
 
@@ -48,7 +48,7 @@ IsAddition Split = ⊥
 IsAddition Pass = ⊥
 IsAddition Delete = ⊥
 
-abbrev pub role_of : Roles → Name → Role
+abbrev pub role_of : Roles → GlobalName → Role
 role_of roles (Scalar n) = role_of_scalar roles n
 role_of roles (Array n) = role_of_array roles n
 
@@ -59,60 +59,60 @@ Suits Adder touch = touch ≡ Add
 Suits Setter touch = touch ≡ Set
 Suits Reader touch = touch ≡ Look
 
--- what stands in the text that the records come to
+-- what occurs in the text that the records come to
 module _ (Stands : Occurrence → Type 0) where
   -- this is done with the name
-  abbrev pub Touches : Touch → Name → Type 0
+  abbrev pub Touches : Touch → GlobalName → Type 0
   Touches touch name = Stands (occurrence.Touch touch name)
 
   -- this and nothing else is done with the name
-  abbrev pub OnlyTouches : Touch → Name → Type 0
+  abbrev pub OnlyTouches : Touch → GlobalName → Type 0
   OnlyTouches touch name = Touches touch name × ((other : Touch) → Touches other name → other ≡ touch)
 
   -- only assigned, by `=` whose value is dropped
-  abbrev pub IsSetter : Name → Type 0
+  abbrev pub IsSetter : GlobalName → Type 0
   IsSetter name = OnlyTouches Set name × ¬ IsSeparator name
 
   -- only added to, and the value is dropped
-  abbrev pub IsAdder : Name → Type 0
+  abbrev pub IsAdder : GlobalName → Type 0
   IsAdder name = OnlyTouches Add name
 
   -- an array that is only subscripted for its values
-  abbrev pub IsReader : Name → Type 0
+  abbrev pub IsReader : GlobalName → Type 0
   IsReader name = IsArray name × OnlyTouches Look name
 
-  abbrev pub IsRole : Role → Name → Type 0
+  abbrev pub IsRole : Role → GlobalName → Type 0
   IsRole Fixed name = ¬ IsAdder name × ¬ IsSetter name × ¬ IsReader name
   IsRole Adder name = IsAdder name
   IsRole Setter name = IsSetter name
   IsRole Reader name = IsReader name
 
   -- assigned, and no setter
-  abbrev pub IsAssigned : Name → Type 0
+  abbrev pub IsAssigned : GlobalName → Type 0
   IsAssigned name = Touches Assign name ⊎ Touches Delete name ⊎ (Touches Set name × ¬ IsSetter name)
 
   -- added to, and something else, too
-  abbrev pub IsAddedBeside : Name → Type 0
+  abbrev pub IsAddedBeside : GlobalName → Type 0
   IsAddedBeside name =
       (Touches Add name ⊎ Touches AddAndLook name)
       × (IsSeparator name ⊎ ((other : Touch) × Touches other name × ¬ IsAddition other))
 
-  -- the reason holds; want of memory is none of the text
+  -- the reason holds; a refused allocation is no reason of the text
   abbrev pub Holds : Reason → Type 0
-  Holds reason.Assignment = (name : Name) × IsAssigned name
-  Holds reason.Addition = (name : Name) × IsAddedBeside name
+  Holds reason.Assignment = (name : GlobalName) × IsAssigned name
+  Holds reason.Addition = (name : GlobalName) × IsAddedBeside name
   Holds reason.Range = Stands occurrence.Range
   Holds reason.Match = Stands occurrence.Match
-  Holds reason.Split = (name : Name) × Touches Split name
-  Holds reason.Passing = (name : Name) × Touches Pass name
-  Holds reason.Value = (name : Name) × Touches AddAndLook name
+  Holds reason.Split = (name : GlobalName) × Touches Split name
+  Holds reason.Passing = (name : GlobalName) × Touches Pass name
+  Holds reason.Value = (name : GlobalName) × Touches AddAndLook name
   Holds reason.Memory = ⊥
   Holds reason.NextFile = Stands occurrence.NextFile
 
   abbrev pub IsFirst : Reason → Type 0
   IsFirst r = Holds r × ((other : Reason) → number other < number r → ¬ Holds other)
 
-  -- a reason that is answered: the first that holds, or want of memory
+  -- a reason that is answered: the first that holds, or out of memory
   abbrev pub IsAnswer : Reason → Type 0
   IsAnswer reason.Memory = Unit {0}
   IsAnswer reason.Assignment = IsFirst reason.Assignment
@@ -126,7 +126,7 @@ module _ (Stands : Occurrence → Type 0) where
 
   -- the roles that are answered are those of the names
   abbrev pub AreRoles : Roles → Type 0
-  AreRoles roles = (name : Name) → IsRole (role_of roles name) name
+  AreRoles roles = (name : GlobalName) → IsRole (role_of roles name) name
 
 -- the program may run in chunks
 abbrev pub IsAdmissible : Code → Type 0
@@ -136,10 +136,10 @@ IsAdmissible code = (r : Reason) → ¬ Holds (Occurs code) r
 abbrev pub KeepToRoles : Type 0
 KeepToRoles =
     (code : Code) (roles : Roles) → IsAdmissible code → AreRoles (Occurs code) roles →
-    (touch : Touch) (name : Name) → Occurs code (occurrence.Touch touch name) → Suits (role_of roles name) touch
+    (touch : Touch) (name : GlobalName) → Occurs code (occurrence.Touch touch name) → Suits (role_of roles name) touch
 
 -- and a name that separates is never changed
 abbrev pub SeparatorsAreFixed : Type 0
 SeparatorsAreFixed =
     (code : Code) (roles : Roles) → IsAdmissible code → AreRoles (Occurs code) roles →
-    (name : Name) → IsSeparator name → role_of roles name ≡ Fixed
+    (name : GlobalName) → IsSeparator name → role_of roles name ≡ Fixed

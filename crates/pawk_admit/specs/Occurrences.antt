@@ -1,5 +1,5 @@
--- What stands in the text of a program that decides whether its records may run in chunks: what is done with global names,
--- calls of functions and of `match`, ranges of records, `nextfile`. Parameters and fields are free.
+-- What occurs in the text of a program that decides whether its records may run in chunks: what is done with global
+-- names, calls of functions and of `match`, ranges of records, `nextfile`. Parameters and fields are free.
 use Rattle.std.specs.Prelude.{ℕ, List, [], ◌∷◌, ◌++◌, Option, Some, None, slice_get}
 use Rattle.pawk_scalar.specs.declared.arithmetic.Op.{Op}
 use Rattle.pawk_scalar.specs.declared.arithmetic.Op.TheVariants as op
@@ -20,7 +20,7 @@ use Rattle.pawk_code.specs.Statements.{Stmts, done, next}
 use Rattle.pawk_code.specs.Programs.{Selector, always, matching, between, Rule, Function}
 use Rattle.pawk_admit.specs.declared.occurrence.Touch.{Touch}
 use Rattle.pawk_admit.specs.declared.occurrence.Touch.TheVariants as touch
-use Rattle.pawk_admit.specs.declared.occurrence.Name.TheVariants as name
+use Rattle.pawk_admit.specs.declared.occurrence.GlobalName.TheVariants as name
 use Rattle.pawk_admit.specs.declared.occurrence.Occurrence.{Occurrence}
 use Rattle.pawk_admit.specs.declared.occurrence.Occurrence.TheVariants as occurrence
 

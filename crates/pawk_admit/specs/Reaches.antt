@@ -10,7 +10,7 @@ pub data Reached (code : Code) : ℕ → Type 0 where
   from_rules : (f : ℕ) → Contains (of_rules code.rules) (Call f) → Reached code f
   from_function : (f g : ℕ) → Reached code f → Contains (of_function code.functions f) (Call g) → Reached code g
 
--- something stands in a rule or in a function that is reached
+-- something occurs in a rule or in a function that is reached
 abbrev pub Occurs : Code → Occurrence → Type 0
 Occurs code o =
     Contains (of_rules code.rules) o

@@ -1,7 +1,7 @@
-//! Whether a reason holds, from what stands in a text and from its tables.
+//! Whether a reason holds, from what occurs in a text and from its tables.
 
 ghost use Rattle.std.specs.Prelude.{◌≡◌, ℕ, false, true, IsTrue, IfSome, IfNone, Some, Contains};
-ghost use Rattle.pawk_admit.specs.declared.occurrence.Name.{Name as NameOfText};
+ghost use Rattle.pawk_admit.specs.declared.occurrence.GlobalName.{GlobalName as NameOfText};
 ghost use Rattle.pawk_admit.specs.declared.occurrence.Occurrence.{Occurrence as OccurrenceOfText};
 ghost use Rattle.pawk_admit.specs.declared.reason.Reason.{Reason as ReasonOfText};
 ghost use Rattle.pawk_admit.specs.Marks.{marks_at, AreTables};
@@ -11,8 +11,9 @@ ghost use Rattle.pawk_admit.specs.Decisions as spec;
 use crate::marks::{Marks, Tables};
 use crate::occurrence::{Occurrence, Touch};
 use crate::reason::Reason;
+use pawk_code::slots::{FS, OFS, ORS, SUBSEP};
 
-/// The reason that an occurrence alone shows, whatever else stands in the text.
+/// The reason that an occurrence alone shows, whatever else occurs in the text.
 fn reason_of(occurrence: Occurrence) -> Option<Reason>
     ensures { result ≡ spec.reason_of occurrence }
 {
@@ -49,7 +50,7 @@ fn is_shown(list: &[Occurrence], reason: Reason) -> bool
 fn separates(slot: usize) -> bool
     ensures { result ≡ spec.separates slot }
 {
-    slot == 0 || slot == 1 || slot == 2 || slot == 4
+    slot == FS || slot == OFS || slot == ORS || slot == SUBSEP
 }
 
 /// Whether what is done with a name shows the reason; the name may be one that separates.

@@ -1,13 +1,13 @@
-//! What stands in expressions.
+//! What occurs in expressions.
 
 ghost use Rattle.std.specs.Prelude.{◌≡◌, ◌++◌, OnOk};
 ghost use Rattle.pawk_code.specs.Expressions.{exprs, arguments as passed};
 ghost use Rattle.pawk_code.specs.ExpressionViews as code;
 ghost use Rattle.pawk_admit.specs.Occurrences as spec;
 
-use crate::occurrence::{Name, Occurrence, Touch};
+use crate::occurrence::{GlobalName, Occurrence, Touch};
 use pawk_code::expression::{
-    Argument, Expr, FieldsBy, Format, Numeric, NumericFunction, Pattern, Place, Test, Textual,
+    Argument, Expr, FieldsBy, Format, Lvalue, Numeric, NumericFunction, Pattern, Test, Textual,
 };
 use pawk_code::leaf::Leaf;
 use pawk_code::name::{Array, Variable};
@@ -18,7 +18,7 @@ use std::alloc::AllocError;
 pub fn scalar(list: &mut Vec<Occurrence>, touch: Touch, slot: usize) -> Result<(), AllocError>
     ensures { OnOk result (list.new.items ≡ list.old.items ++ spec.of_scalar touch slot) }
 {
-    list.push(Occurrence::Touch(touch, Name::Scalar(slot)))?;
+    list.push(Occurrence::Touch(touch, GlobalName::Scalar(slot)))?;
     Ok(())
 }
 
@@ -27,7 +27,7 @@ pub fn array(list: &mut Vec<Occurrence>, touch: Touch, array: Array) -> Result<(
     ensures { OnOk result (list.new.items ≡ list.old.items ++ spec.of_array touch array) }
 {
     if let Array::Global(slot) = array {
-        list.push(Occurrence::Touch(touch, Name::Array(slot)))?;
+        list.push(Occurrence::Touch(touch, GlobalName::Array(slot)))?;
     }
     Ok(())
 }
@@ -46,7 +46,7 @@ pub fn variable(
     }
 }
 
-/// Adds what stands in an expression that has no other inside.
+/// Adds what occurs in an expression that has no other inside.
 fn leaf(list: &mut Vec<Occurrence>, e: &Leaf) -> Result<(), AllocError>
     ensures { OnOk result (list.new.items ≡ list.old.items ++ spec.of_leaf (code.leaf_view e.now)) }
 {
@@ -68,7 +68,7 @@ fn touch_by(op: Op) -> Touch
     }
 }
 
-/// Adds what stands in an expression.
+/// Adds what occurs in an expression.
 #[cycle(expression)]
 pub fn expression(list: &mut Vec<Occurrence>, e: &Expr) -> Result<(), AllocError>
     ensures { OnOk result (list.new.items ≡ list.old.items ++
@@ -96,7 +96,7 @@ pub fn expression(list: &mut Vec<Occurrence>, e: &Expr) -> Result<(), AllocError
     }
 }
 
-/// Adds what stands in each of these.
+/// Adds what occurs in each of these.
 #[cycle(expression)]
 pub fn expressions(list: &mut Vec<Occurrence>, es: &[Expr]) -> Result<(), AllocError>
     ensures { OnOk result (list.new.items ≡ list.old.items ++
@@ -108,24 +108,24 @@ pub fn expressions(list: &mut Vec<Occurrence>, es: &[Expr]) -> Result<(), AllocE
     Ok(())
 }
 
-/// Adds what stands in a place, with which this is done.
+/// Adds what occurs in a place, with which this is done.
 #[cycle(expression)]
-pub fn place(list: &mut Vec<Occurrence>, touch: Touch, p: &Place) -> Result<(), AllocError>
+pub fn place(list: &mut Vec<Occurrence>, touch: Touch, p: &Lvalue) -> Result<(), AllocError>
     ensures { OnOk result (list.new.items ≡ list.old.items ++
         spec.of_place touch (code.place_view p.now)) }
 {
     match p {
-        Place::Global(slot) => scalar(list, touch, *slot),
-        Place::Local(_) => Ok(()),
-        Place::Element(name, keys) => {
+        Lvalue::Global(slot) => scalar(list, touch, *slot),
+        Lvalue::Local(_) => Ok(()),
+        Lvalue::Element(name, keys) => {
             array(list, touch, *name)?;
             expressions(list, keys)
         }
-        Place::Field(e) => expression(list, e),
+        Lvalue::Field(e) => expression(list, e),
     }
 }
 
-/// Adds what stands in a number.
+/// Adds what occurs in a number.
 #[cycle(expression)]
 fn numeric(list: &mut Vec<Occurrence>, n: &Numeric) -> Result<(), AllocError>
     ensures { OnOk result (list.new.items ≡ list.old.items ++
@@ -161,7 +161,7 @@ fn numeric(list: &mut Vec<Occurrence>, n: &Numeric) -> Result<(), AllocError>
     }
 }
 
-/// Adds what stands in a built-in function that gives a number.
+/// Adds what occurs in a built-in function that gives a number.
 #[cycle(expression)]
 fn function(list: &mut Vec<Occurrence>, f: &NumericFunction) -> Result<(), AllocError>
     ensures { OnOk result (list.new.items ≡ list.old.items ++
@@ -176,7 +176,7 @@ fn function(list: &mut Vec<Occurrence>, f: &NumericFunction) -> Result<(), Alloc
     }
 }
 
-/// Adds what stands in a truth.
+/// Adds what occurs in a truth.
 #[cycle(expression)]
 fn test(list: &mut Vec<Occurrence>, t: &Test) -> Result<(), AllocError>
     ensures { OnOk result (list.new.items ≡ list.old.items ++ spec.of_test (code.test_view t.now)) }
@@ -198,7 +198,7 @@ fn test(list: &mut Vec<Occurrence>, t: &Test) -> Result<(), AllocError>
     }
 }
 
-/// Adds what stands in a text.
+/// Adds what occurs in a text.
 #[cycle(expression)]
 fn textual(list: &mut Vec<Occurrence>, t: &Textual) -> Result<(), AllocError>
     ensures { OnOk result (list.new.items ≡ list.old.items ++
@@ -223,7 +223,7 @@ fn textual(list: &mut Vec<Occurrence>, t: &Textual) -> Result<(), AllocError>
     }
 }
 
-/// Adds what stands in a regular expression.
+/// Adds what occurs in a regular expression.
 #[cycle(expression)]
 fn pattern(list: &mut Vec<Occurrence>, p: &Pattern) -> Result<(), AllocError>
     ensures { OnOk result (list.new.items ≡ list.old.items ++
@@ -235,7 +235,7 @@ fn pattern(list: &mut Vec<Occurrence>, p: &Pattern) -> Result<(), AllocError>
     }
 }
 
-/// Adds what stands in what `split` separates by.
+/// Adds what occurs in what `split` separates by.
 #[cycle(expression)]
 fn fields_by(list: &mut Vec<Occurrence>, by: &FieldsBy) -> Result<(), AllocError>
     ensures { OnOk result (list.new.items ≡ list.old.items ++
@@ -247,7 +247,7 @@ fn fields_by(list: &mut Vec<Occurrence>, by: &FieldsBy) -> Result<(), AllocError
     }
 }
 
-/// Adds what stands in a format.
+/// Adds what occurs in a format.
 #[cycle(expression)]
 pub fn format(list: &mut Vec<Occurrence>, f: &Format) -> Result<(), AllocError>
     ensures { OnOk result (list.new.items ≡ list.old.items ++
@@ -259,7 +259,7 @@ pub fn format(list: &mut Vec<Occurrence>, f: &Format) -> Result<(), AllocError>
     }
 }
 
-/// Adds what stands in an argument of a call.
+/// Adds what occurs in an argument of a call.
 #[cycle(expression)]
 fn argument(list: &mut Vec<Occurrence>, a: &Argument) -> Result<(), AllocError>
     ensures { OnOk result (list.new.items ≡ list.old.items ++
@@ -271,7 +271,7 @@ fn argument(list: &mut Vec<Occurrence>, a: &Argument) -> Result<(), AllocError>
     }
 }
 
-/// Adds what stands in the arguments of a call.
+/// Adds what occurs in the arguments of a call.
 #[cycle(expression)]
 fn arguments(list: &mut Vec<Occurrence>, values: &[Argument]) -> Result<(), AllocError>
     ensures { OnOk result (list.new.items ≡ list.old.items ++

@@ -1,10 +1,10 @@
 //! What is done with each global, in a table by slots.
 
 ghost use Rattle.std.specs.Prelude.{◌≡◌, ◌≤◌, ◌<◌, ℕ, length, nat_eq, vec_len, OnOk, IfOk, if◌then◌else◌, slice_index_or};
-ghost use Rattle.pawk_admit.specs.declared.occurrence.Name.{Name as NameOfText};
+ghost use Rattle.pawk_admit.specs.declared.occurrence.GlobalName.{GlobalName as NameOfText};
 ghost use Rattle.pawk_admit.specs.Marks as spec;
 
-use crate::occurrence::{Name, Occurrence, Touch};
+use crate::occurrence::{GlobalName, Occurrence, Touch};
 use std::alloc::{AllocError, Global};
 
 /// What is done with a global.
@@ -40,7 +40,7 @@ impl Marks {
         }
     }
 
-    /// The same, and this is done too.
+    /// What is done before, and this too.
     fn and(self, touch: Touch) -> Marks
         ensures { result ≡ spec.with_touch self touch }
     {
@@ -94,15 +94,23 @@ impl Tables {
             spec.with_occurrence (spec.marks_of self.old name) name occurrence) }
     {
         match occurrence {
-            Occurrence::Touch(touch, Name::Scalar(slot)) => mark(&mut self.scalars, slot, touch),
-            Occurrence::Touch(touch, Name::Array(slot)) => mark(&mut self.arrays, slot, touch),
+            Occurrence::Touch(touch, GlobalName::Scalar(slot)) => mark(
+                &mut self.scalars,
+                slot,
+                touch,
+            ),
+            Occurrence::Touch(touch, GlobalName::Array(slot)) => mark(
+                &mut self.arrays,
+                slot,
+                touch,
+            ),
             Occurrence::Call(_) | Occurrence::Match | Occurrence::Range | Occurrence::NextFile => {
                 Ok(())
             }
         }
     }
 
-    /// The tables of what stands in a text, with at least so many slots.
+    /// The tables of what occurs in a text, with at least these numbers of slots.
     pub fn new(
         alloc: Global,
         list: &[Occurrence],

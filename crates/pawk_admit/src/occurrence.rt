@@ -1,4 +1,4 @@
-//! What stands in the text of a program that decides whether its records may run in chunks.
+//! What occurs in the text of a program that decides whether its records may run in chunks.
 
 /// What a text does with a global name.
 #[derive(Clone, Copy)]
@@ -28,16 +28,16 @@ pub enum Touch {
 
 /// A global name, by its slot.
 #[derive(Clone, Copy)]
-pub enum Name {
+pub enum GlobalName {
     Scalar(usize),
     Array(usize),
 }
 
-/// What stands in a text.
+/// What occurs in a text.
 #[derive(Clone, Copy)]
 pub enum Occurrence {
     /// A global name, and what is done with it.
-    Touch(Touch, Name),
+    Touch(Touch, GlobalName),
     /// A call of the function of this slot.
     Call(usize),
     /// A call of `match`.

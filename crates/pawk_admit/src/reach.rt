@@ -1,4 +1,4 @@
-//! What stands in the rules of a program and in the functions that they reach.
+//! What occurs in the rules of a program and in the functions that they reach.
 
 ghost use Rattle.std.specs.Prelude.{◌≡◌, ◌++◌, ◌↔◌, true, OnOk, IfOk, Contains, map, slice_set, slice_index_or};
 ghost use Rattle.std.specs.Bool.{MatchBool};
@@ -12,7 +12,7 @@ use crate::statement::{function, rules};
 use pawk_code::program::{Code, Function};
 use std::alloc::{AllocError, Global};
 
-/// Adds what stands in the function of this slot, unless the flags tell that it was added.
+/// Adds what occurs in the function of this slot, unless the flags say that it was added.
 fn reach(
     list: &mut Vec<Occurrence>,
     flags: &mut Vec<bool>,
@@ -31,7 +31,7 @@ fn reach(
     Ok(())
 }
 
-/// What stands in the rules of a program and in the functions that they reach; each function once.
+/// What occurs in the rules of a program and in the functions that they reach; each function once.
 pub fn occurrences(alloc: Global, code: &Code) -> Result<Vec<Occurrence>, AllocError>
     ensures { IfOk result (λ list. (o : Occurrence_of_text) →
         Contains list.items o ↔ Occurs (code_view code.now) o) }

@@ -1,4 +1,4 @@
-//! What stands in statements.
+//! What occurs in statements.
 
 ghost use Rattle.std.specs.Prelude.{◌≡◌, ◌++◌, OnOk, map};
 ghost use Rattle.std.specs.Option.{option_map};
@@ -14,7 +14,7 @@ use pawk_code::program::{Function, Rule, Selector};
 use pawk_code::statement::{Head, Leave, Simple, Statement};
 use std::alloc::AllocError;
 
-/// Adds what stands in a statement with no body that leaves nothing.
+/// Adds what occurs in a statement with no body that leaves nothing.
 fn simple(list: &mut Vec<Occurrence>, s: &Simple) -> Result<(), AllocError>
     ensures { OnOk result (list.new.items ≡ list.old.items ++ spec.of_simple (simple_view s.now)) }
 {
@@ -42,7 +42,7 @@ fn simple(list: &mut Vec<Occurrence>, s: &Simple) -> Result<(), AllocError>
     }
 }
 
-/// Adds what stands in an expression that may be missing.
+/// Adds what occurs in an expression that may be missing.
 fn expression_if_any(list: &mut Vec<Occurrence>, e: &Option<Expr>) -> Result<(), AllocError>
     ensures { OnOk result (list.new.items ≡ list.old.items ++
         spec.of_expression_if_any (option_map view e.now)) }
@@ -53,7 +53,7 @@ fn expression_if_any(list: &mut Vec<Occurrence>, e: &Option<Expr>) -> Result<(),
     }
 }
 
-/// Adds what stands in a part of the head of a `for` that may be missing.
+/// Adds what occurs in a part of the head of a `for` that may be missing.
 fn simple_if_any(list: &mut Vec<Occurrence>, s: &Option<Simple>) -> Result<(), AllocError>
     ensures { OnOk result (list.new.items ≡ list.old.items ++
         spec.of_simple_if_any (option_map simple_view s.now)) }
@@ -64,7 +64,7 @@ fn simple_if_any(list: &mut Vec<Occurrence>, s: &Option<Simple>) -> Result<(), A
     }
 }
 
-/// Adds what stands in a statement that leaves what it stands in.
+/// Adds what occurs in a statement that leaves what surrounds it.
 fn leave(list: &mut Vec<Occurrence>, l: &Leave) -> Result<(), AllocError>
     ensures { OnOk result (list.new.items ≡ list.old.items ++ spec.of_leave (leave_view l.now)) }
 {
@@ -78,7 +78,7 @@ fn leave(list: &mut Vec<Occurrence>, l: &Leave) -> Result<(), AllocError>
     }
 }
 
-/// Adds what stands in the head of a `for`.
+/// Adds what occurs in the head of a `for`.
 fn head(list: &mut Vec<Occurrence>, h: &Head) -> Result<(), AllocError>
     ensures { OnOk result (list.new.items ≡ list.old.items ++ spec.of_head (head_view h.now)) }
 {
@@ -87,7 +87,7 @@ fn head(list: &mut Vec<Occurrence>, h: &Head) -> Result<(), AllocError>
     simple_if_any(list, &h.last)
 }
 
-/// Adds what stands in a condition and in a body.
+/// Adds what occurs in a condition and in a body.
 #[cycle(statement)]
 fn guarded(
     list: &mut Vec<Occurrence>,
@@ -101,7 +101,7 @@ fn guarded(
     body(list, statements)
 }
 
-/// Adds what stands in a statement.
+/// Adds what occurs in a statement.
 #[cycle(statement)]
 fn statement(list: &mut Vec<Occurrence>, x: &Statement) -> Result<(), AllocError>
     ensures { OnOk result (list.new.items ≡ list.old.items ++ spec.of_statement (stmt_view x.now)) }
@@ -126,7 +126,7 @@ fn statement(list: &mut Vec<Occurrence>, x: &Statement) -> Result<(), AllocError
     }
 }
 
-/// Adds what stands in a body.
+/// Adds what occurs in a body.
 #[cycle(statement)]
 fn body(list: &mut Vec<Occurrence>, statements: &[Statement]) -> Result<(), AllocError>
     ensures { OnOk result (list.new.items ≡ list.old.items ++ spec.of_body (seen statements.now)) }
@@ -137,7 +137,7 @@ fn body(list: &mut Vec<Occurrence>, statements: &[Statement]) -> Result<(), Allo
     Ok(())
 }
 
-/// Adds what stands where a rule says which records it runs on.
+/// Adds what occurs where a rule says which records it runs on.
 fn selector(list: &mut Vec<Occurrence>, s: &Selector) -> Result<(), AllocError>
     ensures { OnOk result (list.new.items ≡ list.old.items ++
         spec.of_selector (selector_view s.now)) }
@@ -153,7 +153,7 @@ fn selector(list: &mut Vec<Occurrence>, s: &Selector) -> Result<(), AllocError>
     }
 }
 
-/// Adds what stands in rules.
+/// Adds what occurs in rules.
 pub fn rules(list: &mut Vec<Occurrence>, rules: &[Rule]) -> Result<(), AllocError>
     ensures { OnOk result (list.new.items ≡ list.old.items ++
         spec.of_rules (map rule_view rules.now)) }
@@ -165,7 +165,7 @@ pub fn rules(list: &mut Vec<Occurrence>, rules: &[Rule]) -> Result<(), AllocErro
     Ok(())
 }
 
-/// Adds what stands in the function of this slot, if there is one.
+/// Adds what occurs in the function of this slot, if there is one.
 pub fn function(
     list: &mut Vec<Occurrence>,
     functions: &[Function],

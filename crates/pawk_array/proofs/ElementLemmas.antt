@@ -14,7 +14,7 @@ use Rattle.pawk_array.specs.declared.array.Element.{Element}
 use Rattle.pawk_array.specs.declared.headed.Headed.{Headed}
 use Rattle.pawk_array.specs.Elements.{element_of}
 use Rattle.pawk_array.specs.Entries.{Entries, Rise, order, found, keys}
-use Rattle.pawk_array.proofs.EntriesLemmas.{total}
+use Rattle.pawk_keyed_map.proofs.EntriesLemmas.{total}
 
 first : (a b : Bool) → (a && b) ≡ true → a ≡ true
 first true b e = refl
@@ -38,7 +38,7 @@ below_at x [] i d h g = absurd (omega (arith, g))
 below_at x (e ∷ es) zero d h g = first (is_lt (order x e.0)) (below_all order x es) h
 below_at x (e ∷ es) (suc i) d h g = below_at x es i d (second (is_lt (order x e.0)) (below_all order x es) h) (omega (arith, g))
 
--- a key has what stands beside it
+-- a key has what is kept beside it
 found_at : (es : Entries) (i : ℕ) (d : List ℕ × Val) → Rise es → i < length es → found (get_or es i d).0 es ≡ Some (get_or es i d).1
 found_at [] i d h g = absurd (omega (arith, g))
 found_at (e ∷ es) zero d h g = ap (λ b. cond b (Some e.1) (found e.0 es)) (sym (texts_ties e.0 e.0) ∙ (bytes_eq-Decides e.0 e.0).1 refl)
@@ -51,7 +51,7 @@ found_at (e ∷ es) (suc i) d h g =
 none : List ℕ × Val
 none = ([], Rattle.pawk_value.specs.Value.Uninit)
 
--- the key at a place of the keys has what stands at that place
+-- the key at a place of the keys has what is at that place
 key_has : (es : Entries) (ks : List Headed) (i : ℕ) (k : Headed) → Rise es → map (λ x. x.text.now) ks ≡ keys es → i < length ks → k ≡ get_or ks i k →
     (k.text.now ≡ (get_or es i none).0) × (found k.text.now es ≡ Some (get_or es i none).1) × (i < length es)
 key_has es ks i k h e g is =

@@ -7,9 +7,9 @@ use Rattle.std.proofs.lemmas.Bool.{ltb-false, eqb-false}
 use Rattle.std.proofs.lemmas.Bool.Decides.{Decides-eqb}
 use Rattle.pawk_array.specs.Entries.{order}
 use Rattle.pawk_array.specs.Heads.{head_of, AreBytes}
-use Rattle.pawk_array.proofs.EntriesLemmas.{total}
+use Rattle.pawk_keyed_map.proofs.EntriesLemmas.{total}
 
--- the number that the next bytes make behind another
+-- the number that the next bytes make after another
 abbrev behind : ℕ → ℕ → List ℕ → ℕ
 behind zero h bs = h
 behind (suc n) h [] = behind n (h * 256) []

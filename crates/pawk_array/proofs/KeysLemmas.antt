@@ -1,4 +1,4 @@
--- Keys in order, and keys in one room.
+-- Keys in order, and keys in one buffer.
 use Rattle.std.proofs.Common.{◌≡◌, ℕ, zero, suc, ◌+◌, ◌-◌, ◌<◌, ◌≤◌, Bool, true, false, cond, List, [], ◌∷◌, ◌++◌, length, map, get_or, drop, refl, sym, ◌∙◌, ap, arith, length-drop, Option, None, Some}
 use Rattle.std.specs.Prelude.{is_some, slice_range, ◌&&◌, ◌||◌}
 use Rattle.std.specs.List.{AllByRecursion, IsDistinct, list_any}
@@ -16,16 +16,19 @@ use Rattle.std.proofs.lemmas.List.Sorted.{list_any-IsPermutation}
 use Rattle.std.proofs.Math.Seq.{drop-append_seam, take-length}
 use Rattle.std.proofs.lemmas.Map.Keys.{sorted_from_all_adjacent, apart_from_distinct, IsDistinct-IsPermutation}
 use Rattle.std.proofs.lemmas.Slice.Eq.{bytes_eq-Decides}
+use Rattle.pawk_value.specs.Value.{shown}
+use Rattle.pawk_scalar.specs.declared.values.Value.{Value}
+use Rattle.pawk_keyed_map.specs.declared.key.Key.{Key}
 use Rattle.pawk_array.specs.Entries.{Entries, Rise, order, keys}
 use Rattle.pawk_array.specs.declared.headed.Headed.{Headed}
-use Rattle.pawk_array.specs.Keys.{text_of}
+use Rattle.pawk_keyed_map.specs.Keys.{text_of}
 use Rattle.pawk_array.specs.ArrayViews.{entries_of}
 use Rattle.pawk_array.specs.Texts.{texts_in, AreWithin}
 use Rattle.pawk_array.specs.Walks.{AreKeysOf}
-use Rattle.pawk_array.proofs.EntriesLemmas.{total, same_text, holds, flip}
-use Rattle.pawk_array.proofs.PairsLemmas.{Pairs, same_bytes, has_bytes, contains_by}
+use Rattle.pawk_keyed_map.proofs.EntriesLemmas.{total, same_text, holds, flip}
+use Rattle.pawk_keyed_map.proofs.PairsLemmas.{same_bytes, has_bytes, contains_by}
 
--- ---- one room
+-- ---- one buffer
 
 tail : (bytes : List ℕ) (r : Range ℕ) (rs : List (Range ℕ)) → AreWithin bytes (r ∷ rs) → AreWithin bytes rs
 tail bytes r rs h = λ k d below. h (suc k) d (omega (arith, below))
@@ -87,16 +90,16 @@ rises x y g h = by_cases (order y x) refl (total.antisymm x y) where
       let yes = (bytes_eq-Decides x y).1 (sym same) in cc
   by_cases Greater p q = q ∙ ap ordering_reverse p
 
-apart_map : (k : List ℕ) (es : Pairs) → AllByRecursion (λ y. bytes_eq k (text_of y) ≡ false) (keys_of es) → AllByRecursion (λ y. bytes_eq k y ≡ false) (map (λ e. text_of e.0) es)
+apart_map : (k : List ℕ) (es : List (Key × Value)) → AllByRecursion (λ y. bytes_eq k (text_of y) ≡ false) (keys_of es) → AllByRecursion (λ y. bytes_eq k y ≡ false) (map (λ e. text_of e.0) es)
 apart_map k [] h = tt
 apart_map k (e ∷ es) h = (h.0, apart_map k es h.1)
 
-distinct_texts : (es : Pairs) → IsDistinct same_bytes (keys_of es) → IsDistinct bytes_eq (map (λ e. text_of e.0) es)
+distinct_texts : (es : List (Key × Value)) → IsDistinct same_bytes (keys_of es) → IsDistinct bytes_eq (map (λ e. text_of e.0) es)
 unfolding IsDistinct
 distinct_texts [] h = tt
 distinct_texts (e ∷ es) h = (apart_map (text_of e.0) es h.0, distinct_texts es h.1)
 
-any_lookup : (q : List ℕ) (es : Pairs) → list_any (bytes_eq q) (map (λ e. text_of e.0) es) ≡ is_some (lookup (has_bytes q) es)
+any_lookup : (q : List ℕ) (es : List (Key × Value)) → list_any (bytes_eq q) (map (λ e. text_of e.0) es) ≡ is_some (lookup (has_bytes q) es)
 any_lookup q [] = refl
 any_lookup q (e ∷ es) = by_cases (has_bytes q e.0) (any_lookup q es) where
   by_cases : (b : Bool) → list_any (bytes_eq q) (map (λ e. text_of e.0) es) ≡ is_some (lookup (has_bytes q) es) →
@@ -129,8 +132,8 @@ keys_in_order es texts ks rises_up known moved sorted =
     sym (marked_keys ks) ∙ ap (map (λ e. e.0)) equal ∙ marked_keys all
 
 -- the keys of distinct pairs are those of what the pairs hold
-pub pair_keys : (es : Pairs) → IsDistinct same_bytes (keys_of es) → AreKeysOf (entries_of es) (map (λ e. text_of e.0) es)
-pair_keys es distinct = record { distinct = distinct_texts es distinct; all = λ q. any_lookup q es ∙ contains_by q es }
+pub pair_keys : (es : List (Key × Value)) → IsDistinct same_bytes (keys_of es) → AreKeysOf (entries_of es) (map (λ e. text_of e.0) es)
+pair_keys es distinct = record { distinct = distinct_texts es distinct; all = λ q. any_lookup q es ∙ contains_by shown q es }
 
 sorted_from : (first : Headed) (xs : List Headed) → IsSorted (λ x y. order x.text.now y.text.now) xs → IsSorted order (map (λ x. x.text.now) xs)
 sorted_from first xs h k d low below =

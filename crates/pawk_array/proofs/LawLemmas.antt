@@ -1,31 +1,13 @@
 -- Proofs of the laws.
-use Rattle.std.proofs.Common.{◌≡◌, ◌≢◌, ℕ, zero, suc, ◌+◌, ◌^◌, ◌<◌, Bool, true, false, List, [], ◌∷◌, length, get_or, Some, None, refl, ◌∙◌, ap, arith}
+use Rattle.std.proofs.Common.{◌≡◌, ◌≢◌, ℕ, zero, suc, ◌+◌, ◌^◌, ◌<◌, List, [], ◌∷◌, length, get_or, Some, None, refl, ◌∙◌, ap, arith}
 use Rattle.std.specs.Prelude.{if◌then◌else◌, slice_range}
-use Rattle.std.specs.Str.{bytes_eq}
 use Rattle.std.specs.Fmt.{decimal}
 use Rattle.std.specs.declared.ops.Range.{Range}
 use Rattle.std.proofs.lemmas.Fmt.{decimal_injective}
-use Rattle.std.proofs.lemmas.Slice.Eq.{bytes_eq-Decides}
-use Rattle.pawk_value.specs.Value.{Val, Maybe}
+use Rattle.pawk_value.specs.Value.{Maybe}
 use Rattle.pawk_array.specs.Entries.{Entries, found, put, with_pieces}
 use Rattle.pawk_array.specs.Law.{SameLaw, PutLaw, WithoutLaw, PiecesLaw}
-use Rattle.pawk_array.proofs.EntriesLemmas.{flip, rise-put, rise-without, found-put, found-without, same_found}
-
-itself : (k : List ℕ) → bytes_eq k k ≡ true
-itself k = (bytes_eq-Decides k k).1 refl
-
-differs_by : (q k : List ℕ) (b : Bool) → bytes_eq q k ≡ b → q ≢ k → bytes_eq q k ≡ false
-differs_by q k false e h = e
-differs_by q k true e h = absurd (h ((bytes_eq-Decides q k).0 e))
-
-pub differs : (q k : List ℕ) → q ≢ k → bytes_eq q k ≡ false
-differs q k h = differs_by q k (bytes_eq q k) refl h
-
-pub put_here : (k : List ℕ) (v : Val) (es : Entries) → found k (put k v es) ≡ Some v
-put_here k v es = found-put k k v es ∙ ap (λ b. if b then Some v else found k es) (itself k)
-
-pub put_other : (q k : List ℕ) (v : Val) (es : Entries) → q ≢ k → found q (put k v es) ≡ found q es
-put_other q k v es h = found-put q k v es ∙ ap (λ b. if b then Some v else found q es) (differs q k h)
+use Rattle.pawk_keyed_map.proofs.EntriesLemmas.{itself, differs, put_here, put_other, flip, rise-put, rise-without, found-without, same_found}
 
 pub same_holds : SameLaw
 same_holds es fs g h e = same_found es fs g h e
@@ -40,7 +22,7 @@ without_holds k es h = record {
   others = λ q ne. found-without q k es ∙ ap (λ b. if b then None else found q es) (flip k q ∙ differs q k ne);
 }
 
--- what is behind in the list does not touch a key of a number before
+-- what comes after in the list does not touch a key of a number before
 stays : (n m : ℕ) (text : List ℕ) (rs : List (Range ℕ)) (es : Entries) → m < n + 1 → n + length rs < 2 ^ 64 →
     found (decimal m) (with_pieces n text rs es) ≡ found (decimal m) es
 stays n m text [] es h small = refl

@@ -1,5 +1,5 @@
-pub mod EntriesLemmas
-pub mod PairsLemmas
+pub use Rattle.pawk_keyed_map.proofs.EntriesLemmas
+pub use Rattle.pawk_keyed_map.proofs.PairsLemmas
 pub mod KeysLemmas
 pub mod LawLemmas
 pub mod PiecesLemmas

@@ -9,15 +9,16 @@ use Rattle.std.proofs.lemmas.Fmt.{decimal_injective}
 use Rattle.std.proofs.lemmas.Bool.{cases_eq}
 use Rattle.std.proofs.lemmas.List.{get_or_append_left, length-append}
 use Rattle.std.proofs.Math.Seq.{get_or-append_seam}
-use Rattle.pawk_value.specs.Value.{Val, Maybe}
+use Rattle.pawk_value.specs.Value.{Val, Maybe, shown}
+use Rattle.pawk_scalar.specs.declared.values.Value.{Value}
+use Rattle.pawk_keyed_map.specs.declared.key.Key.{Key}
 use Rattle.pawk_array.specs.Entries.{Entries, Rise, found, put, with_pieces}
 use Rattle.pawk_array.specs.Pieces.{with_texts, AreNumbers, AreApart}
 use Rattle.pawk_array.specs.Texts.{texts_in}
 use Rattle.pawk_array.specs.Walks.{AreKeysOf}
-use Rattle.pawk_array.proofs.EntriesLemmas.{none_rise, rise-put, found-put, length-put_new}
+use Rattle.pawk_keyed_map.proofs.EntriesLemmas.{differs, put_here, put_other, rise-put, found-put, length-put_new}
 use Rattle.pawk_array.specs.ArrayViews.{entries_of}
-use Rattle.pawk_array.proofs.PairsLemmas.{Pairs, rise-entries_of}
-use Rattle.pawk_array.proofs.LawLemmas.{differs, put_here, put_other}
+use Rattle.pawk_keyed_map.proofs.PairsLemmas.{rise-seen_by}
 
 pub with_texts_in : (n : ℕ) (text : List ℕ) (rs : List (Range ℕ)) (es : Entries) → with_texts n (texts_in text rs) es ≡ with_pieces n text rs es
 with_texts_in n text [] es = refl
@@ -70,11 +71,11 @@ length-with_texts_from n (t ∷ ts) es small rise none =
     ∙ omega (arith, size)
 
 pub length-with_texts : (ts : List (List ℕ)) → length ts < 2 ^ 63 → length (with_texts 0 ts []) ≡ length ts
-length-with_texts ts small = length-with_texts_from 0 ts [] (omega (arith, small)) none_rise (λ m above below. refl) ∙ omega arith
+length-with_texts ts small = length-with_texts_from 0 ts [] (omega (arith, small)) refl (λ m above below. refl) ∙ omega arith
 
 -- ---- their keys
 
--- so many numbers after this one
+-- the numbers that follow this one
 abbrev numbers_after : ℕ → ℕ → List (List ℕ)
 numbers_after n zero = []
 numbers_after n (suc count) = decimal (n + 1) ∷ numbers_after (n + 1) count
@@ -138,11 +139,11 @@ pub no_pairs : {A : Type 0} (ts : List (List ℕ)) (es : List A) → AreApart ts
 no_pairs ts es (inl e) some = absurd (some e)
 no_pairs ts es (inr e) some = e
 
-pub seen_pieces : (ts : List (List ℕ)) (es : Pairs) → AreApart ts es → (ts ≡ [] → ⊥) → with_texts 0 ts (entries_of es) ≡ with_texts 0 ts []
+pub seen_pieces : (ts : List (List ℕ)) (es : List (Key × Value)) → AreApart ts es → (ts ≡ [] → ⊥) → with_texts 0 ts (entries_of es) ≡ with_texts 0 ts []
 seen_pieces ts es apart some = ap (λ xs. with_texts 0 ts (entries_of xs)) (no_pairs ts es apart some)
 
-pub rise-seen : (ts : List (List ℕ)) (es : Pairs) → Rise (with_texts 0 ts (entries_of es))
-rise-seen ts es = rise-with_texts 0 ts (entries_of es) (rise-entries_of es)
+pub rise-seen : (ts : List (List ℕ)) (es : List (Key × Value)) → Rise (with_texts 0 ts (entries_of es))
+rise-seen ts es = rise-with_texts 0 ts (entries_of es) (rise-seen_by shown es)
 
 -- one more text at its key
 pub one_text : (n : ℕ) (ts : List (List ℕ)) (old new : Entries) (k t : List ℕ) → slice_get ts n ≡ Some t → k ≡ decimal (n + 1) → new ≡ put k (Maybe t) old →
@@ -160,19 +161,19 @@ one_text n ts old new k t at same e =
       from_here (u ∷ ts) zero t h = let same = some_text u t h in rw same refl
       from_here (u ∷ ts) (suc n) t h = from_here ts n t h
 
--- what tells whether there are pieces
+-- what decides whether there are pieces
 pub some_pieces : (b : Bool) (ts : List (List ℕ)) → (ts ≡ [] → b ≡ true) → b ≡ false → ts ≡ [] → ⊥
 some_pieces b ts h none e = let both : true ≡ false = sym (h e) ∙ none in cc
 
 -- an array without elements takes pieces over
-pub fill_empty : (text : List ℕ) (rs : List (Range ℕ)) (old new : List (List ℕ)) (es : Pairs) → old ≡ [] → length es ≡ 0 → new ≡ texts_in text rs →
+pub fill_empty : (text : List ℕ) (rs : List (Range ℕ)) (old new : List (List ℕ)) (es : List (Key × Value)) → old ≡ [] → length es ≡ 0 → new ≡ texts_in text rs →
     with_texts 0 new (entries_of es) ≡ with_pieces 0 text rs (with_texts 0 old (entries_of es))
 fill_empty text rs old new es none empty e =
     ap (λ ts. with_texts 0 ts (entries_of es)) e
     ∙ with_texts_in 0 text rs (entries_of es)
     ∙ ap (with_pieces 0 text rs) (sym (seen_pairs old (entries_of es) none))
 
--- the next number behind the others
+-- the next number after the others
 pub one_number : (ns : List (List ℕ)) (k : List ℕ) → AreNumbers ns → k ≡ decimal (length ns + 1) → AreNumbers (ns ++ k ∷ [])
 one_number ns k h same = λ i d below.
     let size = length-append ns (k ∷ []) in

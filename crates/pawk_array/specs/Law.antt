@@ -5,7 +5,7 @@ use Rattle.std.specs.Fmt.{decimal}
 use Rattle.pawk_value.specs.Value.{Val, Maybe}
 use Rattle.pawk_array.specs.Entries.{Entries, Rise, found, put, without, pieces_of}
 
--- elements are told apart by what their keys have
+-- elements are distinguished by what their keys have
 abbrev pub SameLaw : Type 0
 SameLaw = (es fs : Entries) → Rise es → Rise fs → ((q : List ℕ) → found q es ≡ found q fs) → es ≡ fs
 

@@ -5,7 +5,7 @@ use mathlib.Core.Option.{none}
 use Rattle.pawk_value.specs.Value.{shown}
 use Rattle.pawk_scalar.specs.declared.values.Value.{Value}
 use Rattle.pawk_scalar.specs.contracts.values.Value as values
-use Rattle.pawk_array.specs.contracts.array.Array.{the_row}
+use Rattle.pawk_array.specs.contracts.array.AssociativeArray.{the_row}
 use Rattle.pawk_array.specs.Entries.{Entries, put, touched}
 
 -- it has at the key the last value that was written, and after a refusal it is as it was

@@ -1,6 +1,7 @@
+pub use Rattle.pawk_keyed_map.specs.Keyed
+pub use Rattle.pawk_keyed_map.specs.Keys
 pub mod Entries
 pub mod Heads
-pub mod Keys
 pub mod ArrayViews
 pub mod Elements
 pub mod Lending

@@ -1,4 +1,4 @@
--- Texts in one room of bytes.
+-- Texts in one buffer of bytes.
 use Rattle.std.specs.Prelude.{ℕ, ◌≤◌, List, map, length, slice_range}
 use Rattle.std.specs.List.{All}
 use Rattle.std.specs.declared.ops.Range.{Range}

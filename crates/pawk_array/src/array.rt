@@ -5,19 +5,19 @@ ghost use Rattle.std.specs.List.{All};
 ghost use Rattle.std.specs.Option.{option_map};
 ghost use Rattle.std.specs.Borrow.{sem};
 ghost use Rattle.pawk_value.specs.Value.{lent_value, shown, Uninit};
-ghost use Rattle.pawk_array.specs.Entries.{found, put, without, value_of, touched, with_pieces, keys, Rise};
+ghost use Rattle.pawk_array.specs.Entries.{found, put, without, value_of, with_pieces, keys, Rise};
 ghost use Rattle.pawk_array.specs.Walks.{AreKeysOf};
 ghost use Rattle.pawk_array.specs.Pieces.{with_texts, AreApart};
-ghost use Rattle.pawk_array.specs.ArrayViews.{entries_of, HasKeyAt};
+ghost use Rattle.pawk_array.specs.ArrayViews.{entries_of};
 ghost use Rattle.pawk_array.specs.Elements.{element_of};
 ghost use Rattle.pawk_array.specs.Lending.{LendsElement, EndsTouched};
 
 use crate::headed::Headed;
-use crate::key::{Key, Query};
-use crate::pieces::Pieces;
+use crate::pieces::TextPieces;
 use crate::texts::Texts;
 use indexmap::IndexMap;
 use itoa::Buffer;
+use pawk_keyed_map::{Key, Query, place_of};
 use pawk_value::{Value, ValueRef, assign, copy_lent, lend};
 use std::alloc::{AllocError, Global};
 use std::marker::Model;
@@ -29,13 +29,13 @@ use std::ops::Range;
 /// The pieces of a text stay ranges of it until an element is changed; then they become pairs of the
 /// map.
 #[derive(Drop)]
-pub struct Array {
+pub struct AssociativeArray {
     alloc: Global,
     map: IndexMap<Key, Value>,
-    pieces: Pieces,
+    pieces: TextPieces,
 }
 
-impl Model for Array {
+impl Model for AssociativeArray {
     ghost use Rattle.pawk_array.specs.Entries.{Entries};
 
     ghost Value = { Entries };
@@ -53,23 +53,6 @@ impl Model for Array {
 pub struct Element<'a> {
     pub key: &'a [u8],
     pub value: ValueRef<'a>,
-}
-
-/// The place of a key among the pairs; a key that is missing is added, with the uninitialised value.
-fn place_of(alloc: Global, map: &mut IndexMap<Key, Value>, key: &[u8]) -> Result<usize, AllocError>
-    ensures place { IfOk result (λ place. HasKeyAt map.new.entries place key.now) }
-    ensures touched { OnOk result
-        (entries_of map.new.entries ≡ touched key.now (entries_of map.old.entries)) }
-    ensures err { OnErr result (map.new.entries ≡ map.old.entries) }
-{
-    match map.get_index_of(Query(key)) {
-        Some(place) => Ok(place),
-        None => {
-            let key = Key::new(alloc, key)?;
-            let (place, _) = map.insert_full(key, Value::Uninit)?;
-            Ok(place)
-        }
-    }
 }
 
 /// Puts a copy of a pair among the pairs.
@@ -92,7 +75,7 @@ fn insert_copy(
 fn insert_pieces(
     alloc: Global,
     map: &mut IndexMap<Key, Value>,
-    pieces: &Pieces,
+    pieces: &TextPieces,
 ) -> Result<(), AllocError>
     ensures { OnOk result (entries_of map.new.entries
         ≡ with_texts 0 pieces.now (entries_of map.old.entries)) }
@@ -110,7 +93,7 @@ fn insert_pieces(
 fn unfold(
     alloc: Global,
     map: &mut IndexMap<Key, Value>,
-    pieces: &mut Pieces,
+    pieces: &mut TextPieces,
 ) -> Result<(), AllocError>
     requires { map.old.entries ≡ [] }
     ensures gone { OnOk result (pieces.new ≡ []) }
@@ -136,7 +119,7 @@ fn unfold(
 fn settle(
     alloc: Global,
     map: &mut IndexMap<Key, Value>,
-    pieces: &mut Pieces,
+    pieces: &mut TextPieces,
 ) -> Result<(), AllocError>
     requires { AreApart pieces.old map.old.entries }
     ensures gone { OnOk result (pieces.new ≡ []) }
@@ -163,15 +146,15 @@ fn map_keys(alloc: Global, pairs: &IndexMap<Key, Value>) -> Result<Vec<Headed<'_
     Ok(all)
 }
 
-impl Array {
-    /// An array without elements.
-    pub fn new(alloc: Global) -> Array
+impl AssociativeArray {
+    /// An array without elements, whose memory comes from `alloc`.
+    pub fn new(alloc: Global) -> AssociativeArray
         ensures { result ≡ [] }
     {
-        Array {
+        AssociativeArray {
             alloc,
             map: IndexMap::new(alloc),
-            pieces: Pieces::new(alloc),
+            pieces: TextPieces::new(alloc),
         }
     }
 
@@ -219,7 +202,7 @@ impl Array {
         Ok(())
     }
 
-    /// Takes all elements away, and keeps their rooms.
+    /// Takes all elements away, and keeps their memory.
     pub fn clear(&mut self)
         ensures { self.new ≡ [] }
     {
@@ -234,7 +217,7 @@ impl Array {
         ensures value { IfOk result (λ v. shown v.now ≡ value_of (found key.now self.old)) }
     {
         settle(self.alloc, &mut self.map, &mut self.pieces)?;
-        let place = place_of(self.alloc, &mut self.map, key)?;
+        let place = place_of(self.alloc, &mut self.map, key, Value::Uninit)?;
         Ok(self.map.get_index_mut(place).unwrap())
     }
 
@@ -250,11 +233,11 @@ impl Array {
             }
             unfold(self.alloc, &mut self.map, &mut self.pieces)?;
         }
-        let element = place_of(self.alloc, &mut self.map, key)?;
+        let element = place_of(self.alloc, &mut self.map, key, Value::Uninit)?;
         Ok(lend(self.map.get_index(element).unwrap().1))
     }
 
-    /// Gives an element a value, in the room that it has for its text. After a refusal of memory the
+    /// Gives an element a value, in the space that it has for its text. After a refusal of memory the
     /// element has the value that it had, or is uninitialised where it was missing, or still is missing.
     pub fn set(&mut self, key: &[u8], value: ValueRef<'_>) -> Result<(), AllocError>
         ensures { OnOk result (self.new ≡ put key.now (lent_value value.entry) self.old) }
@@ -293,7 +276,7 @@ impl Array {
     }
 
     /// A copy that holds its own bytes.
-    pub fn copy(&self, alloc: Global) -> Result<Array, AllocError>
+    pub fn copy(&self, alloc: Global) -> Result<AssociativeArray, AllocError>
         ensures { IfOk result (λ copy. copy ≡ self.now) }
     {
         let mut map = IndexMap::with_capacity(alloc, self.len())?;
@@ -304,10 +287,10 @@ impl Array {
             insert_copy(alloc, &mut map, key.text(), lend(value))?;
         }
         insert_pieces(alloc, &mut map, &self.pieces)?;
-        Ok(Array {
+        Ok(AssociativeArray {
             alloc,
             map,
-            pieces: Pieces::new(alloc),
+            pieces: TextPieces::new(alloc),
         })
     }
 
@@ -333,7 +316,7 @@ impl Array {
         Ok(sorted)
     }
 
-    /// The keys rise: each stands once, in the order of the bytes. It changes nothing and takes no time.
+    /// The keys rise: each occurs once, in the order of the bytes. It changes nothing and takes no time.
     pub fn order_law(&self)
         ensures { Rise self.now }
     {

@@ -17,7 +17,7 @@ pub fn without_law()
     ensures { WithoutLaw }
 {}
 
-/// The pieces of a text stand at the keys `1`, `2`, ..
+/// The pieces of a text are at the keys `1`, `2`, ..
 pub fn pieces_law()
     ensures { PiecesLaw }
 {}

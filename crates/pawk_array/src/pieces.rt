@@ -18,15 +18,15 @@ use std::marker::Model;
 use std::ops::Range;
 
 /// The pieces of one text at the keys `1`, `2`, .., as `split` makes them. They are ranges of a copy of
-/// the text; the keys stand beside them, and stay from text to text. Contracts see the pieces.
+/// the text; the keys are beside them, and stay from text to text. Contracts see the pieces.
 #[derive(Drop)]
-pub(crate) struct Pieces {
+pub(crate) struct TextPieces {
     text: Vec<u8>,
     ranges: Vec<Range<usize>>,
     numbers: Texts,
 }
 
-impl Model for Pieces {
+impl Model for TextPieces {
     ghost use Rattle.std.specs.Prelude.{ℕ, List};
 
     ghost Value = { List (List ℕ) };
@@ -57,12 +57,12 @@ fn number_up_to(alloc: Global, numbers: &mut Texts, count: usize) -> Result<(), 
     Ok(())
 }
 
-impl Pieces {
+impl TextPieces {
     /// No pieces. Takes no memory.
-    pub(crate) fn new(alloc: Global) -> Pieces
+    pub(crate) fn new(alloc: Global) -> TextPieces
         ensures { result ≡ [] }
     {
-        Pieces {
+        TextPieces {
             text: Vec::new(alloc),
             ranges: Vec::new(alloc),
             numbers: Texts::new(alloc),
@@ -85,7 +85,7 @@ impl Pieces {
         self.ranges.is_empty()
     }
 
-    /// Takes all pieces away, and keeps their rooms.
+    /// Takes all pieces away, and keeps their memory.
     pub(crate) fn clear(&mut self)
         ensures { self.new ≡ [] }
     {
@@ -138,7 +138,7 @@ impl Pieces {
         }
     }
 
-    /// Takes the ranges of a text over as the pieces, in the rooms that the last ones had. After a
+    /// Takes the ranges of a text over as the pieces, in the memory of the last ones. After a
     /// refusal of memory there are none.
     pub(crate) fn fill(
         &mut self,

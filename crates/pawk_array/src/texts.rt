@@ -1,4 +1,4 @@
-//! Texts in one room of bytes.
+//! Texts in one buffer of bytes.
 
 ghost use Rattle.std.specs.Prelude.{◌≡◌, ◌<◌, ◌++◌, ◌∷◌, [], length, map, slice_get, Some, IfOk, OnOk};
 
@@ -7,7 +7,7 @@ use std::alloc::{AllocError, Global};
 use std::marker::Model;
 use std::ops::Range;
 
-/// Texts in their order, in one room of bytes: the keys of an array, or what is printed or joined.
+/// Texts in their order, in one buffer of bytes: the keys of an array, or what is printed or joined.
 #[derive(Drop)]
 pub struct Texts {
     bytes: Vec<u8>,

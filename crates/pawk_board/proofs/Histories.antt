@@ -104,7 +104,7 @@ count_none k a (suc n) h =
     let one = one_elsewhere k a (λ e. omega arith) in
     omega (arith, rest, one, sum_by-cons (one_at k) a (range_with_len (a + 1) n))
 
--- how often a number stands among those from a on
+-- how often a number occurs among those from a on
 count_range : (k a n : ℕ) → a ≤ k → Dec (k ≤ a) → sum_by (one_at k) (range_with_len a n) ≡ one_below (a + n) k
 count_range k a zero h d = sym (not_below (a + zero) k (omega arith))
 count_range k a (suc n) h (yes le) =
@@ -137,7 +137,7 @@ done_means_all C n s hands l = λ k past there h small.
     let far : C ≤ n = done_counter C n s past hands l there h in
     below_is_drawn C n s k hands l (omega arith)
 
--- no stop that was told is below the stop
+-- no stop that was reported is below the stop
 pub told_above : (C n s : ℕ) (hands : List Hand) → Lawful C n s hands → All (λ t. s ≤ t) (told_by hands)
 told_above C n s hands l = All-tail (λ t. s ≤ t) C (told_by hands) l.least.1
 
@@ -150,7 +150,7 @@ pub saw_above : (C n s : ℕ) (hands : List Hand) → Lawful C n s hands → All
 saw_above C n s hands l =
     All-weaker (SawStops s (C ∷ told_by hands)) (λ h. All (λ w. s ≤ w) h.saw) (λ h. All-weaker (λ w. Contains (C ∷ told_by hands) w × (s ≤ w)) (λ w. s ≤ w) (λ w p. p.1) h.saw) hands l.saw
 
--- of the stops that a board knows, those below the count of chunks were told
+-- of the stops that a board knows, those below the count of chunks were reported
 stop_told : (C w : ℕ) (told : List ℕ) → Contains (C ∷ told) w → w < C → Contains told w
 stop_told C w told there small =
     ⊎_elim
@@ -158,11 +158,11 @@ stop_told C w told there small =
     (λ (rest : Contains told w). rest)
     (Contains-append_cases (C ∷ []) told w there)
 
--- a stop that is a chunk was told
+-- a stop that is a chunk was reported
 pub least_told : (C n s : ℕ) (hands : List Hand) → Lawful C n s hands → s < C → Contains (told_by hands) s
 least_told C n s hands l small = stop_told C s (told_by hands) l.least.0 small
 
--- where a number was found past the stop, a stop below it was told
+-- where a number was found past the stop, a stop below it was reported
 pub past_means_told : (C n s : ℕ) (hands : List Hand) → Lawful C n s hands → PastMeansTold C s hands
 past_means_told C n s hands l =
     All-weaker (SawStops s (C ∷ told_by hands)) (λ h. (k w : ℕ) → Contains h.saw w → w < k → w < C → Contains (told_by hands) w × (s < k))

@@ -42,7 +42,7 @@ past_none C h all =
 mod_small : (n : ℕ) → n < 2 ^ 32 → (n + 1) % 2 ^ 64 ≡ n + 1
 mod_small n h = omega arith
 
--- where the seat of the table whose hands are v stands among all
+-- the place among all of the seat of the table whose hands are v
 record Spot (views : List (List Hand)) (id : ℕ) (v : List Hand) : Type 0 where
   A : List Hand
   B : List Hand

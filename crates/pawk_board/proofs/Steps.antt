@@ -105,7 +105,7 @@ least_more s k xs ys zs l =
       All-append P xs ((ys ++ k ∷ []) ++ zs) (all_front P xs (ys ++ zs) all) (All-append P (ys ++ k ∷ []) zs (All-push P ys k (all_front P ys zs back) (omega arith)) (all_back P ys zs back)),
     )
 
--- a seat tells a chunk that it drew, and the stop becomes the lesser
+-- a seat reports a chunk that it drew, and the stop becomes the lesser
 pub lawful_tell : (C n s k : ℕ) (A B : List Hand) (h : Hand) → k < C → Contains h.drawn k → Lawful C n s (A ++ h ∷ B) → Lawful C n (min s k) (A ++ tells h k ∷ B)
 lawful_tell C n s k A B h small mine l =
     let H = A ++ h ∷ B in

@@ -19,11 +19,12 @@ abbrev pub Answers : ℕ → ℕ → Claim → Type 0
 Answers chunks n (Chunk k) = (k ≡ n) × (n < chunks)
 Answers chunks n Done = chunks ≤ n
 
--- the seat drew one number more, above all that it drew before, told and saw nothing, and this is the answer
+-- the seat drew one number more, above all that it drew before, reported and saw nothing, and this is the answer
 abbrev pub Claims : ℕ → SeatView → SeatView → Claim → Type 0
 Claims chunks old new answer = (n : ℕ) × (new ≡ record old { hand = drew old.hand n }) × All (λ m. m < n) old.hand.drawn × Answers chunks n answer
 
--- the seat saw one stop more, at most each that it told or saw before, drew and told nothing, and the answer is whether that stop is a chunk below n
+-- the seat saw one stop more, at most each that it reported or saw before, drew and reported nothing, and the answer is
+-- whether that stop is a chunk below n
 abbrev pub LooksPast : ℕ → SeatView → SeatView → ℕ → Bool → Type 0
 LooksPast chunks old new n answer =
     (w : ℕ) × (new ≡ record old { hand = sees old.hand w }) × All (λ t. w ≤ t) old.hand.told × All (λ t. w ≤ t) old.hand.saw × (IsTrue answer ↔ ((w < n) × (w < chunks)))

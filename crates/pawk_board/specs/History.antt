@@ -15,7 +15,7 @@ blank = record { drawn = []; told = []; saw = [] }
 abbrev pub drew : Hand → ℕ → Hand
 drew h n = record { drawn = h.drawn ++ n ∷ []; told = h.told; saw = h.saw }
 
--- the seat told one stop more
+-- the seat reported one stop more
 abbrev pub tells : Hand → ℕ → Hand
 tells h n = record { drawn = h.drawn; told = h.told ++ n ∷ []; saw = h.saw }
 
@@ -27,7 +27,7 @@ sees h n = record { drawn = h.drawn; told = h.told; saw = h.saw ++ n ∷ [] }
 abbrev pub drawn_by : List Hand → List ℕ
 drawn_by hands = flat_map (λ h. h.drawn) hands
 
--- the stops that the seats told
+-- the stops that the seats reported
 abbrev pub told_by : List Hand → List ℕ
 told_by hands = flat_map (λ h. h.told) hands
 
@@ -35,7 +35,7 @@ told_by hands = flat_map (λ h. h.told) hands
 abbrev pub IsLeast : ℕ → List ℕ → Type 0
 IsLeast m xs = Contains xs m × All (λ x. m ≤ x) xs
 
--- each stop that the seat told is the number of a chunk that it drew
+-- each stop that the seat reported is the number of a chunk that it drew
 abbrev pub ToldOwn : ℕ → Hand → Type 0
 ToldOwn chunks h = All (λ n. (n < chunks) × Contains h.drawn n) h.told
 
@@ -43,8 +43,9 @@ ToldOwn chunks h = All (λ n. (n < chunks) × Contains h.drawn n) h.told
 abbrev pub SawStops : ℕ → List ℕ → Hand → Type 0
 SawStops stop stops h = All (λ w. Contains stops w × (stop ≤ w)) h.saw
 
--- the seats drew each number below the counter once and no other, told as stops only chunks that they drew
--- themselves, and saw only the chunk count and stops that were told, none below the stop, which is the least of these
+-- the seats drew each number below the counter once and no other, reported as stops only chunks that they drew
+-- themselves, and saw only the chunk count and stops that were reported, none below the stop, which is the least of
+-- these
 pub record Lawful (chunks counter stop : ℕ) (hands : List Hand) : Type 0 where
   pub draws : IsPermutation (range_with_len 0 counter) (drawn_by hands)
   pub told : All (ToldOwn chunks) hands
@@ -63,6 +64,6 @@ EachOnce counter hands = (n : ℕ) → count_by (λ m. m == n) (drawn_by hands) 
 abbrev pub DoneMeansAll : ℕ → List Hand → Type 0
 DoneMeansAll chunks hands = (n past : ℕ) → Contains (drawn_by hands) past → chunks ≤ past → n < chunks → Contains (drawn_by hands) n
 
--- where a seat saw a stop below n, and not the chunk count, such a stop was told, and n lies past the stop
+-- where a seat saw a stop below n, and not the chunk count, such a stop was reported, and n lies past the stop
 abbrev pub PastMeansTold : ℕ → ℕ → List Hand → Type 0
 PastMeansTold chunks stop hands = All (λ h. (n w : ℕ) → Contains h.saw w → w < n → w < chunks → Contains (told_by hands) w × (stop < n)) hands

@@ -8,7 +8,7 @@ use Rattle.pawk_board.specs.declared.hand.Terms.{Terms}
 use Rattle.pawk_board.specs.Limits.{most_chunks, most_workers}
 use Rattle.pawk_board.specs.History.{blank, Lawful, drew, tells, sees}
 
--- a table of two words that keeps the rule for so many chunks and seats
+-- a table of two words that keeps the rule for these numbers of chunks and seats
 pub record Fits (id : TableId) (terms : Terms) (chunks workers : ℕ) : Type 0 where
   pub words : id.words ≡ 2
   pub slots : id.slots ≡ 0
@@ -62,10 +62,10 @@ other_hands (h ∷ hs) = hs
 abbrev pub Draws : Step ℕ → Me ℕ (List Hand) → ℕ → Me ℕ (List Hand) → Type 0
 Draws s v n w = (w ≡ (drew (hand_in v.0) n ∷ [], [])) × All (λ m. m < n) (hand_in v.0).drawn
 
--- a stop is told
+-- a stop is reported
 abbrev pub Tells : Step ℕ → Me ℕ (List Hand) → ℕ → Me ℕ (List Hand) → Type 0
 Tells s v n w = w ≡ (tells (hand_in v.0) s.first ∷ [], [])
 
--- a look gives the stop, which is at most every stop that the seat told or saw before
+-- a look gives the stop, which is at most every stop that the seat reported or saw before
 abbrev pub Looks : Step ℕ → Me ℕ (List Hand) → ℕ → Me ℕ (List Hand) → Type 0
 Looks s v n w = (w ≡ (sees (hand_in v.0) n ∷ [], [])) × All (λ t. n ≤ t) (hand_in v.0).told × All (λ t. n ≤ t) (hand_in v.0).saw

@@ -55,7 +55,7 @@ impl Model for Board {
     ghost invariant = { λ b. Fits b.table.shared.table_id b.table.shared.key b.chunks b.workers };
 }
 
-/// What a seat was told.
+/// The answer to a seat.
 #[derive(Clone, Copy, PartialEq, Eq)]
 pub enum Claim {
     /// The number of a chunk, counted from 0, which is now this seat's own.
@@ -114,7 +114,7 @@ impl Board {
     }
 
     /// Tells that no chunk past `n` is wanted, where `n` is a chunk that this seat claimed. The stop is `n` from
-    /// then on, unless a lesser one was told.
+    /// then on, unless a lesser one was reported.
     pub fn stop_at(&self, seat: &mut BoardSeat, n: u64)
         requires board { seat.old.board ≡ self.now.id }
         requires claimed { HasClaimed self.now.chunks seat.old.hand n }
@@ -123,8 +123,8 @@ impl Board {
         self.table.shared.fetch_min::<Tell>(&mut seat.seat, STOP, n);
     }
 
-    /// Whether a stop below `n` is seen: only where such a stop was told, and surely where this seat told or saw
-    /// one. A stop that another seat told a moment ago may not be seen yet.
+    /// Whether a stop below `n` is seen: only where such a stop was reported, and surely where this seat reported or
+    /// saw one. A stop that another seat reported a moment ago may not be seen yet.
     pub fn past_stop(&self, seat: &mut BoardSeat, n: u64) -> bool
         requires { seat.old.board ≡ self.now.id }
         ensures { LooksPast self.now.chunks seat.old seat.new n result }
@@ -143,10 +143,10 @@ impl Board {
         // No number was drawn twice, and none was passed over.
         ensures once { EachOnce result.counter (hands_in seats.items) }
 
-        // Where a seat was told `Done`, all chunks were drawn.
+        // Where a seat got `Done`, all chunks were drawn.
         ensures done { DoneMeansAll self.chunks (hands_in seats.items) }
 
-        // Where a number was found past the stop, a stop below it was told, and it is past the stop of the tally.
+        // Where a number was found past the stop, a stop below it was reported, and it is past the stop of the tally.
         ensures past { PastMeansTold self.chunks result.stop (hands_in seats.items) }
     {
         let Board {

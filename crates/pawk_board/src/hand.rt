@@ -1,7 +1,7 @@
 //! What the proofs say of a seat. No value of these types is kept with a seat at run time.
 use std::collections::LinkedList;
 
-/// What one seat has done, each list in the order of its steps: the numbers that it drew, the stops that it told
+/// What one seat has done, each list in the order of its steps: the numbers that it drew, the stops that it reported
 /// and the stops that it saw. Contracts alone speak of it: no value of it is made.
 pub struct Hand {
     pub drawn: LinkedList<u64>,

@@ -26,7 +26,7 @@ impl Play<u8, Hands> for Draw {
     ghost then = { Draws };
 }
 
-/// A stop is told.
+/// A stop is reported.
 pub(crate) struct Tell;
 
 impl Play<u8, Hands> for Tell {

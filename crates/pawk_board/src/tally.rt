@@ -37,7 +37,7 @@ impl Tally {
         self.counter
     }
 
-    /// The least stop that was told, or the count of chunks where none was.
+    /// The least stop that was reported, or the count of chunks where none was.
     pub fn stop(&self) -> u64
         ensures { result ≡ self.now.stop }
     {

@@ -12,7 +12,7 @@ use Rattle.pawk_format.specs.declared.template.Template.{Template}
 use Rattle.pawk_format.specs.Format.{pieces_of}
 use Rattle.pawk_format.specs.FormatViews.{Writes}
 use Rattle.pawk_format.specs.TemplateViews.{IsTemplateOf}
-use Rattle.pawk_meaning.specs.Builtins.{formatted_text}
+use Rattle.pawk_semantics.specs.Builtins.{formatted_text}
 use Rattle.pawk_builtins.specs.Settles.{Settles}
 
 texts_prop : (x y : Result (List ℕ) Fault) → IsProp (x ≡ y)

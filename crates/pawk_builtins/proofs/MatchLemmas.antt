@@ -1,22 +1,22 @@
 -- What matchers answer is what the definitions say.
 use Rattle.std.proofs.Common.{◌≡◌, ◌↔◌, ℕ, suc, ◌+◌, ◌<◌, ◌≤◌, arith, Bool, true, false, Option, Some, None, Result, Ok, Err, List, [], ◌∷◌, length, drop, IfOk, IfErr, IfSome, IsTrue, is_some, refl, sym, ap, subst, ◌∙◌, length-drop}
-use Rattle.pawk_pattern.specs.Pattern.{Pattern, Matches, HasMatch, IsFound}
-use Rattle.pawk_pattern.specs.Tokens.{SpellsEre, SpellsNone}
-use Rattle.pawk_machine.specs.Expand.{expand}
-use Rattle.pawk_machine.specs.Regex.{Regex}
-use Rattle.pawk_machine.proofs.Shift.{forward, within}
-use Rattle.pawk_machine.proofs.Turns.{expand_if}
+use Rattle.pawk_ere_syntax.specs.Pattern.{Pattern, Matches, HasMatch, IsFound}
+use Rattle.pawk_ere_syntax.specs.Tokens.{SpellsEre, SpellsNone}
+use Rattle.pawk_ere_automaton.specs.Expand.{expand}
+use Rattle.pawk_ere_automaton.specs.Regex.{Regex}
+use Rattle.pawk_ere_automaton.proofs.Shift.{forward, within}
+use Rattle.pawk_ere_automaton.proofs.Turns.{expand_if}
 use Rattle.pawk_ere.specs.Kept.{IsAnswerOfText}
 use Rattle.pawk_value.specs.Fault.{Fault}
 use Rattle.pawk_value.specs.Fault.TheVariants as faults
 use Rattle.pawk_scalar.specs.declared.faults.Stop.{Stop}
 use Rattle.pawk_scalar.specs.declared.faults.Stop.TheVariants as stop
-use Rattle.pawk_split.specs.FieldsOf.{TellsNone}
-use Rattle.pawk_search.specs.Search.{find, first_match, longest_end, match_or}
-use Rattle.pawk_search.proofs.SearchLemmas.{find_law_lem}
-use Rattle.pawk_search.proofs.ReadLemmas.{read_law_lem}
-use Rattle.pawk_meaning.specs.Builtins.{pattern_of_text, pattern_or_fault, found_by, replaced_by}
-use Rattle.pawk_code.specs.declared.word.Count.{Count}
+use Rattle.pawk_fields.specs.FieldsOf.{TellsNone}
+use Rattle.pawk_fields.specs.Search.{find, first_match, longest_end, match_or}
+use Rattle.pawk_fields.proofs.SearchLemmas.{find_law_lem}
+use Rattle.pawk_fields.proofs.ReadLemmas.{read_law_lem}
+use Rattle.pawk_semantics.specs.Builtins.{pattern_of_text, pattern_or_fault, found_by, replaced_by}
+use Rattle.pawk_code.specs.declared.word.ReplacedMatches.{ReplacedMatches}
 use Rattle.pawk_builtins.specs.MatcherViews.{IsReplaced, SaysWhetherMatches, matched_by}
 use Rattle.pawk_builtins.specs.Replaces.{Left, Replaces}
 use Rattle.pawk_builtins.specs.Settles.{Settles}
@@ -109,7 +109,7 @@ match_settles bytes s (Err stop.Memory) a t = tt
 
 -- ---- what a call of replace answers
 
-pub replace_settles : (bytes : List ℕ) (c : Count) (r s out : List ℕ) (a : Result ℕ Stop) → IfOk a (IsReplaced bytes c r s out) → IfErr a (TellsNone bytes) → Replaces (replaced_by c (pattern_of_text bytes) r s) out a
+pub replace_settles : (bytes : List ℕ) (c : ReplacedMatches) (r s out : List ℕ) (a : Result ℕ Stop) → IfOk a (IsReplaced bytes c r s out) → IfErr a (TellsNone bytes) → Replaces (replaced_by c (pattern_of_text bytes) r s) out a
 replace_settles bytes c r s out (Ok n) a t = subst (λ (e : Result Pattern Fault). Left out n (replaced_by c e r s)) (sym (spells_is bytes a.pattern a.spelled)) a.left
 replace_settles bytes c r s out (Err (stop.Fault f)) a t = ap (λ e. replaced_by c e r s) (none_is bytes f t)
 replace_settles bytes c r s out (Err stop.Memory) a t = tt

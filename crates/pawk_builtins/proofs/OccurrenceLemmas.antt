@@ -1,10 +1,10 @@
--- The first place where one text stands in another.
+-- The first place where one text occurs in another.
 use Rattle.std.proofs.Common.{◌≡◌, ℕ, inl, inr, zero, suc, ◌+◌, ◌-◌, ◌<◌, ◌≤◌, true, List, [], ◌∷◌, length, length-drop, drop, get_or, refl, sym, ap, ◌∙◌, arith, eqb-true, eq-eqb, zero-add}
 use Rattle.std.proofs.lemmas.Bool.{cases_lt, cond-true, cond-false, and_parts, and_from, false_from_ne_true}
 use Rattle.memchr.specs.Find.{Nowhere, OccursAt, Passes, is_byte}
 use Rattle.std.specs.Prelude.{slice_index}
 use Rattle.std.proofs.lemmas.List.{get_or-drop}
-use Rattle.pawk_meaning.specs.Builtins.{begins_with, index_from, index}
+use Rattle.pawk_semantics.specs.Builtins.{begins_with, index_from, index}
 
 byte_at : (s t : List ℕ) (k j n : ℕ) → OccursAt s t k → n ≡ k + j → j < length t → get_or s n 0 ≡ get_or t j 0
 byte_at s t k j n at e below = ap (λ m. get_or s m 0) e ∙ at.reads j below
@@ -73,7 +73,7 @@ index_is_some s (c ∷ t) k long at none = sym (index_some 1 s (c ∷ t) k long 
 
 -- ---- by the first byte
 
--- it stands nowhere before a place where it did not up to another, and from there on its first byte does not
+-- it occurs nowhere before a place where it did not up to another, and from there on its first byte does not
 pub none_up_to : (s t : List ℕ) (from end : ℕ) → 0 < length t → Nowhere (OccursAt s t) 0 from
     → Nowhere (Passes (is_byte (slice_index t 0)) (drop from s)) 0 end → Nowhere (OccursAt s t) 0 (from + end)
 none_up_to s t from end some before none k low high at = elim (cases_lt k from) [
@@ -84,7 +84,7 @@ none_up_to s t from end some before none k low high at = elim (cases_lt k from) 
       (eq-eqb _ _ (get_or-drop from s (k - from) 0 ∙ ap (λ n. get_or s n 0) there ∙ byte_at s t k 0 k at (omega arith) some))
 ]
 
--- it stands at a place just where it begins what is there
+-- it occurs at a place just where the text from there begins with it
 pub occurs_behind : (s t : List ℕ) (k : ℕ) → k ≤ length s → OccursAt (drop k s) t 0 → OccursAt s t k
 occurs_behind s t k le at = record {
   fits = omega (arith, at.fits, length-drop k s);

@@ -2,16 +2,16 @@
 use Rattle.std.proofs.Common.{◌≡◌, ℕ, zero, suc, ◌+◌, ◌-◌, ◌<◌, ◌≤◌, arith, Bool, true, false, cond, eqb, eqb-true, eq-eqb, Ok, IfSome, ltb, not, ◌||◌, if◌then◌else◌, Option, Some, None, List, [], ◌∷◌, ◌++◌, length, take, drop, slice_range, refl, sym, ap, ◌∙◌, subst, ⊎_elim, length-drop, append_assoc, zero-add}
 use Rattle.std.proofs.Math.Seq.{take-add}
 use Rattle.std.proofs.lemmas.List.Folds.{drop_split}
-use Rattle.pawk_code.specs.declared.word.Count.TheVariants.{First, All}
+use Rattle.pawk_code.specs.declared.word.ReplacedMatches.TheVariants.{First, All}
 use Rattle.std.proofs.lemmas.Bool.{cases_lt, and_from, and_parts, lt-ltb, le-ltb, cond-true, cond-false}
 use Rattle.std.proofs.lemmas.List.{drop-drop, append-nil}
-use Rattle.pawk_pattern.specs.Pattern.{Pattern}
-use Rattle.pawk_machine.specs.Expand.{expand}
-use Rattle.pawk_machine.specs.Regex.{Regex}
-use Rattle.pawk_machine.specs.Table.{ends_with}
-use Rattle.pawk_search.specs.Search.{find, first_match, last_end, longest_end, match_or}
-use Rattle.pawk_search.proofs.SearchLemmas.{cons_at, nil_at, find_law_lem}
-use Rattle.pawk_meaning.specs.Builtins.{Replaced, replaced, replaced_at, replacement, replace_from, replace_here, replace_end, onto, one_more}
+use Rattle.pawk_ere_syntax.specs.Pattern.{Pattern}
+use Rattle.pawk_ere_automaton.specs.Expand.{expand}
+use Rattle.pawk_ere_automaton.specs.Regex.{Regex}
+use Rattle.pawk_ere_automaton.specs.Table.{ends_with}
+use Rattle.pawk_fields.specs.Search.{find, first_match, last_end, longest_end, match_or}
+use Rattle.pawk_fields.proofs.SearchLemmas.{cons_at, nil_at, find_law_lem}
+use Rattle.pawk_semantics.specs.Builtins.{Replaced, replaced, replaced_at, replacement, replace_from, replace_here, replace_end, onto, one_more}
 use Rattle.pawk_builtins.specs.ReplaceWalks.{replaced_behind, from_behind, is_behind, match_replaced, found_replaced, is_used, IsAhead, IsNextReplaced, IsLaidOut}
 use Rattle.pawk_builtins.specs.Replaces.{Left}
 use Rattle.pawk_ere.specs.Answers.{IsAnswer}
@@ -138,7 +138,7 @@ module _ (e : Pattern) (r s : List ℕ) where
     count = (From (from_behind s m) (is_behind s m)).count + 1;
   }
 
-  -- what is laid out behind a match, at another place with the same meaning
+  -- what is written after a match, at another place with the same meaning
   same_from : (m : ℕ × ℕ) (from : ℕ) (behind : Bool) → from_behind s m ≡ from → is_behind s m ≡ behind → (t : Replaced) →
       t ≡ record { text = replacement (slice_range s m.0 m.1) r ++ (slice_range s m.1 from ++ (From from behind).text); count = (From from behind).count + 1 } →
       t ≡ record {
@@ -149,7 +149,7 @@ module _ (e : Pattern) (r s : List ℕ) where
       (λ (n : ℕ). t ≡ record { text = replacement (slice_range s m.0 m.1) r ++ (slice_range s m.1 n ++ (From n (is_behind s m)).text); count = (From n (is_behind s m)).count + 1 }) (sym f)
       (subst (λ (v : Bool). t ≡ record { text = replacement (slice_range s m.0 m.1) r ++ (slice_range s m.1 from ++ (From from v).text); count = (From from v).count + 1 }) (sym b) h)
 
-  -- the text ends behind an empty match
+  -- the text ends after an empty match
   tail_end : (i : ℕ) → i ≡ length s → drop i s ≡ [] → TailIs (i, i) []
   unfolding replace_from
   tail_end i end is =
@@ -292,7 +292,7 @@ next_passed e s p m o w found same is r = go (drop p s) refl
     go (b ∷ rest) h = passed e s p m b rest (omega arith) h found same r
         ∙ (ap (onto (b ∷ [])) (next_plain e s (p + 1) false o (omega arith) is (λ m h no. absurd cc) r) ∙ join b rest h o is)
 
--- ---- the text that is laid out
+-- ---- the text that is written
 
 pub laid_first : (e : Pattern) (r s : List ℕ) → IsLaidOut (replaced All e r s) s [] 0 0 0 (replaced_behind e r s 0 false)
 laid_first e r s = record { text = refl; number = sym (zero-add _) }

@@ -4,22 +4,22 @@ use Rattle.std.specs.declared.ops.Range.{Range}
 use Rattle.std.proofs.lemmas.Bool.{cases_lt, ltb-true, ltb-false}
 use Rattle.pawk_scalar.specs.declared.faults.Stop.{Stop}
 use Rattle.pawk_scalar.specs.declared.faults.Stop.TheVariants as stop
-use Rattle.pawk_pattern.specs.Pattern.{Pattern, StartsNone, IsLongest}
-use Rattle.pawk_pattern.specs.Tokens.{SpellsEre}
-use Rattle.pawk_machine.specs.Expand.{expand}
-use Rattle.pawk_machine.specs.Regex.{Takes}
-use Rattle.pawk_machine.proofs.Turns.{expand_is, expand_if}
+use Rattle.pawk_ere_syntax.specs.Pattern.{Pattern, StartsNone, IsLongest}
+use Rattle.pawk_ere_syntax.specs.Tokens.{SpellsEre}
+use Rattle.pawk_ere_automaton.specs.Expand.{expand}
+use Rattle.pawk_ere_automaton.specs.Regex.{Takes}
+use Rattle.pawk_ere_automaton.proofs.Turns.{expand_is, expand_if}
 use Rattle.pawk_fields.specs.FieldSeparator.{range_of}
-use Rattle.pawk_split.specs.Between.{MatchesSome, MaySeparate, AreFields, AreFieldsBetween}
-use Rattle.pawk_split.specs.FieldsOf.{AddsFields, AddsBetween, TellsNone, IfFault, IsFaultOf}
-use Rattle.pawk_split.specs.Law.{AreInOrder}
-use Rattle.pawk_split.proofs.BetweenLemmas.{some_inside}
-use Rattle.pawk_split.proofs.LawLemmas.{split_law_lem}
-use Rattle.pawk_search.specs.Search.{longest_end}
-use Rattle.pawk_search.specs.FieldList.{end_beyond, separator_end, cut_or_on, fields_behind}
-use Rattle.pawk_search.proofs.SearchLemmas.{IsCons, cons_at, nil_at, IsLongestOrNone, longest_end_is}
-use Rattle.pawk_search.proofs.FieldLemmas.{fields_law_lem}
-use Rattle.pawk_meaning.specs.Builtins.{pattern_of_text, pieces_at, pieces_by, pieces_between}
+use Rattle.pawk_fields.specs.Between.{MatchesSome, MaySeparate, AreFields, AreFieldsBetween}
+use Rattle.pawk_fields.specs.FieldsOf.{AddsFields, AddsBetween, TellsNone, IfFault, IsFaultOf}
+use Rattle.pawk_fields.specs.Law.{AreInOrder}
+use Rattle.pawk_fields.proofs.BetweenLemmas.{some_inside}
+use Rattle.pawk_fields.proofs.LawLemmas.{split_law_lem}
+use Rattle.pawk_fields.specs.Search.{longest_end}
+use Rattle.pawk_fields.specs.FieldList.{end_beyond, separator_end, cut_or_on, fields_behind}
+use Rattle.pawk_fields.proofs.SearchLemmas.{IsCons, cons_at, nil_at, IsLongestOrNone, longest_end_is}
+use Rattle.pawk_fields.proofs.FieldLemmas.{fields_law_lem}
+use Rattle.pawk_semantics.specs.Builtins.{pattern_of_text, pieces_at, pieces_by, pieces_between}
 use Rattle.pawk_builtins.proofs.MatchLemmas.{spells_is, none_is}
 use Rattle.pawk_builtins.specs.MatcherViews.{AreInside, AreBetweenMatches}
 use Rattle.pawk_builtins.specs.Pieces.{pieces_in}

@@ -3,14 +3,14 @@ use Rattle.std.specs.Prelude.{ℕ, List, map, Result}
 use Rattle.std.specs.declared.vec.Vec.{Vec}
 use Rattle.std.specs.declared.alloc.Global.{Global}
 use Rattle.pawk_value.specs.Fault.{Fault}
-use Rattle.pawk_pattern.specs.Pattern.{Pattern}
+use Rattle.pawk_ere_syntax.specs.Pattern.{Pattern}
 use Rattle.pawk_code.specs.ExpressionViews.{pattern_view}
-use Rattle.pawk_meaning.specs.Meaning.{pattern_of}
-use Rattle.pawk_builtins.specs.declared.expression.Expression.{Expression}
+use Rattle.pawk_semantics.specs.Meaning.{pattern_of}
+use Rattle.pawk_builtins.specs.declared.expression.EreReference.{EreReference}
 
--- what stands between slashes
+-- what is between slashes
 abbrev pub texts_of : List (Vec ℕ Global) → List (List ℕ)
 texts_of = map (λ x. x.items)
 
-abbrev pub expression_of : Expression → Result Pattern Fault
+abbrev pub expression_of : EreReference → Result Pattern Fault
 expression_of e = pattern_of (texts_of e.eres.now) (pattern_view e.pattern.now) e.text.now

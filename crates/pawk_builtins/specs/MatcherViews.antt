@@ -4,11 +4,11 @@ use Rattle.std.specs.List.{All}
 use Rattle.std.specs.declared.ops.Range.{Range}
 use Rattle.pawk_ere.specs.Kept.{IsOfItsText}
 use Rattle.pawk_ere.specs.declared.loan.Loan.{Loan}
-use Rattle.pawk_pattern.specs.Pattern.{Pattern, Matches, HasMatch}
-use Rattle.pawk_pattern.specs.Tokens.{SpellsEre}
-use Rattle.pawk_code.specs.declared.word.Count.{Count}
-use Rattle.pawk_meaning.specs.Builtins.{replaced, pieces_between}
-use Rattle.pawk_search.specs.Search.{find}
+use Rattle.pawk_ere_syntax.specs.Pattern.{Pattern, Matches, HasMatch}
+use Rattle.pawk_ere_syntax.specs.Tokens.{SpellsEre}
+use Rattle.pawk_code.specs.declared.word.ReplacedMatches.{ReplacedMatches}
+use Rattle.pawk_semantics.specs.Builtins.{replaced, pieces_between}
+use Rattle.pawk_fields.specs.Search.{find}
 use Rattle.pawk_value.specs.Fault.{Fault}
 use Rattle.pawk_builtins.specs.Pieces.{pieces_in}
 use Rattle.pawk_builtins.specs.Replaces.{Left}
@@ -29,8 +29,8 @@ pub record SaysWhetherMatches (bytes text : List ℕ) (holds : Bool) : Type 0 wh
   pub spelled : SpellsEre bytes pattern
   pub answer : IsTrue holds ↔ HasMatch (Matches pattern text) 0
 
--- so many matches of the expression that the bytes spell were replaced, and where there is one, the text is this
-pub record IsReplaced (bytes : List ℕ) (count : Count) (r s out : List ℕ) (n : ℕ) : Type 0 where
+-- n matches of the expression that the bytes spell were replaced, and where there is one, the text is this
+pub record IsReplaced (bytes : List ℕ) (count : ReplacedMatches) (r s out : List ℕ) (n : ℕ) : Type 0 where
   pub pattern : Pattern
   pub spelled : SpellsEre bytes pattern
   pub left : Left out n (Ok (replaced count pattern r s))

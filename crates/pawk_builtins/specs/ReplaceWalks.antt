@@ -1,14 +1,14 @@
 -- How all matches of an expression in a text are replaced by searches.
 use Rattle.std.specs.Prelude.{◌≡◌, ℕ, ◌+◌, ◌*◌, ◌-◌, ◌<◌, ◌≤◌, ◌==◌, Bool, true, false, not, ◌||◌, ◌&&◌, nat_lt, if◌then◌else◌, Option, Some, None, List, [], ◌∷◌, ◌++◌, length, drop, slice_range}
-use Rattle.pawk_pattern.specs.Pattern.{Pattern}
-use Rattle.pawk_machine.specs.Expand.{expand}
-use Rattle.pawk_meaning.specs.Builtins.{Replaced, replacement, replace_from}
+use Rattle.pawk_ere_syntax.specs.Pattern.{Pattern}
+use Rattle.pawk_ere_automaton.specs.Expand.{expand}
+use Rattle.pawk_semantics.specs.Builtins.{Replaced, replacement, replace_from}
 
 -- the text from a place on with its matches replaced, and how many they are; `behind`: a match that is not empty ended there
 abbrev pub replaced_behind : Pattern → List ℕ → List ℕ → ℕ → Bool → Replaced
 replaced_behind e r s from behind = replace_from (expand e) r from 0 behind (drop from s)
 
--- where matches are looked for behind a match: behind its end, and behind the byte that follows an empty one
+-- where matches are looked for after a match: after its end, and after the byte that follows an empty one
 abbrev pub from_behind : List ℕ → ℕ × ℕ → ℕ
 from_behind s m = if nat_lt m.0 m.1 then m.1 else if nat_lt m.1 (length s) then m.1 + 1 else m.1
 
@@ -16,7 +16,7 @@ from_behind s m = if nat_lt m.0 m.1 then m.1 else if nat_lt m.1 (length s) then 
 abbrev pub is_behind : List ℕ → ℕ × ℕ → Bool
 is_behind s m = nat_lt m.0 m.1 || not (nat_lt m.1 (length s))
 
--- a text with a match replaced, and what is before and behind it
+-- a text with a match replaced, and what is before and after it
 abbrev pub match_replaced : List ℕ → List ℕ → ℕ → ℕ × ℕ → Replaced → Replaced
 match_replaced r s from m rest =
     record {
@@ -40,7 +40,7 @@ pub record IsAhead (s : List ℕ) (from : ℕ) (behind : Bool) (m : ℕ × ℕ) 
   pub high : m.1 ≤ length s
   pub new : behind ≡ true → from < m.1
 
--- of the whole text this is laid out, and from a place on it goes on so
+-- of the whole text this is written, and from a place on it goes on so
 pub record IsLaidOut (whole : Replaced) (s out : List ℕ) (place from count : ℕ) (rest : Replaced) : Type 0 where
   pub text : whole.text ≡ out ++ (slice_range s place from ++ rest.text)
   pub number : whole.count ≡ count + rest.count

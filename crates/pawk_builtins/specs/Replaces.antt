@@ -2,10 +2,10 @@
 use Rattle.std.specs.Prelude.{◌≡◌, ◌<◌, ℕ, List, Result, Ok, Err}
 use Rattle.pawk_value.specs.Fault.{Fault}
 use Rattle.pawk_scalar.specs.declared.faults.Stop.{Stop}
-use Rattle.pawk_split.specs.FieldsOf.{IfFault}
-use Rattle.pawk_meaning.specs.Builtins.{Replaced}
+use Rattle.pawk_fields.specs.FieldsOf.{IfFault}
+use Rattle.pawk_semantics.specs.Builtins.{Replaced}
 
--- so many were replaced, and where there is one, the text is this
+-- n were replaced, and where there is one, the text is this
 abbrev pub Left : List ℕ → ℕ → Result Replaced Fault → Type 0
 Left text count (Ok r) = (r.count ≡ count) × (0 < count → r.text ≡ text)
 Left text count (Err f) = ⊥

@@ -2,7 +2,7 @@
 use Rattle.std.specs.Prelude.{◌≡◌, Result, Ok, Err}
 use Rattle.pawk_value.specs.Fault.{Fault}
 use Rattle.pawk_scalar.specs.declared.faults.Stop.{Stop}
-use Rattle.pawk_split.specs.FieldsOf.{IfFault}
+use Rattle.pawk_fields.specs.FieldsOf.{IfFault}
 
 -- the result or the fault of its definition; where memory was refused nothing is said
 abbrev pub Settles : {T X : Type 0} → (T → X) → Result X Fault → Result T Stop → Type 0

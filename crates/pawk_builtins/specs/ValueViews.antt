@@ -1,4 +1,4 @@
--- Values in one room of bytes.
+-- Values in one buffer of bytes.
 use Rattle.std.specs.Prelude.{ℕ, ◌≤◌, List, length, slice_range}
 use Rattle.std.specs.List.{All}
 use Rattle.std.specs.declared.ops.Range.{Range}

@@ -2,12 +2,12 @@
 
 ghost use Rattle.std.specs.Prelude.{◌≡◌, ◌≤◌, length, IfErr, IfOk, IfSome};
 ghost use Rattle.pawk_ere.specs.Kept.{IsOfItsText, IsOfText};
-ghost use Rattle.pawk_split.specs.FieldsOf.{TellsNone};
+ghost use Rattle.pawk_fields.specs.FieldsOf.{TellsNone};
 ghost use Rattle.pawk_builtins.specs.MatcherViews.{AreBetweenMatches, AreInside, AreOfTheirTexts};
 
 use crate::slot::fill_slot;
 use pawk_ere::{Loan, Matcher};
-use pawk_split::append_between;
+use pawk_fields::append_between;
 use pawk_value::Stop;
 use std::alloc::Global;
 use std::ops::Range;

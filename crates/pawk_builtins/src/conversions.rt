@@ -1,9 +1,9 @@
 //! What the conversions of operands give.
 
-ghost use Rattle.std.specs.Prelude.{◌≡◌, ◌≤◌, ◌<◌, ◌+◌, ◌^◌, Ok, Err, IfErr, IfSome, OnOk};
-ghost use Rattle.pawk_meaning.specs.Places.{index_by};
-ghost use Rattle.pawk_meaning.specs.Meaning.{status_by, both_of, place_of_match};
-ghost use Rattle.pawk_meaning.specs.Builtins as spec;
+ghost use Rattle.std.specs.Prelude.{◌≡◌, ◌≤◌, Ok, Err, IfErr, OnOk};
+ghost use Rattle.pawk_semantics.specs.Places.{index_by};
+ghost use Rattle.pawk_semantics.specs.Meaning.{status_by, both_of};
+ghost use Rattle.pawk_semantics.specs.Builtins as spec;
 
 use pawk_value::{Fault, LENGTH_LIMIT};
 
@@ -53,19 +53,5 @@ pub fn within_limit(text: &[u8]) -> Result<(), Fault>
         Ok(())
     } else {
         Err(Fault::Length)
-    }
-}
-
-/// What `match` sets: where the match begins, in bytes counted from 1, and how many bytes it has; 0
-/// and -1 where there is none.
-///
-/// POSIX.1-2017, awk, "String Functions" (`match`).
-pub fn match_place(found: Option<(usize, usize)>) -> (i64, i64)
-    requires { IfSome found (λ m. (m.0 ≤ m.1) × (m.1 + 1 < 2 ^ 63)) }
-    ensures { result ≡ place_of_match found }
-{
-    match found {
-        None => (0, -1),
-        Some((begin, end)) => (begin as i64 + 1, (end - begin) as i64),
     }
 }

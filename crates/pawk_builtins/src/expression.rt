@@ -1,7 +1,7 @@
 //! Regular expressions of a running program.
 
 ghost use Rattle.std.specs.Prelude.{◌≡◌, Err, MatchOption};
-ghost use Rattle.pawk_meaning.specs.Builtins.{fixed_at, pattern_of_text};
+ghost use Rattle.pawk_semantics.specs.Builtins.{fixed_at, pattern_of_text};
 ghost use Rattle.pawk_builtins.specs.ExpressionViews.{expression_of, texts_of};
 ghost use Rattle.pawk_value.specs.Fault.TheVariants as faults;
 
@@ -9,8 +9,8 @@ use pawk_code::expression::Pattern;
 
 /// A regular expression of a running program.
 #[derive(Clone, Copy)]
-pub struct Expression<'e> {
-    /// What stands between the slashes of the program, by numbers.
+pub struct EreReference<'e> {
+    /// What is between the slashes of the program, by numbers.
     pub eres: &'e [Vec<u8>],
     /// Where the expression comes from.
     pub pattern: &'e Pattern,
@@ -27,7 +27,7 @@ pub(crate) fn fixed_text(eres: &[Vec<u8>], number: usize) -> Option<&[u8]>
 }
 
 /// The text that is to be read as the expression, if there is one.
-pub(crate) fn spelled_text<'e>(expression: Expression<'e>) -> Option<&'e [u8]>
+pub(crate) fn spelled_text<'e>(expression: EreReference<'e>) -> Option<&'e [u8]>
     ensures { MatchOption result (expression_of expression.entry ≡ Err faults.Ere)
         (λ text. expression_of expression.entry ≡ pattern_of_text text.now) }
 {

@@ -1,4 +1,7 @@
 //! The built-in functions of awk, on what their operands were converted to.
+//!
+//! `inline(always)` marks what every record or byte passes through, `inline(never)` what is rare, so that the locals of
+//! rare arms are not cleared in hot functions (counted by bench/).
 #![tactic(auto)]
 
 mod between;
@@ -15,8 +18,8 @@ mod slot;
 mod substrings;
 mod values;
 
-pub use conversions::{both, exit_status, field_index, match_place, within_limit};
-pub use expression::Expression;
+pub use conversions::{both, exit_status, field_index, within_limit};
+pub use expression::EreReference;
 pub use formats::format_values;
 pub use letters::push_letters;
 pub use matchers::Matchers;

@@ -3,8 +3,8 @@
 ghost use Rattle.std.specs.Prelude.{◌≡◌, ◌≤◌, ◌<◌, ◌+◌, ◌^◌, [], length, map, slice_range, IfErr, IfOk, IfSome};
 ghost use Rattle.std.specs.List.{All};
 ghost use Rattle.pawk_ere.specs.Kept.{IsAnswerOfText};
-ghost use Rattle.pawk_split.specs.FieldsOf.{TellsNone};
-ghost use Rattle.pawk_meaning.specs.Builtins.{found_by, replaced_by, pieces_by, pieces_between, fixed_at};
+ghost use Rattle.pawk_fields.specs.FieldsOf.{TellsNone};
+ghost use Rattle.pawk_semantics.specs.Builtins.{found_by, replaced_by, pieces_by, pieces_between, fixed_at};
 ghost use Rattle.pawk_builtins.specs.ExpressionViews.{expression_of, texts_of};
 ghost use Rattle.pawk_builtins.specs.MatcherViews.{AreOfTheirTexts, IsReplaced, SaysWhetherMatches, matched_by};
 ghost use Rattle.pawk_builtins.specs.Pieces.{pieces_in};
@@ -12,13 +12,13 @@ ghost use Rattle.pawk_builtins.specs.Replaces.{Replaces};
 ghost use Rattle.pawk_builtins.specs.Settles.{Settles};
 
 use crate::between::split_fixed;
-use crate::expression::{Expression, fixed_text, spelled_text};
+use crate::expression::{EreReference, fixed_text, spelled_text};
 use crate::replace::{Change, replace_fixed, replace_lent};
 use crate::slot::{find_in, matches_in};
 use pawk_code::expression::Pattern;
-use pawk_code::word::Count;
+use pawk_code::word::ReplacedMatches;
 use pawk_ere::{Cache, Loan};
-use pawk_split::{Finder, split_fields_with};
+use pawk_fields::{Finder, split_fields_with};
 use pawk_value::{Fault, Stop};
 use std::alloc::{AllocError, Global};
 use std::marker::Model;
@@ -51,7 +51,7 @@ impl Model for Matchers {
     ghost invariant = { λ m. AreOfTheirTexts m.fixed.items × (m.cache ≡ cache_size) };
 }
 
-/// Places for so many matchers, with none there.
+/// Places for `count` matchers, with none there.
 fn empty_slots(alloc: Global, count: usize) -> Result<Vec<Option<Loan>>, AllocError>
     ensures { IfOk result (λ slots. AreOfTheirTexts slots.items) }
 {
@@ -101,7 +101,7 @@ fn matches_fixed(
 }
 
 impl Matchers {
-    /// The matchers of a run of a program with so many expressions between slashes.
+    /// The matchers of a run of a program with this number of expressions between slashes.
     pub fn new(alloc: Global, expressions: usize) -> Result<Matchers, AllocError> {
         Ok(Matchers {
             alloc,
@@ -137,7 +137,7 @@ impl Matchers {
     #[inline(always)]
     pub fn find(
         &mut self,
-        expression: Expression<'_>,
+        expression: EreReference<'_>,
         text: &[u8],
     ) -> Result<Option<(usize, usize)>, Stop>
         ensures answer { Settles (λ found. found)
@@ -163,7 +163,7 @@ impl Matchers {
     ///
     /// POSIX.1-2017, awk, "Regular Expressions".
     #[inline(always)]
-    pub fn is_match(&mut self, expression: Expression<'_>, text: &[u8]) -> Result<bool, Stop>
+    pub fn is_match(&mut self, expression: EreReference<'_>, text: &[u8]) -> Result<bool, Stop>
         ensures { Settles (λ holds. holds)
             (matched_by (expression_of expression.entry) text.now) result }
     {
@@ -199,15 +199,15 @@ impl Matchers {
     }
 
     /// Replaces the first match in a text, or all from left to right, and says how many. The new text
-    /// is laid into `out`, which was empty, where there is one; nothing is copied where nothing matches.
+    /// is written into `out`, which was empty, where there is one; nothing is copied where nothing matches.
     ///
     /// Fault `ere` as [`Matchers::find`] has it.
     ///
     /// POSIX.1-2017, awk, "String Functions" (`sub`, `gsub`).
     pub fn replace(
         &mut self,
-        count: Count,
-        expression: Expression<'_>,
+        count: ReplacedMatches,
+        expression: EreReference<'_>,
         replacement: &[u8],
         text: &[u8],
         out: &mut Vec<u8>,

@@ -1,8 +1,8 @@
-//! Where one text stands in another.
+//! Where one text occurs in another.
 
 ghost use Rattle.std.specs.Prelude.{◌≡◌, ◌<◌, length};
 ghost use Rattle.memchr.specs.Find.{FindsNeedle};
-ghost use Rattle.pawk_meaning.specs.Builtins as spec;
+ghost use Rattle.pawk_semantics.specs.Builtins as spec;
 
 use memchr::arch::all::is_prefix;
 use memchr::{memchr, memmem};
@@ -10,7 +10,7 @@ use memchr::{memchr, memmem};
 /// In a text of fewer bytes each place of the first byte is tried; a longer one is worth the search for a rare byte.
 const SHORT: usize = 24;
 
-/// The first byte at which one text stands in a short one, counted from 0.
+/// The first byte at which one text occurs in a short one, counted from 0.
 fn find_short(text: &[u8], sought: &[u8]) -> Option<usize>
     requires { 0 < length sought.now }
     ensures { FindsNeedle text.now sought.now 0 result }
@@ -28,7 +28,7 @@ fn find_short(text: &[u8], sought: &[u8]) -> Option<usize>
     None
 }
 
-/// The first byte at which one text stands in another, counted from 0.
+/// The first byte at which one text occurs in another, counted from 0.
 fn find(text: &[u8], sought: &[u8]) -> Option<usize>
     requires { 0 < length sought.now }
     ensures { FindsNeedle text.now sought.now 0 result }
@@ -39,7 +39,7 @@ fn find(text: &[u8], sought: &[u8]) -> Option<usize>
     memmem::find(text, sought)
 }
 
-/// The place where one text first stands in another, in bytes counted from 1; 0 where it does not,
+/// The place where one text first occurs in another, in bytes counted from 1; 0 where it does not,
 /// and for an empty one.
 ///
 /// POSIX.1-2017, awk, "String Functions" (`index`).

@@ -1,21 +1,21 @@
 //! Replacing matches.
 
 ghost use Rattle.std.specs.Prelude.{◌≡◌, ◌+◌, ◌^◌, ◌<◌, ◌≤◌, ◌++◌, [], false, ℕ, Ok, length, slice_range, IfErr, IfOk, IfSome, OnOk};
-ghost use Rattle.pawk_pattern.specs.Pattern.{Pattern};
+ghost use Rattle.pawk_ere_syntax.specs.Pattern.{Pattern};
 ghost use Rattle.pawk_ere.specs.Answers.{IsFor};
-ghost use Rattle.pawk_search.specs.Search as search;
-ghost use Rattle.pawk_meaning.specs.Builtins.{replaced};
-ghost use Rattle.pawk_meaning.specs.Builtins as spec;
+ghost use Rattle.pawk_fields.specs.Search as search;
+ghost use Rattle.pawk_semantics.specs.Builtins.{replaced};
+ghost use Rattle.pawk_semantics.specs.Builtins as spec;
 ghost use Rattle.pawk_builtins.specs.ReplaceWalks as spec_walks;
 ghost use Rattle.pawk_builtins.specs.ReplaceWalks.{from_behind, is_behind, IsAhead, IsNextReplaced};
 ghost use Rattle.pawk_builtins.specs.Replaces.{Left};
 ghost use Rattle.pawk_builtins.specs.MatcherViews.{AreOfTheirTexts, IsReplaced};
 ghost use Rattle.pawk_ere.specs.Kept.{IsOfItsText};
-ghost use Rattle.pawk_split.specs.FieldsOf.{TellsNone};
+ghost use Rattle.pawk_fields.specs.FieldsOf.{TellsNone};
 
 use crate::replacement::{push_piece, push_replacement};
 use crate::slot::{fill_slot, lend_matcher};
-use pawk_code::word::Count;
+use pawk_code::word::ReplacedMatches;
 use pawk_ere::{Cache, Loan, Matcher};
 use pawk_value::Stop;
 use std::alloc::{AllocError, Global};
@@ -55,7 +55,7 @@ fn next_match(
     matcher.find(text, from + 1)
 }
 
-/// Where matches are looked for behind a match, and whether an empty one there is none.
+/// Where matches are looked for after a match, and whether an empty one there is none.
 fn place_behind(text: &[u8], begin: usize, end: usize) -> (usize, bool)
     requires { end ≤ length text.now }
     ensures place { result ≡ (from_behind text.now (begin, end), is_behind text.now (begin, end)) }
@@ -87,7 +87,7 @@ fn push_match(
     push_replacement(out, &text[found.0..found.1], replacement)
 }
 
-/// Lays a text with all matches replaced into `out`, which was empty, if there are some, and says how
+/// Writes a text with all matches replaced into `out`, which was empty, if there are some, and says how
 /// many.
 fn replace_all(
     matcher: &mut Matcher,
@@ -99,7 +99,7 @@ fn replace_all(
     requires short { length text.now + 1 < 2 ^ 63 }
     requires empty { out.old.items ≡ [] }
     ensures text { (e : Pattern) → IsFor e matcher.old → IfOk result
-        (λ n. Left out.new.items n (Ok (replaced Count.All e replacement.now text.now))) }
+        (λ n. Left out.new.items n (Ok (replaced ReplacedMatches.All e replacement.now text.now))) }
     ensures few { IfOk result (λ n. n < 2 ^ 63) }
     ensures matcher { matcher.new ≡ matcher.old }
 {
@@ -130,7 +130,7 @@ fn first_match(matcher: &mut Matcher, text: &[u8]) -> Result<Option<(usize, usiz
     matcher.find(text, 0)
 }
 
-/// Lays a text with the first match replaced into `out`, which was empty, if there is one, and says
+/// Writes a text with the first match replaced into `out`, which was empty, if there is one, and says
 /// how many.
 fn replace_first(
     matcher: &mut Matcher,
@@ -141,7 +141,7 @@ fn replace_first(
     requires matcher { (e : Pattern) × IsFor e matcher.old }
     requires empty { out.old.items ≡ [] }
     ensures text { (e : Pattern) → IsFor e matcher.old → IfOk result
-        (λ n. Left out.new.items n (Ok (replaced Count.First e replacement.now text.now))) }
+        (λ n. Left out.new.items n (Ok (replaced ReplacedMatches.First e replacement.now text.now))) }
     ensures few { IfOk result (λ n. n < 2 ^ 63) }
     ensures matcher { matcher.new ≡ matcher.old }
 {
@@ -157,14 +157,14 @@ fn replace_first(
 #[derive(Clone, Copy)]
 pub(crate) struct Change<'c> {
     /// Whether the first match is replaced, or all.
-    pub(crate) count: Count,
+    pub(crate) count: ReplacedMatches,
     /// What a match is replaced by, with ampersands and backslashes.
     pub(crate) replacement: &'c [u8],
     /// The text.
     pub(crate) text: &'c [u8],
 }
 
-/// Lays a text with the first match or all replaced into `out`, which was empty, if there are some,
+/// Writes a text with the first match or all replaced into `out`, which was empty, if there are some,
 /// and says how many.
 fn replace_with(
     matcher: &mut Matcher,
@@ -181,8 +181,8 @@ fn replace_with(
     ensures matcher { matcher.new ≡ matcher.old }
 {
     match change.count {
-        Count::First => replace_first(matcher, change.replacement, change.text, out),
-        Count::All => replace_all(matcher, change.replacement, change.text, out),
+        ReplacedMatches::First => replace_first(matcher, change.replacement, change.text, out),
+        ReplacedMatches::All => replace_all(matcher, change.replacement, change.text, out),
     }
 }
 

@@ -1,7 +1,7 @@
 //! What stands for a match.
 
 ghost use Rattle.std.specs.Prelude.{◌≡◌, ◌≤◌, ◌∷◌, ◌++◌, ℕ, List, true, length, IfOk, OnOk};
-ghost use Rattle.pawk_meaning.specs.Builtins as spec;
+ghost use Rattle.pawk_semantics.specs.Builtins as spec;
 ghost use Rattle.pawk_builtins.specs.ReplaceWalks.{begins_escaped};
 
 use memchr::memchr2;
@@ -30,7 +30,7 @@ pub(crate) fn push_piece(out: &mut Vec<u8>, text: &[u8]) -> Result<(), AllocErro
     Ok(())
 }
 
-/// Appends what the first byte of a replacement stands for, with the byte behind a backslash; gives
+/// Appends what the first byte of a replacement stands for, with the byte after a backslash; gives
 /// the rest of the replacement.
 fn push_unit<'r>(
     out: &mut Vec<u8>,

@@ -2,13 +2,13 @@
 
 ghost use Rattle.std.specs.Prelude.{◌≡◌, ℕ, List, true, IfErr, IfOk, IfSome, IsSomeAnd, OnOk};
 ghost use Rattle.pawk_ere.specs.Kept.{IsAnswerOfText, IsOfItsText, IsOfText};
-ghost use Rattle.pawk_pattern.specs.Refusals.{Tells};
-ghost use Rattle.pawk_pattern.specs.Tokens.{SpellsNone};
-ghost use Rattle.pawk_split.specs.FieldsOf.{TellsNone};
+ghost use Rattle.pawk_ere_syntax.specs.Refusals.{Tells};
+ghost use Rattle.pawk_ere_syntax.specs.Tokens.{SpellsNone};
+ghost use Rattle.pawk_fields.specs.FieldsOf.{TellsNone};
 ghost use Rattle.pawk_builtins.specs.MatcherViews.{SaysWhetherMatches};
 
 use pawk_ere::{Cache, EreRefusal, Loan};
-use pawk_split::expression_matcher;
+use pawk_fields::expression_matcher;
 use pawk_value::{Fault, Stop};
 use std::alloc::Global;
 

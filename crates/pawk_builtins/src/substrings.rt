@@ -1,10 +1,10 @@
 //! Parts of texts by their places.
 
 ghost use Rattle.std.specs.Prelude.{◌≡◌, pos, int_le, length};
-ghost use Rattle.pawk_meaning.specs.Builtins.{bytes_where, is_from};
+ghost use Rattle.pawk_semantics.specs.Builtins.{bytes_where, is_from};
 ghost use Rattle.pawk_builtins.specs.PlaceViews.{before};
 
-/// How many bytes of a text stand before a place, which is counted from 1.
+/// How many bytes of a text are before a place, which is counted from 1.
 fn count_before(text: &[u8], place: i128) -> usize
     ensures { result ≡ before place (length text.now) }
 {

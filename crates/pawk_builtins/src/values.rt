@@ -1,4 +1,4 @@
-//! Values in one room of bytes.
+//! Values in one buffer of bytes.
 
 ghost use Rattle.std.specs.Prelude.{◌≡◌, ◌++◌, ◌∷◌, [], map, IfOk, OnOk};
 ghost use Rattle.pawk_value.specs.Value.{lent_value};
@@ -9,7 +9,7 @@ use std::alloc::{AllocError, Global};
 use std::marker::Model;
 use std::ops::Range;
 
-/// Values in their order, in one room of bytes.
+/// Values in their order, in one buffer of bytes.
 #[derive(Drop)]
 pub struct Values {
     bytes: Vec<u8>,

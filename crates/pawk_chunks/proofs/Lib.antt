@@ -1,4 +1,6 @@
-pub mod JoinLemmas
-pub mod OpeningLemmas
-pub mod StepLemmas
-pub mod ReadyLemmas
+pub mod StateLemmas
+pub mod WorkerLemmas
+pub mod GatheringLemmas
+pub mod OrderLemmas
+pub mod States
+pub mod Tasks

@@ -1,55 +1,68 @@
--- The same records in chunks: what each one tells, and what the merge of that gives.
-use Rattle.std.specs.Prelude.{◌≡◌, ℕ, ◌+◌, List, [], ◌∷◌, length, flat_map, All, None, MatchResult}
-use Rattle.pawk_input.specs.Input.{Item}
+-- What chunks begin with and what they leave.
+use Rattle.std.specs.Prelude.{◌≡◌, ℕ, List, [], ◌∷◌, None}
+use Rattle.pawk_code.specs.Programs.{Code}
+use Rattle.pawk_code.specs.ProgramViews.{code_view}
+use Rattle.pawk_input.specs.Input.{File}
+use Rattle.pawk_input.specs.Plan.{chunk_items}
+use Rattle.pawk_input.specs.declared.cutting.Chunk.{Chunk}
+use Rattle.pawk_store.specs.Globals.{Globals}
 use Rattle.pawk_store.specs.RecordStates.{RecordState}
+use Rattle.pawk_store.specs.StateViews.{state_of}
+use Rattle.pawk_admit.specs.Roles.{Roles, roles_view}
 use Rattle.pawk_frozen.specs.Frozens.{Frozen, begun, calls}
-use Rattle.pawk_meaning.specs.Records.{through, End}
-use Rattle.pawk_meaning.specs.Runs.{records_from}
-use Rattle.pawk_meaning.specs.Steady.{AreSameButRecord}
-use Rattle.pawk_join.specs.Merges.{Chunk, merge}
-use Rattle.pawk_chunks.specs.Phases.{Phase, MayRun, opening, in_order, FaultsOrCreates}
+use Rattle.pawk_semantics.specs.Records.{End, through}
+use Rattle.pawk_semantics.specs.Runs.{records_from}
+use Rattle.pawk_sequential.specs.Ends.{left_view}
+use Rattle.pawk_chunks.specs.declared.chunk.ChunkResult.{ChunkResult}
+use Rattle.pawk_chunks.specs.declared.chunk.Opening.{Opening as CodeOpening}
 
--- how a chunk ends that is run from this record state over the globals that BEGIN left, with nothing noted and nothing
--- written
-abbrev pub chunk_end : Phase → RecordState → List Item → End Frozen
-chunk_end p state items =
-    records_from calls p.eres p.code p.budget None
-    (record { world = begun p.globals p.roles; state = state; output = []; left = through })
-    items
+-- What the chunks of a run begin with: the program, the steps that each record may take, the globals and the record state
+-- that BEGIN left, with RS taken, and what the records do with each global.
+pub record Opening : Type 0 where
+  pub code : Code
+  pub budget : ℕ
+  pub globals : Globals
+  pub roles : Roles
+  pub state : RecordState
 
--- the table of what a chunk noted, and its record state, output and way of leaving
-abbrev pub leavings : End Frozen → Chunk
-leavings e = record { table = e.world.table; state = e.state; output = e.output; left = e.left }
+abbrev pub opening_view : CodeOpening → Opening
+opening_view o = record {
+  code = code_view o.job.code.now;
+  budget = o.job.budget;
+  globals = o.globals.now;
+  roles = roles_view o.roles.now;
+  state = state_of o.state.now;
+}
 
--- What a chunk tells that comes after this many records: it is run from the record state that BEGIN left, with that NR; the
--- record, FNR and FILENAME are of no consequence.
-abbrev pub IsTold : Phase → ℕ → List Item → Chunk → Type 0
-IsTold p nr items c =
-    (state : RecordState) × AreSameButRecord (record p.state { nr = nr }) state × (c ≡ leavings (chunk_end p state items))
+-- the record state that BEGIN left, with the NR before the chunk and without a record
+abbrev pub chunk_state : ℕ → RecordState → RecordState
+chunk_state nr state = record state { line = record { text = []; fields = [] }; nr = nr }
 
--- What chunks tell in their order, of which the first comes after this many records: of each one up to the first that is not
--- left through. Nothing is said of what follows that one.
-abbrev pub Ran : Phase → ℕ → List (List Item) → List Chunk → Type 0
-Ran p nr [] [] = Unit {0}
-Ran p nr [] (c ∷ cs) = ⊥
-Ran p nr (is ∷ iss) [] = ⊥
-Ran p nr (is ∷ iss) (c ∷ cs) = IsTold p nr is c × (c.left ≡ through → Ran p (nr + length is) iss cs)
+-- a chunk begins with the globals and the record state that BEGIN left; nothing is noted, and nothing written
+abbrev pub chunk_begin : Globals → Roles → ℕ → RecordState → End Frozen
+chunk_begin fixed roles nr state = record {
+  world = begun fixed roles;
+  state = chunk_state nr state;
+  output = [];
+  left = through;
+}
 
-abbrev pub HasRecord : List Item → Type 0
-HasRecord [] = ⊥
-HasRecord (i ∷ is) = Unit {0}
+-- how the records of a chunk of files end
+abbrev pub chunk_end : Opening → List ℕ → List File → Chunk → End Frozen
+chunk_end o rs files c =
+    records_from calls o.code.expressions o.code o.budget None (chunk_begin o.globals o.roles c.nr o.state) (chunk_items rs files c)
 
--- all records, in order
-abbrev pub all_of : List (List Item) → List Item
-all_of chunks = flat_map (λ items. items) chunks
+-- the table, the record state, the output and the way of leaving are those with which the records end
+pub record Leaves (end : End Frozen) (result : ChunkResult) : Type 0 where
+  pub table : end.world.table ≡ result.table
+  pub state : end.state ≡ state_of result.state
+  pub output : end.output ≡ result.output.items
+  pub left : end.left ≡ left_view result.left
 
--- Chunks of records, each of which has one, are merged: then the records in order end with the same globals, record state,
--- output and way of leaving. Or the merge stops; it does so exactly where the records in order end in a fault, or create an
--- element of an array that is no reader array.
-abbrev pub ChunksLaw : Type 0
-ChunksLaw =
-    (p : Phase) → MayRun p →
-    (chunks : List (List Item)) (told : List Chunk) → All HasRecord chunks → Ran p p.state.nr chunks told →
-    MatchResult (merge told (opening p))
-    (λ e. (in_order p (all_of chunks) ≡ e) × ¬ FaultsOrCreates p (all_of chunks))
-    (λ stop. FaultsOrCreates p (all_of chunks))
+-- What chunks leave in their order: each one up to the first that is not left through what its records end with. Nothing is
+-- said of what follows that one.
+abbrev pub AreResults : (Chunk → End Frozen) → List Chunk → List ChunkResult → Type 0
+AreResults end [] [] = Unit {0}
+AreResults end [] (r ∷ rs) = ⊥
+AreResults end (c ∷ cs) [] = ⊥
+AreResults end (c ∷ cs) (r ∷ rs) = Leaves (end c) r × (left_view r.left ≡ through → AreResults end cs rs)

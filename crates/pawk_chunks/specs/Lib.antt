@@ -1,3 +1,6 @@
-pub mod Phases
 pub mod Chunks
-pub mod Ready
+pub use Rattle.pawk_sequential.specs.Ends
+pub use Rattle.pawk_sequential.specs.declared.left.Left
+pub mod Task
+pub mod Worker
+pub mod Shifts

@@ -1,9 +1,19 @@
-//! The law that chunks of records and the merge of what they noted give the records in order, and
-//! whether records may be run so.
+//! Chunks of the records, each run over the globals that `BEGIN` left, by workers in threads, for any
+//! program.
 #![tactic(auto)]
 
-pub mod law;
-mod numbers;
-mod ready;
+mod chunk;
+mod gathering;
+mod limits;
+mod shifts;
+mod task;
+mod worker;
 
-pub use ready::may_run;
+pub use chunk::{ChunkResult, Opening, run_chunk};
+pub use gathering::run_chunks;
+pub use limits::STACK_BYTES;
+pub use pawk_sequential::Left;
+pub use pawk_workers::{CrewRefusal, Gate, Open};
+pub use shifts::{Shift, all_work};
+pub use task::{Chunked, Task};
+pub use worker::work;

@@ -4,8 +4,8 @@ use mathlib.Core.Former.{Count}
 use Rattle.std.specs.declared.vec.Vec.{Vec}
 use Rattle.std.specs.declared.alloc.Global.{Global}
 use Rattle.pawk_code.specs.declared.name.Array.{Array}
-use Rattle.pawk_code.specs.declared.expression.Place.{Place as CodePlace, Row_of-Expr, end_of-Expr, more_of-Expr, items-the_row-Expr, items_hidden-the_row-Expr-1}
-use Rattle.pawk_code.specs.declared.expression.Place as code_place
+use Rattle.pawk_code.specs.declared.expression.Lvalue.{Lvalue as CodePlace, Row_of-Expr, end_of-Expr, more_of-Expr, items-the_row-Expr, items_hidden-the_row-Expr-1}
+use Rattle.pawk_code.specs.declared.expression.Lvalue as code_place
 use Rattle.pawk_code.specs.declared.expression.Format.{Format as CodeFormat}
 use Rattle.pawk_code.specs.declared.expression.Test.{Test as CodeTest}
 use Rattle.pawk_code.specs.declared.expression.Test as code_test

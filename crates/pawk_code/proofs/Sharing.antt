@@ -13,7 +13,7 @@ use Rattle.pawk_code.specs.contracts.statement.Leave as Leave
 use Rattle.pawk_code.specs.contracts.statement.Operands as Operands
 use Rattle.pawk_code.specs.contracts.statement.Head as Head
 use Rattle.pawk_code.specs.contracts.expression.Expr as Expr
-use Rattle.pawk_code.specs.contracts.expression.Place as Place
+use Rattle.pawk_code.specs.contracts.expression.Lvalue as Lvalue
 use Rattle.pawk_code.specs.contracts.expression.Format as Format
 use Rattle.pawk_code.specs.contracts.word.Sign as Sign
 use Rattle.pawk_code.specs.contracts.word.Step as Step
@@ -25,7 +25,7 @@ use Rattle.pawk_code.specs.contracts.program.Selector as Selector
 use Rattle.pawk_code.specs.contracts.program.Rule as Rule
 use Rattle.pawk_code.specs.contracts.program.Function as Function
 use Rattle.pawk_code.specs.contracts.program.Code as Code
-use Rattle.pawk_code.specs.contracts.program.Kind as Kind
+use Rattle.pawk_code.specs.contracts.program.ParameterKind as ParameterKind
 use Rattle.pawk_code.proofs.expression.Argument.TheLaws.TheKnot as knot
 
 pub sign_sync : IsSync (Sign.the_field).row
@@ -40,7 +40,7 @@ array_sync = search sendable depth 40
 pub expr_sync : IsSync (Expr.the_field).row
 expr_sync = search (sendable, crosses, knot.crosses) depth 60 fits 200000
 
-pub place_sync : IsSync (Place.the_field).row
+pub place_sync : IsSync (Lvalue.the_field).row
 place_sync = search (sendable, crosses, knot.crosses) depth 60 fits 200000
 
 pub format_sync : IsSync (Format.the_field).row
@@ -106,7 +106,7 @@ rule_row_sync = search (sendable, rule_sync) depth 3
 pub rules_sync : IsSync (Vec.the_field Rule.the_row Global.the_row ghosts).row
 rules_sync = search (sendable, crosses, rule_row_sync) depth 20
 
-pub kinds_sync : IsSync (Vec.the_field Kind.the_row Global.the_row ghosts).row
+pub kinds_sync : IsSync (Vec.the_field ParameterKind.the_row Global.the_row ghosts).row
 kinds_sync = search (sendable, crosses) depth 30 fits 20000
 
 pub function_sync : IsSync (Function.the_field).row

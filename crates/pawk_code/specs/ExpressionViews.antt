@@ -2,8 +2,8 @@
 use Rattle.std.specs.Prelude.{List, map}
 use Rattle.pawk_code.specs.declared.leaf.Leaf.{Leaf as CodeLeaf}
 use Rattle.pawk_code.specs.declared.leaf.Leaf.TheVariants as code_leaf
-use Rattle.pawk_code.specs.declared.expression.Place.{Place as CodePlace, Row_of-Expr, end_of-Expr, more_of-Expr}
-use Rattle.pawk_code.specs.declared.expression.Place as code_place
+use Rattle.pawk_code.specs.declared.expression.Lvalue.{Lvalue as CodePlace, Row_of-Expr, end_of-Expr, more_of-Expr}
+use Rattle.pawk_code.specs.declared.expression.Lvalue as code_place
 use Rattle.pawk_code.specs.declared.expression.Pattern.{Pattern as CodePattern}
 use Rattle.pawk_code.specs.declared.expression.Pattern as code_pattern
 use Rattle.pawk_code.specs.declared.expression.FieldsBy.{FieldsBy as CodeFieldsBy}

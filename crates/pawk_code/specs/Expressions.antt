@@ -6,7 +6,7 @@ use Rattle.pawk_code.specs.declared.leaf.Special.{Special}
 use Rattle.pawk_code.specs.declared.word.Sign.{Sign}
 use Rattle.pawk_code.specs.declared.word.Step.{Step}
 use Rattle.pawk_code.specs.declared.word.Relation.{Relation}
-use Rattle.pawk_code.specs.declared.word.Count.{Count}
+use Rattle.pawk_code.specs.declared.word.ReplacedMatches.{ReplacedMatches}
 use Rattle.pawk_code.specs.declared.word.Case.{Case}
 
 -- the bytes of a text
@@ -49,7 +49,7 @@ mutual
     step : Step → Place → Numeric
     function : NumericFunction → Numeric
     split : Expr → Array → FieldsBy → Numeric
-    replace : Count → Pattern → Expr → Place → Numeric
+    replace : ReplacedMatches → Pattern → Expr → Place → Numeric
     find : Expr → Pattern → Numeric
 
   pub data NumericFunction : Type 0 where

@@ -1,6 +1,6 @@
 -- Code without where it lies in memory.
 use Rattle.std.specs.Prelude.{ℕ, List}
-use Rattle.pawk_code.specs.declared.program.Kind.{Kind}
+use Rattle.pawk_code.specs.declared.program.ParameterKind.{ParameterKind}
 use Rattle.pawk_code.specs.Expressions.{Text, Expr}
 use Rattle.pawk_code.specs.Statements.{Stmts}
 
@@ -14,7 +14,7 @@ pub record Rule : Type 0 where
   pub body : Stmts
 
 pub record Function : Type 0 where
-  pub kinds : List Kind
+  pub kinds : List ParameterKind
   pub body : Stmts
 
 pub record Code : Type 0 where

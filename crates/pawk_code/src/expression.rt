@@ -3,13 +3,13 @@
 use crate::format::FixedFormat;
 use crate::leaf::Leaf;
 use crate::name::Array;
-use crate::word::{Case, Count, Relation, Sign, Step};
+use crate::word::{Case, Relation, ReplacedMatches, Sign, Step};
 use pawk_scalar::Op;
 
 /// What can be assigned.
 #[cycle(code)]
 #[derive(Drop)]
-pub enum Place {
+pub enum Lvalue {
     /// The global scalar of this slot.
     Global(usize),
     /// The parameter of this number.
@@ -67,14 +67,14 @@ pub enum Numeric {
     Arithmetic(Op, Box<Expr>, Box<Expr>),
     Sign(Sign, Box<Expr>),
     /// `a += b` and the like.
-    Change(Op, Place, Box<Expr>),
+    Change(Op, Lvalue, Box<Expr>),
     /// `a++` and the like.
-    Step(Step, Place),
+    Step(Step, Lvalue),
     Function(NumericFunction),
     /// `split`: the text, the array that is filled, and what separates.
     Split(Box<Expr>, Array, FieldsBy),
-    /// `sub` and `gsub`: the pattern, the replacement, and where the text stands.
-    Replace(Count, Pattern, Box<Expr>, Place),
+    /// `sub` and `gsub`: the pattern, the replacement, and the place of the text.
+    Replace(ReplacedMatches, Pattern, Box<Expr>, Lvalue),
     /// `match`
     Find(Box<Expr>, Pattern),
 }
@@ -116,10 +116,10 @@ pub enum Expr {
     Numeric(Numeric),
     Test(Test),
     Textual(Textual),
-    Read(Place),
+    Read(Lvalue),
     /// `c ? a : b`
     Choice(Box<Expr>, Box<Expr>, Box<Expr>),
-    Assign(Place, Box<Expr>),
+    Assign(Lvalue, Box<Expr>),
     /// A call of the function of this slot.
     Call(usize, Vec<Argument>),
 }

@@ -15,7 +15,7 @@ pub struct FixedFormat {
 }
 
 impl FixedFormat {
-    /// Reads a format. It is refused for want of memory alone.
+    /// Reads a format. It is refused only where an allocation is refused.
     pub fn read(alloc: Global, text: &[u8]) -> Result<FixedFormat, AllocError>
         ensures { IfOk result (λ format. format.text.items ≡ text.now) }
     {

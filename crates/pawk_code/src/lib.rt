@@ -7,5 +7,6 @@ pub mod format;
 pub mod leaf;
 pub mod name;
 pub mod program;
+pub mod slots;
 pub mod statement;
 pub mod word;

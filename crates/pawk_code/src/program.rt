@@ -5,7 +5,7 @@ use crate::statement::Statement;
 
 /// What a parameter is.
 #[derive(Clone, Copy, PartialEq, Eq)]
-pub enum Kind {
+pub enum ParameterKind {
     Scalar,
     Array,
 }
@@ -13,7 +13,7 @@ pub enum Kind {
 /// A function: the kind of each parameter, and the body.
 #[derive(Drop)]
 pub struct Function {
-    pub kinds: Vec<Kind>,
+    pub kinds: Vec<ParameterKind>,
     pub body: Vec<Statement>,
 }
 
@@ -46,7 +46,7 @@ pub struct Code {
     pub scalars: Vec<Vec<u8>>,
     /// The names of global arrays, by their slots.
     pub arrays: Vec<Vec<u8>>,
-    /// What stands between the slashes of the program, each text once, by the numbers that the code
+    /// What is between the slashes of the program, each text once, by the numbers that the code
     /// has for it.
     pub expressions: Vec<Vec<u8>>,
 }

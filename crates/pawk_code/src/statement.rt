@@ -5,7 +5,7 @@ ghost use Rattle.pawk_code.specs.Expressions.{exprs};
 ghost use Rattle.pawk_code.specs.ExpressionViews.{views};
 ghost use Rattle.pawk_code.specs.Calm.{are_calm};
 
-use crate::expression::{Expr, Format, Place};
+use crate::expression::{Expr, Format, Lvalue};
 use crate::name::{Array, Variable};
 use crate::word::{Sign, Step};
 
@@ -24,11 +24,11 @@ pub enum Simple {
     /// An expression whose value is dropped.
     Drop(Expr),
     /// `a = b;`
-    Set(Place, Expr),
+    Set(Lvalue, Expr),
     /// `a += b;` and `a -= b;`
-    Add(Sign, Place, Expr),
+    Add(Sign, Lvalue, Expr),
     /// `a++;` and the like.
-    Count(Step, Place),
+    Count(Step, Lvalue),
     Print(Operands),
     Printf(Format, Operands),
     /// `delete a[k, l]`
@@ -37,7 +37,7 @@ pub enum Simple {
     Clear(Array),
 }
 
-/// A statement that leaves what it stands in.
+/// A statement that leaves what surrounds it.
 #[derive(Drop)]
 pub enum Leave {
     Break,

@@ -33,7 +33,7 @@ pub enum Relation {
 
 /// Which matches are replaced: the first, as `sub` does, or all, as `gsub` does.
 #[derive(Clone, Copy, PartialEq, Eq)]
-pub enum Count {
+pub enum ReplacedMatches {
     First,
     All,
 }

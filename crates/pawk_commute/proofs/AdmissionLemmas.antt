@@ -23,8 +23,8 @@ use Rattle.pawk_code.specs.Statements.{Stmts, done, next}
 use Rattle.pawk_code.specs.Programs.{Selector, always, matching, between, Rule, Function}
 use Rattle.pawk_admit.specs.declared.occurrence.Touch.{Touch}
 use Rattle.pawk_admit.specs.declared.occurrence.Touch.TheVariants as touch
-use Rattle.pawk_admit.specs.declared.occurrence.Name.{Name}
-use Rattle.pawk_admit.specs.declared.occurrence.Name.TheVariants as name
+use Rattle.pawk_admit.specs.declared.occurrence.GlobalName.{GlobalName}
+use Rattle.pawk_admit.specs.declared.occurrence.GlobalName.TheVariants as name
 use Rattle.pawk_admit.specs.declared.occurrence.Occurrence.{Occurrence}
 use Rattle.pawk_admit.specs.declared.occurrence.Occurrence.TheVariants as occurrence
 use Rattle.pawk_admit.specs.declared.reason.Reason.TheVariants as reason
@@ -37,33 +37,33 @@ use Rattle.pawk_admit.specs.Occurrences.{of_statement, of_body, of_selector, of_
 use Rattle.pawk_admit.specs.Reaches.{Reached, from_rules, from_function, Occurs}
 use Rattle.pawk_admit.specs.Admission.{IsSeparator, IsRole, IsAdmissible, AreRoles}
 use Rattle.pawk_admit.specs.Roles.{role_of_scalar, role_of_array}
-use Rattle.pawk_meaning.specs.Builtins.{sign_of}
-use Rattle.pawk_meaning.specs.Lockstep.{Access, reads, olds, writes, changes, tests, removes, clears, walks}
-use Rattle.pawk_meaning.specs.Allows.{LooksAt, TouchesArray, TouchesVariable, Touches, AllowsJoining, AllowsLeaf, Allows, AllowsEach, AllowsPlace}
-use Rattle.pawk_meaning.specs.Allows.{AllowsNumeric, AllowsFunction, AllowsTest, AllowsTextual, AllowsPattern, AllowsFieldsBy, AllowsFormat}
-use Rattle.pawk_meaning.specs.Allows.{AllowsArgument, AllowsArguments, AllowsSimple, AllowsLeave, AllowsSimpleIfAny, AllowsIfAny, AllowsHead}
-use Rattle.pawk_meaning.specs.Allows.{AllowsStmt, AllowsStmts, AllowsBody, AllowsSelector, AllowsRules, AllowsMain}
+use Rattle.pawk_semantics.specs.Builtins.{sign_of}
+use Rattle.pawk_semantics.specs.Lockstep.{Access, reads, olds, writes, changes, tests, removes, clears, walks}
+use Rattle.pawk_semantics.specs.Allows.{LooksAt, TouchesArray, TouchesVariable, Touches, AllowsJoining, AllowsLeaf, Allows, AllowsEach, AllowsPlace}
+use Rattle.pawk_semantics.specs.Allows.{AllowsNumeric, AllowsFunction, AllowsTest, AllowsTextual, AllowsPattern, AllowsFieldsBy, AllowsFormat}
+use Rattle.pawk_semantics.specs.Allows.{AllowsArgument, AllowsArguments, AllowsSimple, AllowsLeave, AllowsSimpleIfAny, AllowsIfAny, AllowsHead}
+use Rattle.pawk_semantics.specs.Allows.{AllowsStmt, AllowsStmts, AllowsBody, AllowsSelector, AllowsRules, AllowsMain}
 use Rattle.pawk_commute.specs.Settings.{Setting, MayRead, Permits}
 
 module _ (i : Setting) (no : IsAdmissible i.code) (are : AreRoles (Occurs i.code) i.roles) where
   abbrev Stands : Occurrence → Type 0
   Stands o = Occurs i.code o
 
-  abbrev Touched : Touch → Name → Type 0
+  abbrev Touched : Touch → GlobalName → Type 0
   Touched t n = Stands (occurrence.Touch t n)
 
-  abbrev P : Access → Rattle.pawk_meaning.specs.Lockstep.Resource → Type 0
+  abbrev P : Access → Rattle.pawk_semantics.specs.Lockstep.Resource → Type 0
   P = Permits i
 
-  -- ---- what stands in the text and the roles
+  -- ---- what occurs in the text and the roles
 
-  set_by : (n : Name) (r : Role) → IsRole Stands r n → Touched touch.Set n → r ≡ Setter
+  set_by : (n : GlobalName) (r : Role) → IsRole Stands r n → Touched touch.Set n → r ≡ Setter
   set_by n Fixed k h = absurd (no reason.Assignment (n, inr (inr (h, k.1))))
   set_by n Adder k h = absurd (let e = k.1 touch.Set h in cc)
   set_by n Setter k h = refl
   set_by n Reader k h = absurd (let e = k.1.1 touch.Set h in cc)
 
-  only_adds : (n : Name) → Touched touch.Add n → (other : Touch) → Touched other n → other ≡ touch.Add
+  only_adds : (n : GlobalName) → Touched touch.Add n → (other : Touch) → Touched other n → other ≡ touch.Add
   only_adds n h touch.Add k = refl
   only_adds n h touch.AddAndLook k = absurd (no reason.Value (n, k))
   only_adds n h touch.Look k = absurd (no reason.Addition (n, (inl h, inr (touch.Look, k, λ x. x))))
@@ -75,7 +75,7 @@ module _ (i : Setting) (no : IsAdmissible i.code) (are : AreRoles (Occurs i.code
   only_adds n h touch.Pass k = absurd (no reason.Addition (n, (inl h, inr (touch.Pass, k, λ x. x))))
   only_adds n h touch.Delete k = absurd (no reason.Addition (n, (inl h, inr (touch.Delete, k, λ x. x))))
 
-  added_by : (n : Name) (r : Role) → IsRole Stands r n → Touched touch.Add n → r ≡ Adder
+  added_by : (n : GlobalName) (r : Role) → IsRole Stands r n → Touched touch.Add n → r ≡ Adder
   added_by n Fixed k h = absurd (k.0 (h, only_adds n h))
   added_by n Adder k h = refl
   added_by n Setter k h = absurd (let e = k.0.1 touch.Add h in cc)
@@ -93,13 +93,13 @@ module _ (i : Setting) (no : IsAdmissible i.code) (are : AreRoles (Occurs i.code
   read_by n Setter k h = absurd (let e = k.0.1 touch.Look h in cc)
   read_by n Reader k h = tt
 
-  tested_by : (n : Name) (r : Role) → IsRole Stands r n → Touched touch.Test n → r ≡ Fixed
+  tested_by : (n : GlobalName) (r : Role) → IsRole Stands r n → Touched touch.Test n → r ≡ Fixed
   tested_by n Fixed k h = refl
   tested_by n Adder k h = absurd (let e = k.1 touch.Test h in cc)
   tested_by n Setter k h = absurd (let e = k.0.1 touch.Test h in cc)
   tested_by n Reader k h = absurd (let e = k.1.1 touch.Test h in cc)
 
-  walked_by : (n : Name) (r : Role) → IsRole Stands r n → Touched touch.Walk n → r ≡ Fixed
+  walked_by : (n : GlobalName) (r : Role) → IsRole Stands r n → Touched touch.Walk n → r ≡ Fixed
   walked_by n Fixed k h = refl
   walked_by n Adder k h = absurd (let e = k.1 touch.Walk h in cc)
   walked_by n Setter k h = absurd (let e = k.0.1 touch.Walk h in cc)
@@ -126,25 +126,25 @@ module _ (i : Setting) (no : IsAdmissible i.code) (are : AreRoles (Occurs i.code
   subsep : LooksAt P subsep_slot
   subsep = looks_at subsep_slot (inr (inr (inr refl)))
 
-  not_assigned : (n : Name) → Touched touch.Assign n → ⊥
+  not_assigned : (n : GlobalName) → Touched touch.Assign n → ⊥
   not_assigned n h = no reason.Assignment (n, inl h)
 
-  not_deleted : (n : Name) → Touched touch.Delete n → ⊥
+  not_deleted : (n : GlobalName) → Touched touch.Delete n → ⊥
   not_deleted n h = no reason.Assignment (n, inr (inl h))
 
-  not_split : (n : Name) → Touched touch.Split n → ⊥
+  not_split : (n : GlobalName) → Touched touch.Split n → ⊥
   not_split n h = no reason.Split (n, h)
 
-  not_passed : (n : Name) → Touched touch.Pass n → ⊥
+  not_passed : (n : GlobalName) → Touched touch.Pass n → ⊥
   not_passed n h = no reason.Passing (n, h)
 
-  not_used : (n : Name) → Touched touch.AddAndLook n → ⊥
+  not_used : (n : GlobalName) → Touched touch.AddAndLook n → ⊥
   not_used n h = no reason.Value (n, h)
 
   reached : (f : ℕ) → Stands (occurrence.Call f) → Reached i.code f
   reached f = ⊎_elim (λ c. from_rules f c) (λ p. from_function p.0 f p.1 p.2)
 
-  -- ---- lists of what stands in the text
+  -- ---- lists of what occurs in the text
 
   abbrev Among : List Occurrence → Type 0
   Among os = (o : Occurrence) → Contains os o → Stands o
@@ -195,14 +195,14 @@ module _ (i : Setting) (no : IsAdmissible i.code) (are : AreRoles (Occurs i.code
   adds_to_place s (to_field e) h = (fs, ofs)
 
   -- a place that is assigned otherwise, or of which a sum is used, is a field or a parameter
-  assigns_place : (t : Touch) (p : Place) → ((n : Name) → Touched t n → ⊥) → Among (of_place t p) → Touches P reads p × Touches P olds p × Touches P writes p
+  assigns_place : (t : Touch) (p : Place) → ((n : GlobalName) → Touched t n → ⊥) → Among (of_place t p) → Touches P reads p × Touches P olds p × Touches P writes p
   assigns_place t (to_global n) never h = absurd (never (name.Scalar n) (head _ [] h))
   assigns_place t (to_local k) never h = (tt, tt, tt)
   assigns_place t (to_element (array.Global n) ks) never h = absurd (never (name.Array n) (head _ _ h))
   assigns_place t (to_element (array.Local k) ks) never h = (tt, tt, tt)
   assigns_place t (to_field e) never h = (tt, tt, (fs, ofs))
 
-  never_by : (o : Op) (n : Name) → Touched (touch_by o) n → ⊥
+  never_by : (o : Op) (n : GlobalName) → Touched (touch_by o) n → ⊥
   never_by op.Add n h = not_used n h
   never_by op.Subtract n h = not_used n h
   never_by op.Multiply n h = not_assigned n h
@@ -211,7 +211,7 @@ module _ (i : Setting) (no : IsAdmissible i.code) (are : AreRoles (Occurs i.code
   never_by op.Power n h = not_assigned n h
 
   -- an array with which nothing global may be done
-  never_array : (t : Touch) (access : Access) (a : Array) → ((n : Name) → Touched t n → ⊥) → Among (of_array t a) → TouchesArray P access a
+  never_array : (t : Touch) (access : Access) (a : Array) → ((n : GlobalName) → Touched t n → ⊥) → Among (of_array t a) → TouchesArray P access a
   never_array t access (array.Global n) never h = absurd (never (name.Array n) (head _ [] h))
   never_array t access (array.Local k) never h = tt
 

@@ -24,7 +24,7 @@ use Rattle.pawk_admit.specs.Roles.{role_of_array}
 use Rattle.pawk_frozen.specs.Marks.{Mark, blank, summed, last_put, created, with_amount, mark_at}
 use Rattle.pawk_frozen.specs.Frozens.{Frozen, noted, signed_amount, kept_mark, found_or_missing, missing}
 use Rattle.pawk_frozen.specs.Frozens as frozen
-use Rattle.pawk_meaning.specs.Lockstep.{array_slot, resource_of, resource_of_cell, access_of, SameAnswer, AreInLockstep}
+use Rattle.pawk_semantics.specs.Lockstep.{array_slot, resource_of, resource_of_cell, access_of, SameAnswer, AreInLockstep}
 use Rattle.pawk_commute.specs.Traces.{Traced, creations, additions, traced_answer, traced, same_cell, mark_from}
 use Rattle.pawk_commute.specs.Traces as event
 use Rattle.pawk_commute.specs.Settings.{Setting, role_of_cell, MayRead, Permits, Extends, Agrees, entry_at, MayBegin}

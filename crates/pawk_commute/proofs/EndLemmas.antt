@@ -19,9 +19,9 @@ use Rattle.pawk_admit.specs.Roles.{role_of_array}
 use Rattle.pawk_frozen.specs.Marks.{Mark, blank, summed, last_put, created, with_amount, mark_at}
 use Rattle.pawk_frozen.specs.Frozens.{Frozen, noted, signed_amount, kept_mark, found_or_missing, missing}
 use Rattle.pawk_frozen.specs.Frozens as frozen
-use Rattle.pawk_meaning.specs.Records.{Left, clash, End}
-use Rattle.pawk_meaning.specs.Lockstep.{access_of, resource_of, resource_of_cell, refusal_of, state_of}
-use Rattle.pawk_meaning.specs.Laws.{SameEnd, EndReaches, EndsInStep, LeftBy}
+use Rattle.pawk_semantics.specs.Records.{Left, clash, End}
+use Rattle.pawk_semantics.specs.Lockstep.{access_of, resource_of, resource_of_cell, refusal_of, state_of}
+use Rattle.pawk_semantics.specs.Laws.{SameEnd, EndReaches, EndsInStep, LeftBy}
 use Rattle.pawk_commute.specs.Traces.{Traced, creations, additions, traced_answer, traced, mark_from}
 use Rattle.pawk_commute.specs.Settings.{Setting, role_of_cell, Permits, MayBegin}
 use Rattle.pawk_commute.specs.Agreement.{Alike}

@@ -1,4 +1,4 @@
--- What the test of a merge tells.
+-- What the test of a merge shows.
 use Rattle.std.proofs.Common.{◌≡◌, ◌<◌, ◌^◌, ℤ, pos, negsuc, ◌+ℤ◌, List, [], ◌∷◌, Option, Bool, true, false, if◌then◌else◌, Result, Ok, Err, refl, ap, sym, ◌∙◌, subst, ⊎_elim, arith, rules, tests}
 use Rattle.std.proofs.lemmas.Int.{ints, clamps}
 use Rattle.std.specs.Prelude.{◌≤ℤ◌, ◌-ℤ◌}
@@ -17,8 +17,8 @@ use Rattle.pawk_admit.specs.declared.role.Role.TheVariants.{Adder, Setter, Reade
 use Rattle.pawk_admit.specs.Roles.{Roles}
 use Rattle.pawk_frozen.specs.Marks.{Mark, blank, summed, last_put, created, with_amount, mark_at}
 use Rattle.pawk_frozen.specs.Frozens.{Frozen, signed_amount}
-use Rattle.pawk_meaning.specs.Records.{fault, End}
-use Rattle.pawk_meaning.specs.Laws.{SameEnd}
+use Rattle.pawk_semantics.specs.Records.{fault, End}
+use Rattle.pawk_semantics.specs.Laws.{SameEnd}
 use Rattle.pawk_commute.specs.Traces.{Event, Traced, same_cell, mark_from}
 use Rattle.pawk_commute.specs.Traces as event
 use Rattle.pawk_commute.specs.Settings.{Setting, role_of_cell, entry_at}

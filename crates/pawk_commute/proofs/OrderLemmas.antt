@@ -20,8 +20,8 @@ use Rattle.pawk_admit.specs.Roles.{role_of_array}
 use Rattle.pawk_frozen.specs.Marks.{Mark, blank, summed, last_put, created, with_amount, mark_at}
 use Rattle.pawk_frozen.specs.Frozens.{Frozen, is_sum, noted, signed_amount, kept_mark, found_or_missing, missing}
 use Rattle.pawk_frozen.specs.Frozens as frozen
-use Rattle.pawk_meaning.specs.Lockstep.{array_slot, access_of, resource_of, resource_of_cell, refusal_of, state_of, RefusesIn, FirstGoesOn, SecondGoesOn}
-use Rattle.pawk_meaning.specs.Laws.{IsFinal, RefusalsAreFinal}
+use Rattle.pawk_semantics.specs.Lockstep.{array_slot, access_of, resource_of, resource_of_cell, refusal_of, state_of, RefusesIn, FirstGoesOn, SecondGoesOn}
+use Rattle.pawk_semantics.specs.Laws.{IsFinal, RefusalsAreFinal}
 use Rattle.pawk_commute.specs.Traces.{Event, Traced, events_of, traced_answer, traced, same_cell, mark_after, mark_from}
 use Rattle.pawk_commute.specs.Traces as event
 use Rattle.pawk_commute.specs.Settings.{Setting, role_of_cell, Permits, MayBegin}

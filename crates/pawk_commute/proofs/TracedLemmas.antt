@@ -7,9 +7,9 @@ use Rattle.pawk_world.specs.Worlds as request
 use Rattle.pawk_value.specs.Conversion.{num_of}
 use Rattle.pawk_world.specs.Sums.{arith_by, op_of}
 use Rattle.pawk_store.specs.Globals.{Globals, value_at, calls, with_sum}
-use Rattle.pawk_meaning.specs.Records.{Left, through, next_file, exit, fault, clash, End}
-use Rattle.pawk_meaning.specs.Lockstep.{refusal_of, RefusesIn, SameAnswer, AreInLockstep, FirstGoesOn, SecondGoesOn}
-use Rattle.pawk_meaning.specs.Laws.{SameEnd, EndsInStep, LeftBy, IsFinal, RefusalsAreFinal}
+use Rattle.pawk_semantics.specs.Records.{Left, through, next_file, exit, fault, clash, End}
+use Rattle.pawk_semantics.specs.Lockstep.{refusal_of, RefusesIn, SameAnswer, AreInLockstep, FirstGoesOn, SecondGoesOn}
+use Rattle.pawk_semantics.specs.Laws.{SameEnd, EndsInStep, LeftBy, IsFinal, RefusalsAreFinal}
 use Rattle.pawk_commute.specs.Traces.{Event, Traced, events_of, traced_answer, traced}
 use Rattle.pawk_commute.specs.TracedRuns.{plain, traced_pair, with_trace_before, longer_pair}
 

@@ -17,11 +17,11 @@ use Rattle.pawk_admit.specs.Roles.{role_of_array}
 use Rattle.pawk_frozen.specs.Marks.{Mark, blank, summed, last_put, created, with_amount, mark_at}
 use Rattle.pawk_frozen.specs.Frozens.{Frozen, begun, signed_amount, is_sum}
 use Rattle.pawk_frozen.specs.Frozens as frozen
-use Rattle.pawk_meaning.specs.Records.{through, fault, clash, End}
-use Rattle.pawk_meaning.specs.Runs.{records_from}
-use Rattle.pawk_meaning.specs.Lockstep.{Pair, IsPrefix}
-use Rattle.pawk_meaning.specs.Laws.{SameEnd}
-use Rattle.pawk_meaning.specs.Allows.{AllowsMain}
+use Rattle.pawk_semantics.specs.Records.{through, fault, clash, End}
+use Rattle.pawk_semantics.specs.Runs.{records_from}
+use Rattle.pawk_semantics.specs.Lockstep.{Pair, IsPrefix}
+use Rattle.pawk_semantics.specs.Laws.{SameEnd}
+use Rattle.pawk_semantics.specs.Allows.{AllowsMain}
 use Rattle.pawk_commute.specs.Traces.{Event, Traced, traced, mark_from}
 use Rattle.pawk_commute.specs.Traces as event
 use Rattle.pawk_commute.specs.Settings.{Setting, Permits, role_of_cell, HasSlots, MayBegin}

@@ -12,8 +12,8 @@ use Rattle.pawk_admit.specs.declared.role.Role.{Role}
 use Rattle.pawk_admit.specs.declared.role.Role.TheVariants.{Fixed, Adder, Setter, Reader}
 use Rattle.pawk_admit.specs.Roles.{Roles, role_of_scalar, role_of_array}
 use Rattle.pawk_admit.specs.Reaches.{Reached}
-use Rattle.pawk_meaning.specs.Lockstep.{Resource, variable_slot, array_slot, function_slot, resource_of_cell}
-use Rattle.pawk_meaning.specs.Lockstep.{Access, looks, reads, writes, changes, tests, walks, runs}
+use Rattle.pawk_semantics.specs.Lockstep.{Resource, variable_slot, array_slot, function_slot, resource_of_cell}
+use Rattle.pawk_semantics.specs.Lockstep.{Access, looks, reads, writes, changes, tests, walks, runs}
 
 -- a program and the roles of its globals, the globals as BEGIN left them, from which a chunk is run, and the globals and the
 -- output to which the records before the chunk have come, from which its records are run in order

@@ -32,7 +32,7 @@ abbrev pub additions : Sign → Cell → Result ℤ Fault → List Event
 additions sign c (Ok y) = added c (signed_amount sign y) ∷ []
 additions sign c (Err f) = []
 
--- what is told of a request that is answered
+-- what is reported of a request that is answered
 abbrev pub events_of : Request → Globals → List Event
 events_of (request.read n key) g = creations n key (found key (array_at g n))
 events_of (request.old n key) g = []
@@ -43,7 +43,7 @@ events_of (request.remove n key) g = []
 events_of (request.clear n) g = []
 events_of (request.keys n) g = []
 
--- an answer with a trace; a halt tells no more
+-- an answer with a trace; a halt reports no more
 abbrev pub traced_answer : {X : Type 0} → List Event → List Event → Answer Globals X → Answer Traced X
 traced_answer trace more (gives x g) = gives x (record { globals = g; trace = trace ++ more })
 traced_answer trace more (halts h g) = halts h (record { globals = g; trace = trace })

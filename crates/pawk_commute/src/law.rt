@@ -6,7 +6,7 @@ ghost use Rattle.pawk_commute.specs.Admitted.{AdmissionAllows};
 ghost use Rattle.pawk_commute.specs.TracedRuns.{TraceIsAppendedLaw, TracedLaw};
 ghost use Rattle.pawk_commute.specs.Merging.{MergeTells};
 
-use pawk_meaning::law::{Pairing, lockstep_records};
+use pawk_semantics::law::{Pairing, lockstep_records};
 
 /// The globals that keep a trace, and those of a chunk.
 pub struct StoreAndChunk;
@@ -67,7 +67,7 @@ impl Pairing for LongerTrace {
     ghost pair = { longer_pair };
 }
 
-/// What was in the trace before records stays in front of what they tell.
+/// What was in the trace before records stays in front of what they report.
 pub fn trace_is_appended()
     ensures { TraceIsAppendedLaw }
 {

@@ -1,4 +1,4 @@
--- What a call of a device tells.
+-- What a call of a device reports.
 use Rattle.std.specs.Prelude.{◌≡◌, ℕ, zero, suc, ◌<◌, List, [], ◌∷◌, Result, Ok, Err}
 
 -- the count of failures rises where the read fails, and stays else

@@ -16,14 +16,14 @@ impl Model for Count {
 }
 
 impl Count {
-    /// It never came to pass.
+    /// The count of an event that never came to pass.
     pub(crate) fn new() -> Count
         ensures { result.times ≡ 0 }
     {
         Count {}
     }
 
-    /// It came to pass once more.
+    /// The count of an event that came to pass once more.
     pub(crate) fn one_more(_before: &Count) -> Count
         ensures { result.times ≡ _before.now.times + 1 }
     {

@@ -8,14 +8,16 @@ ghost use Rattle.pawk_device.specs.Device.{CountsRead, CountsWrite};
 use crate::count::Count;
 use std::io;
 use std::io::{ErrorKind, Read, Write};
+use thiserror::Error;
 
 /// A read or a write failed.
-#[derive(Clone, Copy)]
+#[derive(Clone, Copy, Debug, Drop, Error)]
+#[error("a read or a write failed")]
 pub struct Failed;
 
 /// A device that bytes come from.
 pub trait Source {
-    // The bytes that are left, where the device tells them.
+    // The bytes that are left, where the device reports them.
     ghost left: { Self → Option (List ℕ) };
 
     // How often a read failed.
@@ -30,7 +32,7 @@ pub trait Source {
 
 /// A device that bytes go to.
 pub trait Sink {
-    // The bytes that were taken, where the device tells them.
+    // The bytes that were taken, where the device reports them.
     ghost taken: { Self → Option (List ℕ) };
 
     // How often a write failed: one that takes nothing of some bytes is a failure.

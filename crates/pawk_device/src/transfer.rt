@@ -6,18 +6,22 @@ ghost use Rattle.std.specs.Io.KnownBytes.{Appends};
 use crate::device::{Failed, Sink, Source};
 use pawk_input::LIMIT;
 use std::alloc::{AllocError, Global};
+use thiserror::Error;
 
 /// How many bytes are asked of a source at once.
 const PIECE: usize = 131_072;
 
 /// Why a source was not read to its end.
-#[derive(Clone, Copy)]
+#[derive(Clone, Copy, Debug, Drop, Error)]
 pub enum ReadStop {
     /// Memory was refused.
+    #[error("out of memory")]
     Memory,
     /// A read failed.
+    #[error("a read failed")]
     Failed,
     /// It gave more bytes than an input may have.
+    #[error("the input is too large")]
     TooLarge,
 }
 
@@ -31,7 +35,7 @@ impl From<AllocError> for ReadStop {
     }
 }
 
-/// So many zero bytes.
+/// `count` zero bytes.
 fn zeros(alloc: Global, count: usize) -> Result<Vec<u8>, AllocError>
     ensures { IfOk result (λ v. length v.items ≡ count) }
 {

@@ -7,10 +7,10 @@ use Rattle.std.proofs.lemmas.Slice.Eq.{slice_eq-Decides}
 use Rattle.std.proofs.lemmas.Bool.Decides.{Decides-eqb}
 use Rattle.lru.specs.LruCache.{LruCache, lru_cache, put_entries}
 use Rattle.lru.proofs.CallerLemmas.{Contains-remove_entry, Contains-lookup_entry, Contains-put_entries}
-use Rattle.pawk_machine.specs.declared.node.Node.{Node}
+use Rattle.pawk_ere_automaton.specs.declared.node.Node.{Node}
 use Rattle.pawk_ere.specs.Answers.{IsAnswer, IsFor}
 use Rattle.pawk_ere.specs.Kept.{AreOfTexts, IsAnswerOfText, IsOfText}
-use Rattle.pawk_pattern.specs.Pattern.{Pattern}
+use Rattle.pawk_ere_syntax.specs.Pattern.{Pattern}
 
 abbrev Entry : Type 0
 Entry = Vec ℕ Global × Node

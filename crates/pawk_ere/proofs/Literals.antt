@@ -5,11 +5,11 @@ use Rattle.std.proofs.lemmas.List.{get_or_append_left, get_or-drop}
 use Rattle.std.proofs.Math.Seq.{get_or-append_right}
 use Rattle.std.specs.Prelude.{slice_index}
 use Rattle.memchr.specs.Find.{OccursAt}
-use Rattle.pawk_pattern.specs.Pattern.{Holds, IsFound}
+use Rattle.pawk_ere_syntax.specs.Pattern.{Holds, IsFound}
 use Rattle.pawk_ere.specs.Words.{IsLiteral}
-use Rattle.pawk_machine.proofs.Leftmost.{found_none, found_first}
-use Rattle.pawk_machine.proofs.Walks.{tail}
-use Rattle.pawk_machine.specs.Regex.{Regex, Bytes, Sequence, Takes}
+use Rattle.pawk_ere_automaton.proofs.Leftmost.{found_none, found_first}
+use Rattle.pawk_ere_automaton.proofs.Walks.{tail}
+use Rattle.pawk_ere_automaton.specs.Regex.{Regex, Bytes, Sequence, Takes}
 
 pub occurs_join : (s x y : List ℕ) (i : ℕ) → OccursAt s x i → OccursAt s y (i + length x) → OccursAt s (x ++ y) i
 occurs_join s x y i a b = record {
@@ -88,7 +88,7 @@ occurs_behind s needle from i o le within' = record {
       get_or-drop from s ((i - from) + j) 0 ∙ ap (slice_index s) there ∙ o.reads j lt;
 }
 
--- the bytes of a literal stand nowhere
+-- the bytes of a literal occur nowhere
 pub literal_none : (e : Regex) (s needle : List ℕ) (from : ℕ) → from ≤ length s → ((k : ℕ) → 0 ≤ k → k < length (take (length s - from) (drop from s)) + 1 → OccursAt (take (length s - from) (drop from s)) needle k → ⊥) → IsLiteral e needle → IsFound (Takes e s) from None
 literal_none e s needle from le all is =
     let none = subst (λ hay. (k : ℕ) → 0 ≤ k → k < length hay + 1 → OccursAt hay needle k → ⊥) (tail s from) all in
@@ -97,7 +97,7 @@ literal_none e s needle from le all is =
     let f = o.fits in
     none (k - from) (omega arith) (omega (arith, length-drop from s)) (occurs_behind s needle from k o ge le))
 
--- the first place where the bytes of a literal stand
+-- the first place where the bytes of a literal occur
 pub literal_some : (e : Regex) (s needle : List ℕ) (from ahead : ℕ) → from ≤ length s → OccursAt (take (length s - from) (drop from s)) needle ahead → ((k : ℕ) → 0 ≤ k → k < ahead → OccursAt (take (length s - from) (drop from s)) needle k → ⊥) → IsLiteral e needle → IsFound (Takes e s) from (Some (from + ahead, (from + ahead) + length needle))
 literal_some e s needle from ahead le at all is =
     let here = subst (λ hay. OccursAt hay needle ahead) (tail s from) at in

@@ -8,11 +8,11 @@ use Rattle.pawk_ere.specs.Words.{AreNeeded, EndsIn, HoldsNone, IsLiteral, AreFea
 use Rattle.pawk_ere.specs.declared.words.Features.{Features}
 use Rattle.pawk_ere.specs.declared.words.Prefilter.{Prefilter}
 use Rattle.pawk_ere.specs.declared.words.Prefilter.TheVariants.{Words}
-use Rattle.pawk_pattern.specs.Pattern.{Leads, NoneFrom}
-use Rattle.pawk_machine.specs.Regex.{Regex, Empty, Sequence, Either, Plus, Takes}
-use Rattle.pawk_machine.proofs.Leftmost.{none_beyond}
+use Rattle.pawk_ere_syntax.specs.Pattern.{Leads, NoneFrom}
+use Rattle.pawk_ere_automaton.specs.Regex.{Regex, Empty, Sequence, Either, Plus, Takes}
+use Rattle.pawk_ere_automaton.proofs.Leftmost.{none_beyond}
 use Rattle.pawk_ere.proofs.Literals.{literal_sequence, occurs_join}
-use Rattle.pawk_machine.proofs.Shift.{forward, within}
+use Rattle.pawk_ere_automaton.proofs.Shift.{forward, within}
 
 -- each match ends with no bytes
 pub ends_in_nothing : (e : Regex) → EndsIn e []
@@ -65,7 +65,7 @@ needs_either a b x y f g s i j none t le = ⊎_elim
     (λ l. f s i j (all_first (λ w. (k : ℕ) → OccursAt s w k → ⊥) x y none) l le)
     (λ r. g s i j (all_second (λ w. (k : ℕ) → OccursAt s w k → ⊥) x y none) r le) t
 
--- none of the words before the place stands in the text
+-- none of the words before the place occurs in the text
 abbrev pub LacksBefore : List ℕ → List (List ℕ) → ℕ → Type 0
 LacksBefore s words i = (q : ℕ) (d : List ℕ) → q < i → (k : ℕ) → OccursAt s (get_or words q d) k → ⊥
 
@@ -149,7 +149,7 @@ features_of_turns a turn features f t w n = record {
 pub tail_needed : (e : Regex) (features : Features) (words : List (List ℕ)) → AreFeatures e features → words ≡ features.tail.items ∷ [] → AreNeeded e words
 tail_needed e features words f is some = subst (NeedsOne e) (sym is) (needs_tail e features.tail.items f.tail)
 
--- nothing comes behind it
+-- nothing comes after it
 pub features_before_nothing : (a : Regex) (features : Features) → AreFeatures a features → AreFeatures (Sequence a Empty) features
 features_before_nothing a features f = record {
   tail = λ s i j t le. f.tail s i j (subst (Takes a s i) t.2 t.1) le;

@@ -1,15 +1,15 @@
--- Expressions that are so many bytes of one set, or one or more of them.
+-- Expressions that are n bytes of one set, or one or more of them.
 use Rattle.std.proofs.Common.{◌≡◌, ℕ, zero, suc, ◌+◌, ◌-◌, ◌*◌, ◌<◌, ◌≤◌, Bool, List, [], ◌∷◌, length, get_or, drop, take, length-drop, eqb-true, Option, Some, None, IfSome, refl, sym, ap, ◌∙◌, subst, ⊎_elim, arith}
 use Rattle.std.proofs.lemmas.Bool.{cases_lt}
 use Rattle.std.proofs.lemmas.List.{get_or-drop}
 use Rattle.std.specs.Prelude.{slice_index}
 use Rattle.memchr.specs.Find.{Passes, is_byte}
-use Rattle.pawk_pattern.specs.Sets.{IsOnlyMember}
-use Rattle.pawk_pattern.specs.Pattern.{Holds, IsFound, Leads}
+use Rattle.pawk_ere_syntax.specs.Sets.{IsOnlyMember}
+use Rattle.pawk_ere_syntax.specs.Pattern.{Holds, IsFound, Leads}
 use Rattle.pawk_ere.specs.Runs.{AllHold, IsRun, IsTurns, NoneHolds}
-use Rattle.pawk_machine.proofs.Leftmost.{found_none, found_first}
-use Rattle.pawk_machine.proofs.Walks.{tail}
-use Rattle.pawk_machine.specs.Regex.{Regex, Empty, Bytes, Plus, Sequence, Takes, copies}
+use Rattle.pawk_ere_automaton.proofs.Leftmost.{found_none, found_first}
+use Rattle.pawk_ere_automaton.proofs.Walks.{tail}
+use Rattle.pawk_ere_automaton.specs.Regex.{Regex, Empty, Bytes, Plus, Sequence, Takes, copies}
 
 pub run_byte : (members : List Bool) → IsRun (Bytes members) members 1
 run_byte members s i j = (
@@ -49,7 +49,7 @@ run_copies a members (suc n) x f =
     let e : x + n * x ≡ suc n * x = grind arith in
     subst (IsRun (Sequence a (copies n a)) members) e (run_join a (copies n a) members x (n * x) f (run_copies a members n x f))
 
--- no run of so many starts from one place up to another
+-- no run of n starts from one place up to another
 abbrev pub NoRun : List Bool → List ℕ → ℕ → ℕ → ℕ → Type 0
 NoRun members s count low high = (k : ℕ) → low ≤ k → k < high → AllHold members s k (k + count) → ⊥
 
@@ -79,7 +79,7 @@ run_none e members s count from start some within' short before is = found_none 
     (λ r. let y = x.0 ((k + count) - 1) (omega arith) (omega (arith, x.1)) in let z = y.0 in omega arith)
     (cases_lt k start))
 
--- a byte of the set behind others is the leftmost match
+-- a byte of the set after others is the leftmost match
 pub one_some : (e : Regex) (members : List Bool) (s : List ℕ) (from place : ℕ) → from ≤ place → place < length s → Holds members (get_or s place 0) → NoneHolds members s from place → IsRun e members 1 → IsFound (Takes e s) from (Some (place, place + 1))
 one_some e members s from place le lt here before is = run_some e members s 1 from place le
     (no_run_of_one members s from place before)
@@ -119,7 +119,7 @@ turns_before_nothing a members f s i j = (
   λ h. (j, (f s i j).1 h, refl),
 )
 
--- a byte of the set and those behind it, up to one of another kind
+-- a byte of the set and those after it, up to one of another kind
 all_from : (members : List Bool) (s : List ℕ) (start end : ℕ) → start < length s → Holds members (get_or s start 0) → AllHold members s (start + 1) end → AllHold members s start end
 all_from members s start end lt here all k ge below = ⊎_elim
     (λ far. all k (omega arith) below)

@@ -1,9 +1,9 @@
 -- What a matcher answers.
 use Rattle.std.specs.Prelude.{◌↔◌, ℕ, List, Option}
-use Rattle.pawk_machine.specs.declared.node.Node.{Node}
-use Rattle.pawk_pattern.specs.Pattern.{Pattern, Matches, IsFound}
-use Rattle.pawk_machine.specs.Regex.{Takes}
-use Rattle.pawk_machine.specs.Tree.{regex_of}
+use Rattle.pawk_ere_automaton.specs.declared.node.Node.{Node}
+use Rattle.pawk_ere_syntax.specs.Pattern.{Pattern, Matches, IsFound}
+use Rattle.pawk_ere_automaton.specs.Regex.{Takes}
+use Rattle.pawk_ere_automaton.specs.Tree.{regex_of}
 
 -- the matcher is one of this expression: what it takes is what the expression matches
 pub record IsFor (e : Pattern) (node : Node) : Type 0 where

@@ -3,9 +3,9 @@ use Rattle.std.specs.Prelude.{ℕ, List, Contains, Option, Vec}
 use Rattle.std.proofs.Common.{Global}
 use Rattle.pawk_ere.specs.Answers.{IsAnswer, IsFor}
 use Rattle.pawk_ere.specs.declared.loan.Loan.{Loan}
-use Rattle.pawk_machine.specs.declared.node.Node.{Node}
-use Rattle.pawk_pattern.specs.Pattern.{Pattern}
-use Rattle.pawk_pattern.specs.Tokens.{SpellsEre}
+use Rattle.pawk_ere_automaton.specs.declared.node.Node.{Node}
+use Rattle.pawk_ere_syntax.specs.Pattern.{Pattern}
+use Rattle.pawk_ere_syntax.specs.Tokens.{SpellsEre}
 
 -- the matcher is one of the expression that the text spells
 pub record IsOfText (bytes : List ℕ) (matcher : Node) : Type 0 where

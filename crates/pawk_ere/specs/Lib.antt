@@ -1,7 +1,7 @@
-pub use Rattle.pawk_pattern.specs.Pattern
-pub use Rattle.pawk_pattern.specs.Tokens
-pub use Rattle.pawk_pattern.specs.Refusals
-pub use Rattle.pawk_pattern.specs.Spelled
+pub use Rattle.pawk_ere_syntax.specs.Pattern
+pub use Rattle.pawk_ere_syntax.specs.Tokens
+pub use Rattle.pawk_ere_syntax.specs.Refusals
+pub use Rattle.pawk_ere_syntax.specs.Spelled
 pub mod Runs
 pub mod Words
 pub mod Holding

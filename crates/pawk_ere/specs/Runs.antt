@@ -1,7 +1,7 @@
--- Expressions that are so many bytes of one set, or one or more of them, and nothing else.
+-- Expressions that are n bytes of one set, or one or more of them, and nothing else.
 use Rattle.std.specs.Prelude.{◌≡◌, ◌↔◌, ℕ, ◌+◌, ◌<◌, ◌≤◌, Bool, List, length, get_or}
-use Rattle.pawk_machine.specs.Regex.{Regex, Takes}
-use Rattle.pawk_pattern.specs.Pattern.{Holds}
+use Rattle.pawk_ere_automaton.specs.Regex.{Regex, Takes}
+use Rattle.pawk_ere_syntax.specs.Pattern.{Holds}
 
 -- each byte from one place up to another is one of the text, and belongs to the set
 abbrev pub AllHold : List Bool → List ℕ → ℕ → ℕ → Type 0
@@ -11,7 +11,7 @@ AllHold members s i j = (k : ℕ) → i ≤ k → k < j → (k < length s) × Ho
 abbrev pub NoneHolds : List Bool → List ℕ → ℕ → ℕ → Type 0
 NoneHolds members s i j = (k : ℕ) → i ≤ k → k < j → Holds members (get_or s k 0) → ⊥
 
--- it matches so many bytes of the set and nothing else
+-- it matches n bytes of the set and nothing else
 abbrev pub IsRun : Regex → List Bool → ℕ → Type 0
 IsRun e members count = (s : List ℕ) (i j : ℕ) → Takes e s i j ↔ (AllHold members s i j × (j ≡ i + count))
 

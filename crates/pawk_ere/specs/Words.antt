@@ -1,14 +1,14 @@
 -- Words that a text must hold to have a match.
-use Rattle.pawk_machine.specs.Members.{members_of}
+use Rattle.pawk_ere_automaton.specs.Members.{members_of}
 use Rattle.std.specs.Prelude.{◌≡◌, ◌↔◌, ℕ, ◌+◌, ◌≤◌, true, All, List, length, IfSome}
 use Rattle.memchr.specs.Find.{OccursAt}
-use Rattle.pawk_machine.specs.Regex.{Regex, Takes}
+use Rattle.pawk_ere_automaton.specs.Regex.{Regex, Takes}
 use Rattle.pawk_ere.specs.declared.words.Features.{Features}
 use Rattle.pawk_ere.specs.declared.words.Prefilter.{Prefilter}
 use Rattle.pawk_ere.specs.declared.words.Prefilter.TheVariants.{Literal, Run, Turns, Words}
 use Rattle.pawk_ere.specs.Runs.{IsRun, IsTurns}
-use Rattle.pawk_pattern.specs.Sets.{IsOnlyMember}
-use Rattle.pawk_pattern.specs.Pattern.{Pattern, Matches, NoneFrom}
+use Rattle.pawk_ere_syntax.specs.Sets.{IsOnlyMember}
+use Rattle.pawk_ere_syntax.specs.Pattern.{Pattern, Matches, NoneFrom}
 
 -- it matches these bytes and nothing else
 abbrev pub IsLiteral : Regex → List ℕ → Type 0
@@ -18,7 +18,7 @@ IsLiteral e bytes = (s : List ℕ) (i j : ℕ) → Takes e s i j ↔ (OccursAt s
 abbrev pub EndsIn : Regex → List ℕ → Type 0
 EndsIn e tail = (s : List ℕ) (i j : ℕ) → Takes e s i j → j ≤ length s → (k : ℕ) × OccursAt s tail k × (j ≡ k + length tail)
 
--- none of the words stands anywhere in the text
+-- none of the words occurs anywhere in the text
 abbrev pub HoldsNone : List ℕ → List (List ℕ) → Type 0
 HoldsNone s words = All (λ word. (k : ℕ) → OccursAt s word k → ⊥) words
 
@@ -36,7 +36,7 @@ pub record AreFeatures (e : Regex) (features : Features) : Type 0 where
   pub whole : features.whole ≡ true → IsLiteral e features.tail.items
   pub words : AreNeeded e features.words.items
 
--- what is looked for before a walk tells of the matches
+-- what is looked for before a walk says of the matches
 abbrev pub IsPrefilter : Regex → Prefilter → Type 0
 IsPrefilter e (Literal bytes) = IsLiteral e bytes
 IsPrefilter e (Run set count) = IsRun e (members_of set.value) count × (1 ≤ count)

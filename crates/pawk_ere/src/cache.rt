@@ -1,15 +1,15 @@
 // A cache of the expressions that were read.
 
 ghost use Rattle.pawk_ere.specs.Kept.{AreOfTexts, IsAnswerOfText, IsOfItsText, IsOfText};
-ghost use Rattle.pawk_pattern.specs.Pattern.{Pattern};
-ghost use Rattle.pawk_pattern.specs.Refusals.{Tells};
-ghost use Rattle.pawk_pattern.specs.Tokens.{SpellsEre};
+ghost use Rattle.pawk_ere_syntax.specs.Pattern.{Pattern};
+ghost use Rattle.pawk_ere_syntax.specs.Refusals.{Tells};
+ghost use Rattle.pawk_ere_syntax.specs.Tokens.{SpellsEre};
 ghost use Rattle.std.specs.Prelude.{◌≡◌, ◌≤◌, length, IfErr, IfOk, IfSome};
 
 use crate::loan::Loan;
 use crate::matcher::Matcher;
 use lru::LruCache;
-use pawk_pattern::EreRefusal;
+use pawk_ere_syntax::EreRefusal;
 use std::alloc::{AllocError, Global};
 use std::marker::Model;
 use std::num::NonZeroUsize;
@@ -19,7 +19,7 @@ use std::num::NonZeroUsize;
 #[derive(Drop)]
 pub struct Cache {
     alloc: Global,
-    /// It stands apart, so that what is used again and again is neither looked up nor moved.
+    /// It is kept apart, so that what is used again and again is neither looked up nor moved.
     latest: Option<Loan>,
     others: LruCache<Vec<u8>, Matcher>,
 }

@@ -1,8 +1,8 @@
 // Searches for an expression that is some bytes and nothing else.
 
 ghost use Rattle.pawk_ere.specs.Words.{IsLiteral};
-ghost use Rattle.pawk_machine.specs.Regex.{Regex, Takes};
-ghost use Rattle.pawk_pattern.specs.Pattern.{HasMatch, IsFound};
+ghost use Rattle.pawk_ere_automaton.specs.Regex.{Regex, Takes};
+ghost use Rattle.pawk_ere_syntax.specs.Pattern.{HasMatch, IsFound};
 ghost use Rattle.std.specs.Prelude.{◌↔◌, ◌≤◌, length, IsTrue};
 
 use memchr::memmem::Finder;
@@ -21,7 +21,7 @@ pub fn search_literal(literal: &Finder<'static>, text: &[u8], from: usize) -> Op
     }
 }
 
-/// Whether the finder's bytes stand at `from` or later.
+/// Whether the finder's bytes occur at `from` or later.
 pub fn has_literal(literal: &Finder<'static>, text: &[u8], from: usize) -> bool
     requires { from ≤ length text.now }
     ensures { (e : Regex) → IsLiteral e literal.now

@@ -1,13 +1,13 @@
 // A matcher with the text of its expression.
 
 ghost use Rattle.pawk_ere.specs.Kept.{IsOfText};
-ghost use Rattle.pawk_pattern.specs.Pattern.{Pattern};
-ghost use Rattle.pawk_pattern.specs.Refusals.{Tells};
-ghost use Rattle.pawk_pattern.specs.Tokens.{SpellsEre};
+ghost use Rattle.pawk_ere_syntax.specs.Pattern.{Pattern};
+ghost use Rattle.pawk_ere_syntax.specs.Refusals.{Tells};
+ghost use Rattle.pawk_ere_syntax.specs.Tokens.{SpellsEre};
 ghost use Rattle.std.specs.Prelude.{◌≡◌, IfErr, IfOk};
 
 use crate::matcher::Matcher;
-use pawk_pattern::{Ere, EreRefusal};
+use pawk_ere_syntax::{Ere, EreRefusal};
 use std::alloc::Global;
 
 /// A matcher that a cache lends.

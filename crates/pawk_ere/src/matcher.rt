@@ -1,15 +1,15 @@
 // A matcher of one expression.
 
 ghost use Rattle.pawk_ere.specs.Answers.{IsAnswer, IsFor};
-ghost use Rattle.pawk_pattern.specs.Pattern.{HasMatch, Matches, Pattern};
-ghost use Rattle.pawk_pattern.specs.Spelled.{expression};
+ghost use Rattle.pawk_ere_syntax.specs.Pattern.{HasMatch, Matches, Pattern};
+ghost use Rattle.pawk_ere_syntax.specs.Spelled.{expression};
 ghost use Rattle.std.specs.Prelude.{◌≡◌, ◌↔◌, ◌≤◌, length, IfOk, IsTrue};
 
 use crate::literal::{has_literal, search_literal};
 use crate::run::{has_run, has_turns, search_run, search_turns};
 use crate::words::{Prefilter, lacks_words, prefilter_of};
-use pawk_machine::{Node, Table, begin, expand, first_byte, has_match, search};
-use pawk_pattern::Ere;
+use pawk_ere_automaton::{Node, StateTable, begin, expand, first_byte, has_match, search};
+use pawk_ere_syntax::Ere;
 use std::alloc::{AllocError, Global};
 use std::marker::Model;
 
@@ -18,7 +18,7 @@ use std::marker::Model;
 pub struct Matcher {
     alloc: Global,
     node: Node,
-    table: Table,
+    table: StateTable,
     /// The byte that each match begins with, if one is known.
     first: Option<u8>,
     /// What is looked for in a text before it is walked over.
@@ -26,15 +26,15 @@ pub struct Matcher {
 }
 
 impl Model for Matcher {
-    ghost use Rattle.pawk_machine.specs.declared.node.Node.{Node};
-    ghost use Rattle.pawk_machine.specs.contracts.node.Node as tree;
+    ghost use Rattle.pawk_ere_automaton.specs.declared.node.Node.{Node};
+    ghost use Rattle.pawk_ere_automaton.specs.contracts.node.Node as tree;
     ghost use Rattle.std.specs.Coded.{codes};
 
     ghost Value = { Node };
 
     ghost coded = { Prim.hlevel (codes, tree.the_row.coded) };
 
-    ghost use Rattle.pawk_machine.specs.Tree.{regex_of};
+    ghost use Rattle.pawk_ere_automaton.specs.Tree.{regex_of};
     ghost use Rattle.pawk_ere.specs.Holding.{IsMatcher};
 
     ghost view = { λ m. m.node };
@@ -61,7 +61,7 @@ impl Matcher {
     }
 
     /// The leftmost match that starts at the byte `from` or later, and of those the longest (XBD 9.1): the byte where it
-    /// starts, and the byte behind it, counted from 0. After an `Err` the matcher answers as before.
+    /// starts, and the byte after it, counted from 0. After an `Err` the matcher answers as before.
     pub fn find(&mut self, text: &[u8], from: usize) -> Result<Option<(usize, usize)>, AllocError>
         requires { from ≤ length text.now }
         ensures answer { (e : Pattern) → IsFor e self.old

@@ -1,17 +1,17 @@
-// Searches for an expression that is so many bytes of one set, or one or more of them, and nothing else.
+// Searches for an expression that is n bytes of one set, or one or more of them, and nothing else.
 
-ghost use Rattle.pawk_machine.specs.Members.{members_of};
+ghost use Rattle.pawk_ere_automaton.specs.Members.{members_of};
 ghost use Rattle.pawk_ere.specs.Runs.{AllHold, IsRun, IsTurns, NoneHolds};
-ghost use Rattle.pawk_machine.specs.Regex.{Regex, Takes};
-ghost use Rattle.pawk_machine.specs.Tree.{regex_of};
-ghost use Rattle.pawk_pattern.specs.Pattern.{HasMatch, Holds, IsFound};
-ghost use Rattle.pawk_pattern.specs.Sets.{IsOnlyMember};
+ghost use Rattle.pawk_ere_automaton.specs.Regex.{Regex, Takes};
+ghost use Rattle.pawk_ere_automaton.specs.Tree.{regex_of};
+ghost use Rattle.pawk_ere_syntax.specs.Pattern.{HasMatch, Holds, IsFound};
+ghost use Rattle.pawk_ere_syntax.specs.Sets.{IsOnlyMember};
 ghost use Rattle.std.specs.Prelude.{◌↔◌, ◌<◌, ◌≤◌, length, slice_index, IfSome, IsTrue, MatchOption};
 
 use memchr::memchr;
-use pawk_machine::{Members, Node};
+use pawk_ere_automaton::{Members, Node};
 
-/// The byte set and the number of bytes, where the expression is seen to match so many bytes of one set and nothing else.
+/// The byte set and the number of bytes, where the expression is seen to match n bytes of one set and nothing else.
 pub fn run_of(node: &Node) -> Option<(&Members, usize)>
     ensures { IfSome result (λ run. IsRun (regex_of node.now) (members_of run.0.now) run.1) }
 {
@@ -132,7 +132,7 @@ pub fn search_run(set: &Members, count: usize, text: &[u8], from: usize) -> Opti
     None
 }
 
-/// Whether `count` bytes of the set stand in a row at `from` or later.
+/// Whether `count` bytes of the set come in a row at `from` or later.
 pub fn has_run(set: &Members, count: usize, text: &[u8], from: usize) -> bool
     requires some { 1 ≤ count }
     requires within { from ≤ length text.now }
@@ -201,7 +201,7 @@ pub fn search_turns(
     }
 }
 
-/// Whether a byte of the set stands at `from` or later. `only` is its one member where it has no other.
+/// Whether a byte of the set occurs at `from` or later. `only` is its one member where it has no other.
 pub fn has_turns(set: &Members, only: Option<u8>, text: &[u8], from: usize) -> bool
     requires only { IfSome only (λ byte. IsOnlyMember (members_of set.now) byte) }
     requires within { from ≤ length text.now }

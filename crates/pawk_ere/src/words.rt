@@ -1,16 +1,16 @@
 // Words that a text must hold to have a match.
 
-ghost use Rattle.pawk_machine.specs.Members.{members_of};
+ghost use Rattle.pawk_ere_automaton.specs.Members.{members_of};
 ghost use Rattle.pawk_ere.specs.Words.{AreNeeded, HoldsNone, AreFeatures, IsPrefilter, NeedsWords};
-ghost use Rattle.pawk_pattern.specs.Spelled.{expression};
-ghost use Rattle.pawk_machine.specs.Regex.{Regex, Bytes, Sequence, Either, Plus, copies};
-ghost use Rattle.pawk_machine.specs.Tree.{regex_of};
+ghost use Rattle.pawk_ere_syntax.specs.Spelled.{expression};
+ghost use Rattle.pawk_ere_automaton.specs.Regex.{Regex, Bytes, Sequence, Either, Plus, copies};
+ghost use Rattle.pawk_ere_automaton.specs.Tree.{regex_of};
 ghost use Rattle.std.specs.Prelude.{◌≡◌, ◌≤◌, ◌⊎◌, [], false, length, IfOk, IsTrue};
 
 use crate::run::{run_of, turns_of};
 use memchr::memmem::{Finder, FinderBuilder};
-use pawk_machine::{Members, Node, expand, is_anchored};
-use pawk_pattern::Ere;
+use pawk_ere_automaton::{Members, Node, expand, is_anchored};
+use pawk_ere_syntax::Ere;
 use std::alloc::{AllocError, Global};
 
 /// More words than this are not looked for.
@@ -38,7 +38,7 @@ pub struct Features {
 pub enum Prefilter {
     /// The expression matches these bytes and nothing else.
     Literal(Finder<'static>),
-    /// The expression matches so many bytes of this set, at least one, and nothing else.
+    /// The expression matches n bytes of this set, at least one, and nothing else.
     Run(Box<Members>, usize),
     /// The expression matches one byte of this set or more and nothing else. The byte is its one member, where it has no
     /// other.
@@ -172,7 +172,7 @@ fn in_turns(turn: Features) -> Features
     features
 }
 
-/// What is seen of the matches of an expression. What follows a first part stands outside the recursion, whose frames stay
+/// What is seen of the matches of an expression. What follows a first part is outside the recursion, whose frames stay
 /// small.
 #[cycle(features)]
 fn features_of(alloc: Global, node: &Node) -> Result<Features, AllocError>
@@ -188,7 +188,7 @@ fn features_of(alloc: Global, node: &Node) -> Result<Features, AllocError>
     }
 }
 
-/// What is seen of one part and a second one behind it.
+/// What is seen of one part and a second one after it.
 #[cycle(features)]
 #[inline(never)]
 fn with_second(alloc: Global, first: Features, second: &Node) -> Result<Features, AllocError>
@@ -211,7 +211,7 @@ fn with_other(alloc: Global, first: Features, second: &Node) -> Result<Features,
     in_either(alloc, first, features_of(alloc, second)?)
 }
 
-/// What is seen of so many copies.
+/// What is seen of `count` copies.
 #[cycle(features)]
 #[inline(never)]
 fn of_copies(alloc: Global, count: u8, a: &Node) -> Result<Features, AllocError>

@@ -1,4 +1,4 @@
--- A text behind what stands before it.
+-- A text that is appended to what is before it.
 use Rattle.std.proofs.Common.{◌≡◌, ℕ, suc, ◌<◌, ◌≤◌, List, ◌∷◌, ◌++◌, drop, take, drop-cons, get_or, length, arith, ap, sym, ◌∙◌, length-append}
 use Rattle.std.proofs.lemmas.List.{take-append-le, drop-append-le}
 use Rattle.pawk_value.specs.Value.{Val}
@@ -9,12 +9,12 @@ use Rattle.pawk_store.specs.RecordStates.{RecordState}
 use Rattle.pawk_code.specs.declared.expression.Expr.{Expr}
 use Rattle.pawk_code.specs.Expressions.{exprs}
 use Rattle.pawk_code.specs.ExpressionViews.{view, views}
-use Rattle.pawk_meaning.specs.Builtins.{within_limit}
-use Rattle.pawk_meaning.specs.Parts.{Hold, Moment, Outcome, gives, halts, Part, give, settle, then_do, bind, as_text}
-use Rattle.pawk_meaning.specs.Meaning.{eval, suffixed}
+use Rattle.pawk_semantics.specs.Builtins.{within_limit}
+use Rattle.pawk_semantics.specs.Parts.{Hold, Moment, Outcome, gives, halts, Part, give, settle, then_do, bind, as_text}
+use Rattle.pawk_semantics.specs.Meaning.{eval, suffixed}
 
 module _ {S : Type 0} where
-  -- a text that is appended is appended to each end of what stands before it
+  -- a text that is appended is appended to each end of what is before it
   text_behind_at : (start : ℕ) (out new : List ℕ) (o : Outcome S Val) (m' : Moment S) → start ≤ length out → then_do o (λ v. give (out ++ text_of v)) ≡ gives new m' → (then_do o (λ v. give (drop start out ++ text_of v)) ≡ gives (drop start new) m') × (take start new ≡ take start out) × (start ≤ length new)
   text_behind_at start out new (gives v m) m' le h =
       let same : out ++ text_of v ≡ new = cc in

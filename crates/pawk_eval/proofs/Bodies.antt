@@ -7,8 +7,8 @@ use Rattle.pawk_code.specs.declared.statement.Statement.{Statement}
 use Rattle.pawk_code.specs.declared.statement.Statement.TheVariants as statement
 use Rattle.pawk_code.specs.Statements.{Stmts}
 use Rattle.pawk_code.specs.StatementViews.{seen, simple_view, stmt_view}
-use Rattle.pawk_meaning.specs.Parts.{Hold, Moment, Outcome, gives, halts, Part, give, tick, then_do, bind}
-use Rattle.pawk_meaning.specs.Meaning.{act, exec, execs, and_then, on}
+use Rattle.pawk_semantics.specs.Parts.{Hold, Moment, Outcome, gives, halts, Part, give, tick, then_do, bind}
+use Rattle.pawk_semantics.specs.Meaning.{act, exec, execs, and_then, on}
 use Rattle.pawk_eval.proofs.Shapes.{simple_shape}
 
 module _ {S : Type 0} (calls : Calls S) (eres : List (List ℕ)) (enter : ℕ → List Hold → Part S Val) where
@@ -16,7 +16,7 @@ module _ {S : Type 0} (calls : Calls S) (eres : List (List ℕ)) (enter : ℕ �
   goes_on (gives u m) rest = refl
   goes_on (halts h s st t) rest = refl
 
-  -- one statement that leaves nothing, and those behind it
+  -- one statement that leaves nothing, and those after it
   pub simple_next : (ss : List Statement) (i : ℕ) (s : Statement) (x : Simple) (m m1 : Moment S) → i < length ss → s ≡ get_or ss i s → s ≡ statement.Simple x → tick m ≡ gives tt m1 → execs calls eres enter (seen (drop i ss)) m ≡ then_do (act calls eres enter (simple_view x) m1) (λ _. execs calls eres enter (seen (drop (suc i) ss)))
   simple_next ss i s x m m1 lt is simple ticked =
       ap (λ xs. execs calls eres enter (seen xs) m) (drop-cons ss i s lt ∙ ap (λ y. y ∷ drop (suc i) ss) (sym is))

@@ -8,8 +8,8 @@ use Rattle.pawk_world.specs.Worlds.{Calls}
 use Rattle.pawk_store.specs.RecordStates.{RecordState}
 use Rattle.pawk_code.specs.Programs.{Function}
 use Rattle.pawk_code.specs.Statements.{Stmts}
-use Rattle.pawk_meaning.specs.Parts.{Hold, Moment, Outcome, gives, halts, Part, give, then_do, bind, tick, Entry, entry_of}
-use Rattle.pawk_meaning.specs.Meaning.{Way, execs, call_at, run_function, run_function_at, value_of_way}
+use Rattle.pawk_semantics.specs.Parts.{Hold, Moment, Outcome, gives, halts, Part, give, then_do, bind, tick, Entry, entry_of}
+use Rattle.pawk_semantics.specs.Meaning.{Way, execs, call_at, run_function, run_function_at, value_of_way}
 
 module _ {S : Type 0} (calls : Calls S) (eres : List (List ℕ)) (fs : List Function) where
   -- a call without a step for it

@@ -1,4 +1,4 @@
--- What code weighs: more than its parts, with room for the demands on them.
+-- What code weighs: more than its parts, with space for the demands on them.
 use Rattle.std.proofs.Common.{◌≡◌, ℕ, zero, suc, ◌+◌, ◌*◌, ◌<◌, ◌≤◌, List, [], ◌∷◌, Option, Some, None, ap, arith, slice_get}
 use Rattle.pawk_code.specs.Expressions.{Expr, leaf, numeric, test, textual, read, choice, assign, call, Exprs, none, more, Place, to_global, to_local, to_element, to_field, Numeric, arithmetic, signed, change, step, function, split, replace, find, NumericFunction, length_of, index_of, whole, Test, compare, both, either, negation, matches, member, Textual, join, suffix, substring, letters, formatted, Pattern, fixed_pattern, spelled_by, FieldsBy, by_fs, by_fixed, by_value, Format, fixed_format, format_of, Argument, pass, pass_array, Arguments, no_arguments, more_arguments}
 use Rattle.pawk_code.specs.Statements.{Simple, drop, set, add, count, print, printf, delete, clear, Leave, break, continue, next_record, next_file, exit, return, Head, Stmt, simple, leave, when, choose, repeat, do_while, loop, walk, Stmts, done, next}
@@ -130,10 +130,10 @@ body_in_list [] i f h = cc
 body_in_list (g ∷ fs) zero f h = let e : g ≡ f = cc in let k = ap (λ x. body_weight x.body) e in omega arith
 body_in_list (g ∷ fs) (suc i) f h = let r = body_in_list fs i f h in omega arith
 
--- the measure of a part that weighs so much, where so many calls may be nested
+-- the measure of a part of this weight, where `depth` calls may be nested
 abbrev pub rank : List Function → ℕ → ℕ → ℕ
 rank fs depth w = depth * (bodies_weight fs + 2) + w
 
--- a body, with room for a demand on it, where one call less may be nested
+-- a body, with space for a demand on it, where one call less may be nested
 pub rank_falls : (fs : List Function) (depth d w : ℕ) → depth ≡ d + 1 → w ≤ bodies_weight fs + 1 → rank fs d w < rank fs depth 0
 rank_falls fs depth d w e h = rw e (omega arith)

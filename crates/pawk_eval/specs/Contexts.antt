@@ -13,8 +13,8 @@ use Rattle.pawk_code.specs.StatementViews.{simple_view}
 use Rattle.pawk_code.specs.Programs.{Function}
 use Rattle.pawk_code.specs.ProgramViews.{function_view}
 use Rattle.pawk_builtins.specs.ExpressionViews.{texts_of}
-use Rattle.pawk_meaning.specs.Parts.{Hold, Part}
-use Rattle.pawk_meaning.specs.Meaning.{call_at}
+use Rattle.pawk_semantics.specs.Parts.{Hold, Part}
+use Rattle.pawk_semantics.specs.Meaning.{call_at}
 use Rattle.pawk_eval.specs.declared.context.Context.{Context}
 use Rattle.pawk_eval.specs.declared.replacement.Replacement.{Replacement}
 
@@ -22,11 +22,11 @@ use Rattle.pawk_eval.specs.declared.replacement.Replacement.{Replacement}
 abbrev pub functions_of : Context → List Function
 functions_of context = map function_view context.code.now.functions.items
 
--- what stands between the slashes of the program
+-- what is between the slashes of the program
 abbrev pub eres_of : Context → List (List ℕ)
 eres_of context = texts_of context.code.now.expressions.items
 
--- the call of a function, where so many more may be nested
+-- the call of a function, where `depth` more may be nested
 abbrev pub enter_of : {S : Type 0} → Calls S → Context → ℕ → ℕ → List Hold → Part S Val
 enter_of calls context depth = call_at calls (eres_of context) (functions_of context) depth
 

@@ -6,24 +6,24 @@ ghost use Rattle.std.specs.Prelude.{◌≤◌, Ok, pos};
 ghost use Rattle.pawk_code.specs.Expressions.{exprs};
 ghost use Rattle.pawk_code.specs.ExpressionViews.{place_view, view, views};
 ghost use Rattle.pawk_code.specs.Statements as actions;
-ghost use Rattle.pawk_meaning.specs.Parts.{bind};
-ghost use Rattle.pawk_meaning.specs.Meaning.{act, aim_of, subscripts};
-ghost use Rattle.pawk_meaning.specs.Places.{add_at, array_at, element_of};
-ghost use Rattle.pawk_places.specs.Moments.{moment};
-ghost use Rattle.pawk_places.specs.Yields.{Yields};
+ghost use Rattle.pawk_semantics.specs.Parts.{bind};
+ghost use Rattle.pawk_semantics.specs.Meaning.{act, aim_of, subscripts};
+ghost use Rattle.pawk_semantics.specs.Places.{add_at, array_at, element_of};
+ghost use Rattle.pawk_runtime.specs.Moments.{moment};
+ghost use Rattle.pawk_runtime.specs.Yields.{Yields};
 ghost use Rattle.pawk_eval.specs.Contexts.{enter_of, eres_of};
 
 use crate::context::Context;
 use crate::expressions::{eval, number};
 use crate::numbers::numeric;
 use crate::places::{key, place};
-use pawk_code::expression::{Expr, Place};
+use pawk_code::expression::{Expr, Lvalue};
 use pawk_code::name::Array;
 use pawk_code::word::Sign;
-use pawk_places::{
-    Run, Table, add_leaf_at_field, add_to_key, add_to_number, add_to_parameter, add_to_place,
-    assign_in_place, field_element, give_back, give_back_target, leaf_element, plain_number,
-    set_at_number, table_of, take_buffer, tally_at_field, write_place,
+use pawk_runtime::{
+    ArrayReference, Run, add_leaf_at_field, add_to_key, add_to_number, add_to_parameter,
+    add_to_place, assign_in_place, field_element, give_back, give_back_target, leaf_element,
+    plain_number, set_at_number, table_of, take_buffer, tally_at_field, write_place,
 };
 use pawk_value::{ValueRef, lend_held};
 use pawk_world::{Halt, World};
@@ -35,7 +35,7 @@ pub(crate) fn add<W: World>(
     context: Context<'_>,
     depth: u64,
     sign: Sign,
-    to: &Place,
+    to: &Lvalue,
     e: &Expr,
     world: &mut W,
     run: &mut Run<'_>,
@@ -46,7 +46,7 @@ pub(crate) fn add<W: World>(
         (actions.add sign (place_view to.now) (view e.now))
         (moment (W.state world.old) run.old)) result (moment (W.state world.new) run.new) }
 {
-    if let Place::Global(slot) = to {
+    if let Lvalue::Global(slot) = to {
         let amount = number(context, depth, e, world, run)?;
         return world.add_scalar(*slot, sign, amount);
     }
@@ -58,14 +58,14 @@ pub(crate) fn add<W: World>(
     add_elsewhere(context, depth, sign, to, e, world, run)
 }
 
-/// Adds the number of an expression to a place that is laid down first, or takes it away.
+/// Adds the number of an expression to a place that is stored first, or takes it away.
 #[cycle(evaluate)]
 #[inline(never)]
 pub(crate) fn add_elsewhere<W: World>(
     context: Context<'_>,
     depth: u64,
     sign: Sign,
-    to: &Place,
+    to: &Lvalue,
     e: &Expr,
     world: &mut W,
     run: &mut Run<'_>,
@@ -90,7 +90,7 @@ pub(crate) fn tally<W: World>(
     context: Context<'_>,
     depth: u64,
     sign: Sign,
-    to: &Place,
+    to: &Lvalue,
     world: &mut W,
     run: &mut Run<'_>,
 ) -> Result<(), Halt>
@@ -100,29 +100,29 @@ pub(crate) fn tally<W: World>(
         (place_view to.now)) (λ aim. add_at W.calls sign aim (Ok (pos 1)))
         (moment (W.state world.old) run.old)) result (moment (W.state world.new) run.new) }
 {
-    if let Place::Global(slot) = to {
+    if let Lvalue::Global(slot) = to {
         return world.add_scalar(*slot, sign, Ok(1));
     }
-    if let Place::Local(number) = to {
+    if let Lvalue::Local(number) = to {
         return add_to_parameter(sign, *number, Ok(1), world, run);
     }
     if let Some((array, n)) = field_element(to) {
         return tally_at_field(sign, table_of(&run.frame, array), n, world, run);
     }
-    if let Place::Element(array, keys) = to {
+    if let Lvalue::Element(array, keys) = to {
         return tally_element(context, depth, sign, *array, keys, world, run);
     }
     tally_elsewhere(context, depth, sign, to, world, run)
 }
 
-/// Adds 1 to a place that is laid down first, or takes it away.
+/// Adds 1 to a place that is stored first, or takes it away.
 #[cycle(evaluate)]
 #[inline(never)]
 pub(crate) fn tally_elsewhere<W: World>(
     context: Context<'_>,
     depth: u64,
     sign: Sign,
-    to: &Place,
+    to: &Lvalue,
     world: &mut W,
     run: &mut Run<'_>,
 ) -> Result<(), Halt>
@@ -172,7 +172,7 @@ pub(crate) fn tally_element<W: World>(
 pub(crate) fn set<W: World>(
     context: Context<'_>,
     depth: u64,
-    to: &Place,
+    to: &Lvalue,
     e: &Expr,
     world: &mut W,
     run: &mut Run<'_>,
@@ -183,7 +183,7 @@ pub(crate) fn set<W: World>(
         (actions.set (place_view to.now) (view e.now))
         (moment (W.state world.old) run.old)) result (moment (W.state world.new) run.new) }
 {
-    if let Place::Global(slot) = to {
+    if let Lvalue::Global(slot) = to {
         if let Expr::Numeric(n) = e {
             let number = numeric(context, depth, n, world, run)?;
             return world.set_scalar(*slot, ValueRef::Num(number));
@@ -195,14 +195,14 @@ pub(crate) fn set<W: World>(
     set_elsewhere(context, depth, to, e, world, run)
 }
 
-/// Assigns the value of an expression, which is laid down first, to a place. A key that is a number is
+/// Assigns the value of an expression, which is stored first, to a place. A key that is a number is
 /// not copied where the value is one too.
 #[cycle(evaluate)]
 #[inline(never)]
 pub(crate) fn set_elsewhere<W: World>(
     context: Context<'_>,
     depth: u64,
-    to: &Place,
+    to: &Lvalue,
     e: &Expr,
     world: &mut W,
     run: &mut Run<'_>,
@@ -215,7 +215,7 @@ pub(crate) fn set_elsewhere<W: World>(
 {
     if let Some((array, key)) = leaf_element(to) {
         if let Expr::Leaf(value) = e {
-            if let Table::Global(slot) = table_of(&run.frame, array) {
+            if let ArrayReference::Global(slot) = table_of(&run.frame, array) {
                 if let Some(key) = plain_number(key, world, run) {
                     if let Some(value) = plain_number(value, world, run) {
                         return set_at_number(slot, key, value, world, run);

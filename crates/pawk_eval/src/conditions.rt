@@ -6,11 +6,11 @@ ghost use Rattle.std.specs.Prelude.{◌≤◌};
 ghost use Rattle.pawk_code.specs.Expressions as codes;
 ghost use Rattle.pawk_code.specs.Expressions.{exprs};
 ghost use Rattle.pawk_code.specs.ExpressionViews.{pattern_view, test_view, view, views};
-ghost use Rattle.pawk_meaning.specs.Meaning as spec;
-ghost use Rattle.pawk_meaning.specs.Meaning.{truth_of};
-ghost use Rattle.pawk_meaning.specs.Parts.{as_truth, bind, settle};
-ghost use Rattle.pawk_places.specs.Moments.{moment};
-ghost use Rattle.pawk_places.specs.Yields.{Yields};
+ghost use Rattle.pawk_semantics.specs.Meaning as spec;
+ghost use Rattle.pawk_semantics.specs.Meaning.{truth_of};
+ghost use Rattle.pawk_semantics.specs.Parts.{as_truth, bind, settle};
+ghost use Rattle.pawk_runtime.specs.Moments.{moment};
+ghost use Rattle.pawk_runtime.specs.Yields.{Yields};
 ghost use Rattle.pawk_eval.specs.Contexts.{enter_of, eres_of};
 
 use crate::context::Context;
@@ -18,12 +18,12 @@ use crate::expressions::{eval, text, truth};
 use crate::numbers::numeric;
 use crate::operands::operand;
 use crate::places::key;
-use pawk_builtins::{Expression, related, same_truth};
+use pawk_builtins::{EreReference, related, same_truth};
 use pawk_code::expression::{Expr, Pattern, Test};
 use pawk_code::leaf::Leaf;
 use pawk_code::name::Array;
 use pawk_code::word::Relation;
-use pawk_places::{
+use pawk_runtime::{
     Run, compare_leaves, compare_number, element_exists, field_exists, find_first, give_back,
     matches_field, number_exists, plain_number, quick_test, related_numbers, table_of, take_buffer,
 };
@@ -127,7 +127,7 @@ pub(crate) fn compare<W: World>(
     compare_values(context, depth, relation, a, b, world, run)
 }
 
-/// How two expressions compare, whose values are laid down.
+/// How two expressions compare, whose values are stored.
 #[cycle(evaluate)]
 pub(crate) fn compare_values<W: World>(
     context: Context<'_>,
@@ -177,7 +177,7 @@ pub(crate) fn matches<W: World>(
 {
     if let Pattern::Fixed(_) = pattern {
         if let Expr::Leaf(Leaf::Field(n)) = e {
-            let expression = Expression {
+            let expression = EreReference {
                 eres: context.code.expressions.as_slice(),
                 pattern,
                 text: &[],
@@ -187,7 +187,7 @@ pub(crate) fn matches<W: World>(
     }
     let text = text(context, depth, e, world, run)?;
     let ere = operand(context, depth, pattern, world, run)?;
-    let expression = Expression {
+    let expression = EreReference {
         eres: context.code.expressions.as_slice(),
         pattern,
         text: &ere,

@@ -9,7 +9,7 @@ use pawk_code::program::{Code, Function};
 /// What a part of a run looks at and never changes.
 #[derive(Clone, Copy)]
 pub struct Context<'p> {
-    /// The functions of the program, by their slots, and what stands between its slashes, by numbers.
+    /// The functions of the program, by their slots, and what is between its slashes, by numbers.
     pub code: &'p Code,
 }
 

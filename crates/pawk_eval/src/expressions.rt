@@ -7,10 +7,10 @@ ghost use Rattle.pawk_value.specs.Value.{shown};
 ghost use Rattle.pawk_value.specs.Held.{added, held_value};
 ghost use Rattle.pawk_code.specs.Expressions as codes;
 ghost use Rattle.pawk_code.specs.ExpressionViews.{argument_views, place_view, view};
-ghost use Rattle.pawk_meaning.specs.Parts.{as_number, as_text, as_truth};
-ghost use Rattle.pawk_meaning.specs.Meaning.{eval};
-ghost use Rattle.pawk_places.specs.Moments.{moment};
-ghost use Rattle.pawk_places.specs.Yields.{Yields};
+ghost use Rattle.pawk_semantics.specs.Parts.{as_number, as_text, as_truth};
+ghost use Rattle.pawk_semantics.specs.Meaning.{eval};
+ghost use Rattle.pawk_runtime.specs.Moments.{moment};
+ghost use Rattle.pawk_runtime.specs.Yields.{Yields};
 ghost use Rattle.pawk_eval.specs.Contexts.{enter_of, eres_of};
 
 use crate::conditions::{holds, test};
@@ -19,20 +19,20 @@ use crate::functions::{call, pass};
 use crate::numbers::numeric;
 use crate::places::place;
 use crate::strings::textual;
-use pawk_code::expression::{Argument, Expr, Place};
+use pawk_code::expression::{Argument, Expr, Lvalue};
 use pawk_code::leaf::Leaf;
-use pawk_places::{
+use pawk_runtime::{
     LEVELS, Run, field_element, field_element_number, give_back, give_back_target, give_back_value,
     leaf_copy, leaf_text, leaf_truth, leaf_value, lent_number, plain_test, plain_value,
     push_field_element, push_place_text, quick_field, read_field_element, read_number, read_place,
-    table_of, take_buffer, text_of_value, value_with, write_place,
+    table_of, take_buffer, value_with, write_place,
 };
 use pawk_value::{
     Fault, Held, Value, ValueRef, hold, lend, lend_held, push_text_lent, to_num_lent, truth_lent,
 };
 use pawk_world::{Halt, World};
 
-/// Lays down the value of an expression: its bytes are appended to `out`.
+/// Stores the value of an expression: its bytes are appended to `out`.
 #[cycle(evaluate)]
 pub(crate) fn eval<W: World>(
     context: Context<'_>,
@@ -75,12 +75,12 @@ pub(crate) fn eval<W: World>(
     }
 }
 
-/// Lays down the value of a place. A key that is a field is not copied.
+/// Stores the value of a place. A key that is a field is not copied.
 #[cycle(evaluate)]
 pub(crate) fn read<W: World>(
     context: Context<'_>,
     depth: u64,
-    from: &Place,
+    from: &Lvalue,
     out: &mut Vec<u8>,
     world: &mut W,
     run: &mut Run<'_>,
@@ -125,7 +125,7 @@ pub(crate) fn invoke<W: World>(
     call(context, depth, f, values, world, run)
 }
 
-/// Calls a function with arguments, and lays its value down.
+/// Calls a function with arguments, and stores its value.
 #[cycle(evaluate)]
 pub(crate) fn lay_call<W: World>(
     context: Context<'_>,
@@ -174,32 +174,12 @@ pub(crate) fn call_text_into<W: World>(
     Ok(())
 }
 
-/// The text of the value of a call, in the buffer of that value if it has one.
-#[cycle(evaluate)]
-pub(crate) fn call_text<W: World>(
-    context: Context<'_>,
-    depth: u64,
-    f: usize,
-    arguments: &[Argument],
-    world: &mut W,
-    run: &mut Run<'_>,
-) -> Result<Vec<u8>, Halt>
-    ensures left { run.new.left ≤ run.old.left }
-    ensures outcome { Yields (λ text. text.items)
-        (as_text [] (eval W.calls (eres_of context.entry) (enter_of W.calls context.entry depth)
-        (codes.call f (codes.arguments (argument_views arguments.now))))
-        (moment (W.state world.old) run.old)) result (moment (W.state world.new) run.new) }
-{
-    let value = invoke(context, depth, f, arguments, world, run)?;
-    Ok(text_of_value(run.alloc, &mut run.spare, value)?)
-}
-
-/// Assigns the value of an expression to a place, and lays it down.
+/// Assigns the value of an expression to a place, and stores it.
 #[cycle(evaluate)]
 pub(crate) fn assign<W: World>(
     context: Context<'_>,
     depth: u64,
-    to: &Place,
+    to: &Lvalue,
     e: &Expr,
     out: &mut Vec<u8>,
     world: &mut W,
@@ -248,7 +228,7 @@ pub(crate) fn number<W: World>(
     }
 }
 
-/// The number of an expression whose value is laid down first, or the fault of its conversion.
+/// The number of an expression whose value is stored first, or the fault of its conversion.
 #[cycle(evaluate)]
 #[inline(never)]
 pub(crate) fn number_beside<W: World>(
@@ -283,7 +263,7 @@ pub(crate) fn number_beside<W: World>(
 pub(crate) fn number_at<W: World>(
     context: Context<'_>,
     depth: u64,
-    from: &Place,
+    from: &Lvalue,
     world: &mut W,
     run: &mut Run<'_>,
 ) -> Result<Result<i64, Fault>, Halt>
@@ -293,7 +273,7 @@ pub(crate) fn number_at<W: World>(
         (codes.read (place_view from.now)))
         (moment (W.state world.old) run.old)) result (moment (W.state world.new) run.new) }
 {
-    if let Place::Field(index) = from {
+    if let Lvalue::Field(index) = from {
         if let Some(field) = quick_field(index, LEVELS, world, run) {
             return lent_number(&Leaf::Field(field), world, run);
         }
@@ -387,7 +367,7 @@ pub(crate) fn text_into<W: World>(
 pub(crate) fn text_at<W: World>(
     context: Context<'_>,
     depth: u64,
-    from: &Place,
+    from: &Lvalue,
     out: &mut Vec<u8>,
     world: &mut W,
     run: &mut Run<'_>,
@@ -399,7 +379,7 @@ pub(crate) fn text_at<W: World>(
         (codes.read (place_view from.now)))
         (moment (W.state world.old) run.old)) result (moment (W.state world.new) run.new) }
 {
-    if let Place::Field(index) = from {
+    if let Lvalue::Field(index) = from {
         if let Some(field) = quick_field(index, LEVELS, world, run) {
             return leaf_text(&Leaf::Field(field), out, world, run);
         }
@@ -429,9 +409,6 @@ pub(crate) fn text<W: World>(
         (view e.now))
         (moment (W.state world.old) run.old)) result (moment (W.state world.new) run.new) }
 {
-    if let Expr::Call(f, arguments) = e {
-        return call_text(context, depth, *f, arguments, world, run);
-    }
     let mut text = take_buffer(run.alloc, &mut run.spare);
     text_into(context, depth, e, &mut text, world, run)?;
     Ok(text)
@@ -478,7 +455,7 @@ pub(crate) fn value<W: World>(
     }
 }
 
-/// Lays down the value of an expression in a buffer of its own.
+/// Stores the value of an expression in a buffer of its own.
 #[cycle(evaluate)]
 pub(crate) fn eval_apart<W: World>(
     context: Context<'_>,

@@ -7,10 +7,10 @@ ghost use Rattle.pawk_value.specs.Value.{shown};
 ghost use Rattle.pawk_code.specs.Expressions as codes;
 ghost use Rattle.pawk_code.specs.ExpressionViews.{argument_views};
 ghost use Rattle.pawk_code.specs.StatementViews.{seen};
-ghost use Rattle.pawk_meaning.specs.Parts.{bind, give};
-ghost use Rattle.pawk_meaning.specs.Meaning.{arguments_of, execs, value_of_way};
-ghost use Rattle.pawk_places.specs.Moments.{holds_of, moment};
-ghost use Rattle.pawk_places.specs.Yields.{Yields};
+ghost use Rattle.pawk_semantics.specs.Parts.{bind, give};
+ghost use Rattle.pawk_semantics.specs.Meaning.{arguments_of, execs, value_of_way};
+ghost use Rattle.pawk_runtime.specs.Moments.{holds_of, moment};
+ghost use Rattle.pawk_runtime.specs.Yields.{Yields};
 ghost use Rattle.pawk_eval.specs.Contexts.{enter_of, eres_of};
 
 use crate::context::Context;
@@ -18,7 +18,7 @@ use crate::expressions::value;
 use crate::statements::execute;
 use pawk_code::expression::Argument;
 use pawk_code::statement::{Leave, Statement};
-use pawk_places::{
+use pawk_runtime::{
     Parameter, Run, array_parameter, close_arrays, give_back_frame, parameters, table_of,
     take_frame, tick,
 };
@@ -53,7 +53,7 @@ pub(crate) fn pass<W: World>(
     Ok(values)
 }
 
-/// Calls a function, where so many calls more may be nested: its value.
+/// Calls a function, where `depth` more calls may be nested: its value.
 ///
 /// Fault `depth` where none may.
 ///

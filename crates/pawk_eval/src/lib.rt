@@ -1,4 +1,7 @@
 //! Expressions and statements of a program, run over any world.
+//!
+//! `inline(always)` marks what every record or byte passes through, `inline(never)` what is rare, so that the locals of
+//! rare arms are not cleared in hot functions (counted by bench/).
 #![tactic(auto)]
 
 mod assignments;

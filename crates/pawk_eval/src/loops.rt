@@ -4,9 +4,9 @@
 
 ghost use Rattle.std.specs.Prelude.{◌≤◌};
 ghost use Rattle.pawk_code.specs.StatementViews.{seen};
-ghost use Rattle.pawk_meaning.specs.Meaning.{act_or_none, execs, for_keys, test_or_true, while_loop};
-ghost use Rattle.pawk_places.specs.Moments.{moment};
-ghost use Rattle.pawk_places.specs.Yields.{Yields};
+ghost use Rattle.pawk_semantics.specs.Meaning.{act_or_none, execs, for_keys, test_or_true, while_loop};
+ghost use Rattle.pawk_runtime.specs.Moments.{moment};
+ghost use Rattle.pawk_runtime.specs.Yields.{Yields};
 ghost use Rattle.pawk_eval.specs.Contexts.{enter_of, eres_of, last_view};
 ghost use Rattle.pawk_eval.specs.Contexts as contexts;
 ghost use Rattle.pawk_eval.specs.Flows.{way_of};
@@ -18,10 +18,10 @@ use crate::statements::{execute, perform};
 use pawk_code::expression::Expr;
 use pawk_code::name::{Array, Variable};
 use pawk_code::statement::{Simple, Statement};
-use pawk_places::{Run, array_keys, set_key, table_of, tick};
+use pawk_runtime::{Run, array_keys, set_key, table_of, tick};
 use pawk_world::{Halt, World};
 
-/// Runs a body while a test holds, a step at each test, and `last` behind each turn. A test that is
+/// Runs a body while a test holds, a step at each test, and `last` after each turn. A test that is
 /// missing holds.
 ///
 /// POSIX.1-2017, awk, "Actions" (`while`, `for`).

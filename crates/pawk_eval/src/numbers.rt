@@ -13,10 +13,10 @@ ghost use Rattle.pawk_code.specs.ExpressionViews.{
   view,
 };
 ghost use Rattle.pawk_world.specs.Sums.{arith_by};
-ghost use Rattle.pawk_meaning.specs.Parts.{as_number, bind, settle};
-ghost use Rattle.pawk_meaning.specs.Meaning.{eval, function_of, number_of};
-ghost use Rattle.pawk_places.specs.Moments.{moment};
-ghost use Rattle.pawk_places.specs.Yields.{Yields};
+ghost use Rattle.pawk_semantics.specs.Parts.{as_number, bind, settle};
+ghost use Rattle.pawk_semantics.specs.Meaning.{eval, function_of, number_of};
+ghost use Rattle.pawk_runtime.specs.Moments.{moment};
+ghost use Rattle.pawk_runtime.specs.Yields.{Yields};
 ghost use Rattle.pawk_eval.specs.Contexts.{enter_of, eres_of, replacement_view};
 
 use crate::context::Context;
@@ -24,18 +24,18 @@ use crate::expressions::{number, text};
 use crate::operands::operand;
 use crate::places::place;
 use crate::replacement::Replacement;
-use pawk_builtins::{Expression, step_side, step_sign};
-use pawk_code::expression::{Expr, FieldsBy, Numeric, NumericFunction, Pattern, Place};
+use pawk_builtins::{EreReference, step_side, step_sign};
+use pawk_code::expression::{Expr, FieldsBy, Lvalue, Numeric, NumericFunction, Pattern};
 use pawk_code::leaf::Leaf;
 use pawk_code::name::Array;
 use pawk_code::word::Step;
-use pawk_places::{
-    LEVELS, Run, Separator, arithmetic_behind, change_place, combine, find_first, find_in_field,
-    give_back, give_back_target, leaf_length, place_in, place_in_leaf, quick_number, result_of,
-    set_match_place, sign_op, split_into, substitute, table_of,
+use pawk_runtime::{
+    LEVELS, Run, SplitSeparator, arithmetic_after, change_place, combine, find_first,
+    find_in_field, give_back, give_back_target, leaf_length, place_in, place_in_leaf, quick_number,
+    result_of, set_match_place, split_into, substitute, table_of,
 };
 use pawk_value::Op;
-use pawk_world::{Halt, World};
+use pawk_world::{Halt, World, op_of};
 
 /// What gives a number.
 #[cycle(evaluate)]
@@ -56,7 +56,7 @@ pub(crate) fn numeric<W: World>(
     match n {
         Numeric::Arithmetic(op, a, b) => arithmetic(context, depth, *op, a, b, world, run),
         Numeric::Sign(sign, a) => {
-            arithmetic_with(context, depth, sign_op(*sign), 0, a, world, run)
+            arithmetic_with(context, depth, op_of(*sign), 0, a, world, run)
         }
         Numeric::Change(op, to, a) => change(context, depth, *op, to, a, world, run),
         Numeric::Step(step, to) => step_by(context, depth, *step, to, world, run),
@@ -75,7 +75,7 @@ pub(crate) fn numeric<W: World>(
     }
 }
 
-/// The result of an operation. The number of a leaf is not laid down.
+/// The result of an operation. The number of a leaf is not stored.
 #[cycle(evaluate)]
 pub(crate) fn arithmetic<W: World>(
     context: Context<'_>,
@@ -129,7 +129,7 @@ pub(crate) fn arithmetic_with<W: World>(
         (moment (W.state world.old) run.old)) result (moment (W.state world.new) run.new) }
 {
     if let Expr::Leaf(y) = b {
-        return arithmetic_behind(op, x, y, world, run);
+        return arithmetic_after(op, x, y, world, run);
     }
     if let Expr::Numeric(n) = b {
         let y = numeric(context, depth, n, world, run)?;
@@ -147,7 +147,7 @@ pub(crate) fn change<W: World>(
     context: Context<'_>,
     depth: u64,
     op: Op,
-    to: &Place,
+    to: &Lvalue,
     e: &Expr,
     world: &mut W,
     run: &mut Run<'_>,
@@ -173,7 +173,7 @@ pub(crate) fn step_by<W: World>(
     context: Context<'_>,
     depth: u64,
     step: Step,
-    to: &Place,
+    to: &Lvalue,
     world: &mut W,
     run: &mut Run<'_>,
 ) -> Result<i64, Halt>
@@ -184,7 +184,7 @@ pub(crate) fn step_by<W: World>(
         (moment (W.state world.old) run.old)) result (moment (W.state world.new) run.new) }
 {
     let target = place(context, depth, to, world, run)?;
-    let op = sign_op(step_sign(step));
+    let op = op_of(step_sign(step));
     let numbers = change_place(op, &target, Ok(1), world, run)?;
     give_back_target(&mut run.spare, target);
     Ok(step_side(step, numbers.0, numbers.1))
@@ -263,7 +263,7 @@ pub(crate) fn split<W: World>(
         FieldsBy::Value(e) => text(context, depth, e, world, run)?,
     };
     let table = table_of(&run.frame, array);
-    let by = Separator {
+    let by = SplitSeparator {
         eres: context.code.expressions.as_slice(),
         by,
         text: &separator,
@@ -294,7 +294,7 @@ pub(crate) fn replace<W: World>(
     let ere = operand(context, depth, parts.pattern, world, run)?;
     let replacement = text(context, depth, parts.text, world, run)?;
     let target = place(context, depth, parts.place, world, run)?;
-    let expression = Expression {
+    let expression = EreReference {
         eres: context.code.expressions.as_slice(),
         pattern: parts.pattern,
         text: &ere,
@@ -326,7 +326,7 @@ pub(crate) fn find<W: World>(
 {
     if let Pattern::Fixed(_) = pattern {
         if let Expr::Leaf(Leaf::Field(n)) = e {
-            let expression = Expression {
+            let expression = EreReference {
                 eres: context.code.expressions.as_slice(),
                 pattern,
                 text: &[],
@@ -337,7 +337,7 @@ pub(crate) fn find<W: World>(
     }
     let text = text(context, depth, e, world, run)?;
     let ere = operand(context, depth, pattern, world, run)?;
-    let expression = Expression {
+    let expression = EreReference {
         eres: context.code.expressions.as_slice(),
         pattern,
         text: &ere,

@@ -3,9 +3,9 @@
 ghost use Rattle.std.specs.Prelude.{◌≤◌};
 ghost use Rattle.pawk_code.specs.Expressions.{exprs};
 ghost use Rattle.pawk_code.specs.ExpressionViews.{pattern_view, views};
-ghost use Rattle.pawk_meaning.specs.Meaning.{operand_of, texts_of, values_of};
-ghost use Rattle.pawk_places.specs.Moments.{moment};
-ghost use Rattle.pawk_places.specs.Yields.{Yields};
+ghost use Rattle.pawk_semantics.specs.Meaning.{operand_of, texts_of, values_of};
+ghost use Rattle.pawk_runtime.specs.Moments.{moment};
+ghost use Rattle.pawk_runtime.specs.Yields.{Yields};
 ghost use Rattle.pawk_eval.specs.Contexts.{enter_of, eres_of};
 
 use crate::context::Context;
@@ -13,7 +13,7 @@ use crate::expressions::{eval, text, text_into};
 use pawk_array::Texts;
 use pawk_builtins::Values;
 use pawk_code::expression::{Expr, Pattern};
-use pawk_places::Run;
+use pawk_runtime::Run;
 use pawk_world::{Halt, World};
 
 /// Appends the text of each expression, which is made in `scratch`.

@@ -5,9 +5,9 @@
 ghost use Rattle.std.specs.Prelude.{◌≤◌};
 ghost use Rattle.pawk_code.specs.Expressions.{exprs};
 ghost use Rattle.pawk_code.specs.ExpressionViews.{place_view, views};
-ghost use Rattle.pawk_meaning.specs.Meaning.{aim_of, subscripts};
-ghost use Rattle.pawk_places.specs.Moments.{aim_view, moment};
-ghost use Rattle.pawk_places.specs.Yields.{Yields};
+ghost use Rattle.pawk_semantics.specs.Meaning.{aim_of, subscripts};
+ghost use Rattle.pawk_runtime.specs.Moments.{aim_view, moment};
+ghost use Rattle.pawk_runtime.specs.Yields.{Yields};
 ghost use Rattle.pawk_eval.specs.Contexts.{enter_of, eres_of};
 
 use crate::context::Context;
@@ -15,8 +15,8 @@ use crate::expressions::{number, text};
 use crate::operands::texts;
 use pawk_array::Texts;
 use pawk_builtins::field_index;
-use pawk_code::expression::{Expr, Place};
-use pawk_places::{Run, Target, element_target, key_of_texts, table_of};
+use pawk_code::expression::{Expr, Lvalue};
+use pawk_runtime::{Run, Target, element_target, key_of_texts, table_of};
 use pawk_world::{Halt, World};
 
 /// Where a place is.
@@ -25,7 +25,7 @@ use pawk_world::{Halt, World};
 pub(crate) fn place<W: World>(
     context: Context<'_>,
     depth: u64,
-    p: &Place,
+    p: &Lvalue,
     world: &mut W,
     run: &mut Run<'_>,
 ) -> Result<Target, Halt>
@@ -36,13 +36,13 @@ pub(crate) fn place<W: World>(
         (moment (W.state world.old) run.old)) result (moment (W.state world.new) run.new) }
 {
     match p {
-        Place::Global(slot) => Ok(Target::Scalar(*slot)),
-        Place::Local(number) => Ok(Target::Parameter(*number)),
-        Place::Element(array, keys) => {
+        Lvalue::Global(slot) => Ok(Target::Scalar(*slot)),
+        Lvalue::Local(number) => Ok(Target::Parameter(*number)),
+        Lvalue::Element(array, keys) => {
             let key = key(context, depth, keys, world, run)?;
             Ok(element_target(table_of(&run.frame, *array), key))
         }
-        Place::Field(e) => {
+        Lvalue::Field(e) => {
             let index = number(context, depth, e, world, run)?;
             Ok(Target::Field(field_index(index)?))
         }

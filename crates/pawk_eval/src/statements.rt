@@ -8,8 +8,8 @@ ghost use Rattle.pawk_code.specs.Expressions as codes;
 ghost use Rattle.pawk_code.specs.ExpressionViews.{format_view, view, views};
 ghost use Rattle.pawk_code.specs.StatementViews.{seen, simple_view, stmt_view};
 ghost use Rattle.pawk_code.specs.Statements as actions;
-ghost use Rattle.pawk_meaning.specs.Parts.{bind, give};
-ghost use Rattle.pawk_meaning.specs.Meaning.{
+ghost use Rattle.pawk_semantics.specs.Parts.{bind, give};
+ghost use Rattle.pawk_semantics.specs.Meaning.{
   act,
   exec,
   execs,
@@ -18,15 +18,15 @@ ghost use Rattle.pawk_meaning.specs.Meaning.{
   text_of_textual,
   texts_of,
 };
-ghost use Rattle.pawk_meaning.specs.Meaning as spec;
-ghost use Rattle.pawk_places.specs.Moments.{moment};
-ghost use Rattle.pawk_places.specs.Yields.{Yields};
+ghost use Rattle.pawk_semantics.specs.Meaning as spec;
+ghost use Rattle.pawk_runtime.specs.Moments.{moment};
+ghost use Rattle.pawk_runtime.specs.Yields.{Yields};
 ghost use Rattle.pawk_eval.specs.Contexts.{enter_of, eres_of};
 ghost use Rattle.pawk_eval.specs.Flows.{way_of};
 
 use crate::assignments::{add, set, tally};
 use crate::context::Context;
-use crate::expressions::{eval, number, text, truth, value};
+use crate::expressions::{eval_apart, number, text, truth, value};
 use crate::flow::Flow;
 use crate::loops::{turns, walk};
 use crate::operands::texts;
@@ -37,7 +37,7 @@ use pawk_builtins::{exit_status, step_sign};
 use pawk_code::expression::{Expr, Format};
 use pawk_code::name::Array;
 use pawk_code::statement::{Leave, Simple, Statement};
-use pawk_places::{
+use pawk_runtime::{
     Run, are_plain, clear_array, give_back, print_alone, print_bytes, print_line, print_plain,
     remove_element, table_of, take_buffer, tick,
 };
@@ -48,7 +48,7 @@ use pawk_world::{Halt, World};
 /// nested, and says how they leave.
 ///
 /// It halts with a fault of what is evaluated, with `depth` or `steps` where no call or no step is
-/// left, with `next`, `nextfile` and `exit`, where the world refuses, and for want of memory.
+/// left, with `next`, `nextfile` and `exit`, where the world refuses, and where memory is refused.
 ///
 /// POSIX.1-2017, awk, "Actions".
 #[cycle(evaluate)]
@@ -200,38 +200,29 @@ pub(crate) fn perform<W: World>(
         (moment (W.state world.old) run.old)) result (moment (W.state world.new) run.new) }
 {
     match s {
-        Simple::Drop(e) => drop_value(context, depth, e, world, run),
+        Simple::Drop(e) => {
+            let (_, bytes) = eval_apart(context, depth, e, world, run)?;
+            give_back(&mut run.spare, bytes);
+            Ok(())
+        }
         Simple::Set(to, e) => set(context, depth, to, e, world, run),
         Simple::Add(sign, to, e) => add(context, depth, *sign, to, e, world, run),
         Simple::Count(step, to) => tally(context, depth, step_sign(*step), to, world, run),
-        Simple::Print(operands) => print(context, depth, &operands.values, world, run),
+        Simple::Print(operands) => {
+            if are_plain(&operands.values) {
+                let printed = print_plain(&operands.values, world, run)?;
+                if printed {
+                    return Ok(());
+                }
+            }
+            print_values(context, depth, &operands.values, world, run)
+        }
         Simple::Printf(format, operands) => {
             printf(context, depth, format, &operands.values, world, run)
         }
         Simple::Delete(array, keys) => delete(context, depth, *array, keys, world, run),
         Simple::Clear(array) => clear_array(table_of(&run.frame, *array), world, run),
     }
-}
-
-/// Evaluates an expression whose value is not wanted.
-#[cycle(evaluate)]
-pub(crate) fn drop_value<W: World>(
-    context: Context<'_>,
-    depth: u64,
-    e: &Expr,
-    world: &mut W,
-    run: &mut Run<'_>,
-) -> Result<(), Halt>
-    ensures left { run.new.left ≤ run.old.left }
-    ensures outcome { Yields (λ _. tt)
-        (act W.calls (eres_of context.entry) (enter_of W.calls context.entry depth)
-        (actions.drop (view e.now))
-        (moment (W.state world.old) run.old)) result (moment (W.state world.new) run.new) }
-{
-    let mut bytes = take_buffer(run.alloc, &mut run.spare);
-    let _ = eval(context, depth, e, &mut bytes, world, run)?;
-    give_back(&mut run.spare, bytes);
-    Ok(())
 }
 
 /// Takes an element away from an array.
@@ -258,34 +249,9 @@ pub(crate) fn delete<W: World>(
     Ok(())
 }
 
-/// Prints the values of expressions.
+/// Prints the values of expressions, each of which is stored first.
 ///
 /// POSIX.1-2017, awk, "Output Statements" (`print`).
-#[cycle(evaluate)]
-#[inline(always)]
-pub(crate) fn print<W: World>(
-    context: Context<'_>,
-    depth: u64,
-    es: &[Expr],
-    world: &mut W,
-    run: &mut Run<'_>,
-) -> Result<(), Halt>
-    ensures left { run.new.left ≤ run.old.left }
-    ensures outcome { Yields (λ _. tt)
-        (bind (texts_of W.calls (eres_of context.entry) (enter_of W.calls context.entry depth)
-        (exprs (views es.now)) []) (spec.print_line W.calls)
-        (moment (W.state world.old) run.old)) result (moment (W.state world.new) run.new) }
-{
-    if are_plain(es) {
-        let printed = print_plain(es, world, run)?;
-        if printed {
-            return Ok(());
-        }
-    }
-    print_values(context, depth, es, world, run)
-}
-
-/// Prints the values of expressions, each of which is laid down first.
 #[cycle(evaluate)]
 pub(crate) fn print_values<W: World>(
     context: Context<'_>,

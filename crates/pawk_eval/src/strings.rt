@@ -7,9 +7,9 @@ ghost use Rattle.pawk_value.specs.Held.{added};
 ghost use Rattle.pawk_code.specs.Expressions.{exprs};
 ghost use Rattle.pawk_code.specs.Expressions as codes;
 ghost use Rattle.pawk_code.specs.ExpressionViews.{format_view, textual_view, views};
-ghost use Rattle.pawk_meaning.specs.Meaning.{joined_texts, text_of_textual};
-ghost use Rattle.pawk_places.specs.Moments.{moment};
-ghost use Rattle.pawk_places.specs.Yields.{Yields};
+ghost use Rattle.pawk_semantics.specs.Meaning.{joined_texts, text_of_textual};
+ghost use Rattle.pawk_runtime.specs.Moments.{moment};
+ghost use Rattle.pawk_runtime.specs.Yields.{Yields};
 ghost use Rattle.pawk_eval.specs.Contexts.{enter_of, eres_of};
 
 use crate::context::Context;
@@ -17,7 +17,7 @@ use crate::expressions::{number, text, text_into};
 use crate::operands::values;
 use pawk_builtins::{Values, both, push_letters, substring, suffix, within_limit};
 use pawk_code::expression::{Expr, Format, Textual};
-use pawk_places::{Run, fill_format, give_back, quick_text};
+use pawk_runtime::{Run, fill_format, give_back, quick_text};
 use pawk_world::{Halt, World};
 
 /// Appends what gives a text. A leaf of which a part is taken, and a leaf or a field by a number whose letters change, are not

@@ -1,4 +1,4 @@
--- Where the bytes of a text stand in the file that it was read from.
+-- Where the bytes of a text are in the file that it was read from.
 use Rattle.std.proofs.Common.{◌≡◌, ◌++◌, ℕ, zero, suc, ◌+◌, ◌<◌, ◌≤◌, Bool, true, false, List, [], ◌∷◌, length, ap, ◌∙◌, refl, arith, zero-add, cond, slice_get, if◌then◌else◌}
 use Rattle.std.specs.Prelude.{nat_lt, count_by}
 use Rattle.std.proofs.lemmas.Bool.{le-ltb, lt-ltb}

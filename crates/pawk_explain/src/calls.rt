@@ -1,16 +1,16 @@
 //! Calls that do not fit what they call: the number 6.
 
-use crate::case::Case;
+use crate::case::FaultyScript;
 use crate::note::Note;
 use crate::words::append_number;
-use pawk_token::token::{Builtin, Mark, Token, Value};
+use pawk_lex::token::{Builtin, Mark, Token, TokenValue};
 use std::alloc::AllocError;
 
 /// How many brackets are open after a token.
-fn depth_after(depth: usize, value: &Value) -> usize {
+fn depth_after(depth: usize, value: &TokenValue) -> usize {
     match value {
-        Value::Mark(Mark::LeftParenthesis | Mark::LeftBracket) => depth.saturating_add(1),
-        Value::Mark(Mark::RightParenthesis | Mark::RightBracket) => depth.saturating_sub(1),
+        TokenValue::Mark(Mark::LeftParenthesis | Mark::LeftBracket) => depth.saturating_add(1),
+        TokenValue::Mark(Mark::RightParenthesis | Mark::RightBracket) => depth.saturating_sub(1),
         _ => depth,
     }
 }
@@ -18,7 +18,7 @@ fn depth_after(depth: usize, value: &Value) -> usize {
 /// Whether this token is a mark.
 fn is_mark(token: Option<&Token>, sign: Mark) -> bool {
     match token {
-        Some(token) => matches!(&token.value, Value::Mark(mark) if *mark == sign),
+        Some(token) => matches!(&token.value, TokenValue::Mark(mark) if *mark == sign),
         None => false,
     }
 }
@@ -37,7 +37,7 @@ fn count_members(tokens: &[Token]) -> usize {
         if depth == 0 {
             break;
         }
-        if depth == 1 && matches!(&token.value, Value::Mark(Mark::Comma)) {
+        if depth == 1 && matches!(&token.value, TokenValue::Mark(Mark::Comma)) {
             count = count.saturating_add(1);
         }
     }
@@ -52,8 +52,8 @@ fn tokens_from<'t>(tokens: &'t [Token], number: usize) -> &'t [Token] {
 /// Whether a token is this name, with or without a `(` directly after it.
 fn has_name(token: &Token, name: &[u8]) -> bool {
     match &token.value {
-        Value::Name(text) => text.as_slice() == name,
-        Value::FunctionName(text) => text.as_slice() == name,
+        TokenValue::Name(text) => text.as_slice() == name,
+        TokenValue::FunctionName(text) => text.as_slice() == name,
         _ => false,
     }
 }
@@ -130,7 +130,7 @@ fn tell_count(note: &mut Note, count: usize) -> Result<(), AllocError> {
 
 /// A call of a built-in function.
 fn explain_builtin(
-    case: &Case<'_, '_>,
+    case: &FaultyScript<'_, '_>,
     function: Builtin,
     note: &mut Note,
 ) -> Result<(), AllocError> {
@@ -147,9 +147,9 @@ fn explain_builtin(
     tell_count(note, count)
 }
 
-/// A call of a function that is defined, of so many parameters.
+/// A call of a function that is defined, with this number of parameters.
 fn explain_function(
-    case: &Case<'_, '_>,
+    case: &FaultyScript<'_, '_>,
     parameters: usize,
     note: &mut Note,
 ) -> Result<(), AllocError> {
@@ -168,7 +168,7 @@ fn explain_function(
 }
 
 /// Whether the name before the call is `func`, as other awks have it.
-fn is_after_func(case: &Case<'_, '_>) -> bool {
+fn is_after_func(case: &FaultyScript<'_, '_>) -> bool {
     match case.tokens.get(..case.count_before()) {
         Some([.., token]) => has_name(token, b"func"),
         _ => false,
@@ -176,7 +176,7 @@ fn is_after_func(case: &Case<'_, '_>) -> bool {
 }
 
 /// A call of a function that is not there.
-fn explain_missing(case: &Case<'_, '_>, note: &mut Note) -> Result<(), AllocError> {
+fn explain_missing(case: &FaultyScript<'_, '_>, note: &mut Note) -> Result<(), AllocError> {
     let name = case.name();
     note.tell("there is no function @", &[name])?;
     if is_after_func(case) {
@@ -189,8 +189,8 @@ fn explain_missing(case: &Case<'_, '_>, note: &mut Note) -> Result<(), AllocErro
 }
 
 /// 6: a call that does not fit what it calls.
-pub(crate) fn explain_call(case: &Case<'_, '_>, note: &mut Note) -> Result<(), AllocError> {
-    if let Some(Value::Builtin(function)) = case.value(case.count_before()) {
+pub(crate) fn explain_call(case: &FaultyScript<'_, '_>, note: &mut Note) -> Result<(), AllocError> {
+    if let Some(TokenValue::Builtin(function)) = case.value(case.count_before()) {
         return explain_builtin(case, *function, note);
     }
     match count_parameters(case.tokens, case.name()) {

@@ -1,17 +1,17 @@
 //! A fault in a program's text, with its tokens.
 
 use crate::script::Script;
-use pawk_token::token::{Token, Value};
+use pawk_lex::token::{Token, TokenValue};
 
 /// A script, its tokens, and the place of the byte at fault in its text, counted from 0.
 #[derive(Clone, Copy)]
-pub(crate) struct Case<'c, 's> {
+pub(crate) struct FaultyScript<'c, 's> {
     pub(crate) script: &'c Script<'s>,
     pub(crate) tokens: &'c [Token],
     pub(crate) start: usize,
 }
 
-/// Whether this byte may stand in a name.
+/// Whether this byte may occur in a name.
 fn is_name_byte(byte: u8) -> bool {
     byte.is_ascii_alphanumeric() || byte == b'_'
 }
@@ -30,7 +30,7 @@ pub(crate) fn byte_at(text: &[u8], index: usize) -> u8 {
     text.get(index).copied().unwrap_or(0)
 }
 
-impl<'c, 's> Case<'c, 's> {
+impl<'c, 's> FaultyScript<'c, 's> {
     /// The text from the byte at fault on.
     pub(crate) fn rest(&self) -> &'c [u8] {
         self.script.text().get(self.start..).unwrap_or(&[])
@@ -62,7 +62,7 @@ impl<'c, 's> Case<'c, 's> {
     }
 
     /// What the token of this number is, counted from 0.
-    pub(crate) fn value(&self, number: usize) -> Option<&'c Value> {
+    pub(crate) fn value(&self, number: usize) -> Option<&'c TokenValue> {
         match self.tokens.get(number) {
             Some(token) => Some(&token.value),
             None => None,

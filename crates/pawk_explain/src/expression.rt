@@ -1,11 +1,11 @@
 //! Regular expressions that cannot be read: the number 10.
 
-use crate::case::{Case, byte_at};
+use crate::case::{FaultyScript, byte_at};
 use crate::lexical::tell_escape;
 use crate::note::Note;
 use memchr::memrchr;
-use pawk_pattern::{Ere, EreRefusal};
-use pawk_token::token::Value;
+use pawk_ere_syntax::{Ere, EreRefusal};
+use pawk_lex::token::TokenValue;
 use std::alloc::{AllocError, Global};
 
 /// How long an expression is at most in which the place is sought.
@@ -54,7 +54,7 @@ fn find(alloc: Global, text: &[u8]) -> Option<Finding> {
     })
 }
 
-/// What is told of a form that is not defined, at this byte.
+/// What is reported about a form that is not defined, at this byte.
 fn words_of_form(byte: u8) -> &'static str {
     match byte {
         b'*' | b'+' | b'?' => "there is nothing to repeat before @",
@@ -107,7 +107,7 @@ fn explain_form(byte: u8, note: &mut Note) -> Result<(), AllocError> {
     note.advise(advice_of_form(byte), &[sign.as_slice()])
 }
 
-/// What is told of the other causes.
+/// What is reported about the other causes.
 fn words_of(why: EreRefusal) -> &'static str {
     match why {
         EreRefusal::Bound =>
@@ -147,11 +147,11 @@ fn explain_finding(text: &[u8], found: Finding, note: &mut Note) -> Result<(), A
 /// 10: a regular expression that is none. The place is that in the expression.
 pub(crate) fn explain_expression(
     alloc: Global,
-    case: &Case<'_, '_>,
+    case: &FaultyScript<'_, '_>,
     note: &mut Note,
 ) -> Result<(), AllocError> {
     let text = match case.value(case.count_before()) {
-        Some(Value::Ere(text)) => text.as_slice(),
+        Some(TokenValue::Ere(text)) => text.as_slice(),
         _ => &[],
     };
     match find(alloc, text) {

@@ -47,7 +47,7 @@ fn limits_of(fault: Fault) -> (u64, u64) {
     }
 }
 
-/// Appends the line that tells what happened.
+/// Appends the line that says what happened.
 fn append_fault(alloc: Global, out: &mut Vec<u8>, fault: Fault) -> Result<(), AllocError> {
     let (one, other) = limits_of(fault);
     let mut first = Vec::new(alloc);
@@ -104,7 +104,7 @@ fn append_bytes(out: &mut Vec<u8>, bytes: &[u8]) -> Result<(), AllocError> {
     append_beginning(out, bytes, LONGEST)
 }
 
-/// Appends the line that tells where a record is.
+/// Appends the line that says where a record is.
 fn append_record(out: &mut Vec<u8>, record: RecordPlace<'_>) -> Result<(), AllocError> {
     out.extend_from_slice(b"  in ")?;
     append_name(out, record.file)?;

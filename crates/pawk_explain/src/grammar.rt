@@ -1,24 +1,24 @@
 //! What is at fault with a token where it is: the numbers 2, 4, 7 and 9.
 
-use crate::case::Case;
+use crate::case::FaultyScript;
 use crate::note::Note;
 use crate::words::{append_beginning, append_number};
-use pawk_token::token::{Mark, Token, Value};
+use pawk_lex::token::{Mark, Token, TokenValue};
 use std::alloc::AllocError;
 
 /// How many bytes of a token are shown at most.
 const LONGEST: usize = 40;
 
 /// What comes before the text of a token.
-fn kind(value: &Value) -> &'static str {
+fn kind(value: &TokenValue) -> &'static str {
     match value {
-        Value::Number(_) => "the number ",
-        Value::String(_) => "the string ",
-        Value::Ere(_) => "the expression ",
-        Value::Name(_) => "the name ",
-        Value::FunctionName(_) => "the call of ",
-        Value::Builtin(_) => "the function ",
-        Value::Mark(mark) => kind_of_mark(*mark),
+        TokenValue::Number(_) => "the number ",
+        TokenValue::String(_) => "the string ",
+        TokenValue::Ere(_) => "the expression ",
+        TokenValue::Name(_) => "the name ",
+        TokenValue::FunctionName(_) => "the call of ",
+        TokenValue::Builtin(_) => "the function ",
+        TokenValue::Mark(mark) => kind_of_mark(*mark),
     }
 }
 
@@ -31,7 +31,7 @@ fn kind_of_mark(mark: Mark) -> &'static str {
     }
 }
 
-/// What to write where this sign may not stand.
+/// What to write where this sign is not allowed.
 fn advice_of(mark: Mark) -> &'static str {
     match mark {
         Mark::Newline =>
@@ -58,8 +58,12 @@ fn advice_of(mark: Mark) -> &'static str {
 }
 
 /// Names a token.
-fn tell_token(case: &Case<'_, '_>, token: &Token, note: &mut Note) -> Result<(), AllocError> {
-    if matches!(&token.value, Value::Mark(Mark::Newline)) {
+fn tell_token(
+    case: &FaultyScript<'_, '_>,
+    token: &Token,
+    note: &mut Note,
+) -> Result<(), AllocError> {
+    if matches!(&token.value, TokenValue::Mark(Mark::Newline)) {
         return note.tell("the end of the line", &[]);
     }
     let text = case.script.text().get(token.span.start..token.span.end);
@@ -68,9 +72,9 @@ fn tell_token(case: &Case<'_, '_>, token: &Token, note: &mut Note) -> Result<(),
 }
 
 /// What to do about a token.
-fn advise_of_token(value: &Value, note: &mut Note) -> Result<(), AllocError> {
+fn advise_of_token(value: &TokenValue, note: &mut Note) -> Result<(), AllocError> {
     match value {
-        Value::Mark(mark) => match advice_of(*mark) {
+        TokenValue::Mark(mark) => match advice_of(*mark) {
             "" => Ok(()),
             words => note.advise(words, &[]),
         },
@@ -78,8 +82,11 @@ fn advise_of_token(value: &Value, note: &mut Note) -> Result<(), AllocError> {
     }
 }
 
-/// 2: a token, or the end of the text, where it may not stand.
-pub(crate) fn explain_unexpected(case: &Case<'_, '_>, note: &mut Note) -> Result<(), AllocError> {
+/// 2: a token, or the end of the text, where it is not allowed.
+pub(crate) fn explain_unexpected(
+    case: &FaultyScript<'_, '_>,
+    note: &mut Note,
+) -> Result<(), AllocError> {
     match case.token() {
         Some(token) => {
             tell_token(case, token, note)?;
@@ -105,14 +112,20 @@ fn advice_of_variable(name: &[u8]) -> &'static str {
 }
 
 /// 4: a variable that may not be assigned is a target.
-pub(crate) fn explain_assigned(case: &Case<'_, '_>, note: &mut Note) -> Result<(), AllocError> {
+pub(crate) fn explain_assigned(
+    case: &FaultyScript<'_, '_>,
+    note: &mut Note,
+) -> Result<(), AllocError> {
     let name = case.name();
     note.tell("@ is set by the run, and cannot be assigned", &[name])?;
     note.advise(advice_of_variable(name), &[])
 }
 
 /// 7: a statement outside what it belongs to.
-pub(crate) fn explain_misplaced(case: &Case<'_, '_>, note: &mut Note) -> Result<(), AllocError> {
+pub(crate) fn explain_misplaced(
+    case: &FaultyScript<'_, '_>,
+    note: &mut Note,
+) -> Result<(), AllocError> {
     let name = case.name();
     match name.first() {
         Some(b'n') => {

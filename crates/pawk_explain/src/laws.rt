@@ -5,7 +5,7 @@ ghost use Rattle.pawk_explain.specs.Lines.{lines_as_lf, omissions};
 ghost use Rattle.pawk_explain.specs.Reading.{IsReadFrom};
 
 /// Each byte of a script's text is in the bytes of its files at the place that `Script::place` gives, however many
-/// files were appended: nothing is read from nothing, and each step of `Script::append_file` keeps it so.
+/// files were appended: nothing is read from no files, and each step of `Script::append_file` keeps it so.
 pub fn bytes_stay_at_their_places()
     ensures nothing { IsReadFrom [] [] [] }
     ensures newline { (bytes text places : List ℕ) → IsReadFrom bytes text places →

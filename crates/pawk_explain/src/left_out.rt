@@ -1,6 +1,6 @@
 //! What to write in place of names that the language leaves out: the number 11.
 
-use crate::case::Case;
+use crate::case::FaultyScript;
 use crate::note::Note;
 use std::alloc::AllocError;
 
@@ -32,7 +32,10 @@ pub(crate) fn advice_of(name: &[u8]) -> &'static str {
 }
 
 /// 11: a name of the standard that the language leaves out.
-pub(crate) fn explain_left_out(case: &Case<'_, '_>, note: &mut Note) -> Result<(), AllocError> {
+pub(crate) fn explain_left_out(
+    case: &FaultyScript<'_, '_>,
+    note: &mut Note,
+) -> Result<(), AllocError> {
     let name = case.name();
     note.tell("@ is left out of the language", &[name])?;
     note.advise(advice_of(name), &[])

@@ -1,19 +1,19 @@
 //! What is at fault with a byte, a form of input or output, or a numeral: the numbers 1, 3 and 8.
 
-use crate::case::{Case, byte_at, name_at};
+use crate::case::{FaultyScript, byte_at, name_at};
 use crate::note::Note;
 use crate::words::append_number;
 use pawk_value::NUMBER_LIMIT;
 use std::alloc::AllocError;
 
-/// What is told of a fraction.
+/// What is reported about a fraction.
 const FRACTION: &str = "this is a fraction, and numbers are whole";
 
 /// What to do about a fraction.
 const COUNT_CENTS: &str = "count in tenths or cents: 125 in place of 1.25";
 
 /// Whether the byte at fault is in a string: one begins after the last token.
-fn is_in_string(case: &Case<'_, '_>) -> bool {
+fn is_in_string(case: &FaultyScript<'_, '_>) -> bool {
     let last = case.count_before().saturating_sub(1);
     let end = match case.tokens.get(last) {
         Some(token) => token.span.end,
@@ -33,7 +33,7 @@ pub(crate) fn tell_escape(note: &mut Note, words: &str, escape: &[u8]) -> Result
 }
 
 /// An escape that strings do not have.
-fn explain_escape(case: &Case<'_, '_>, note: &mut Note) -> Result<(), AllocError> {
+fn explain_escape(case: &FaultyScript<'_, '_>, note: &mut Note) -> Result<(), AllocError> {
     let escape = case.rest().get(..2).unwrap_or(b"\\");
     if escape.contains(&b'\n') {
         note.tell("a string cannot go on in the next line", &[])?;
@@ -55,7 +55,7 @@ pub(crate) const ESCAPES: &str =
     "there are \\\" \\/ \\\\ \\a \\b \\f \\n \\r \\t \\v, and \\ with one to three octal digits";
 
 /// A backslash.
-fn explain_backslash(case: &Case<'_, '_>, note: &mut Note) -> Result<(), AllocError> {
+fn explain_backslash(case: &FaultyScript<'_, '_>, note: &mut Note) -> Result<(), AllocError> {
     if is_in_string(case) {
         return explain_escape(case, note);
     }
@@ -67,7 +67,7 @@ fn explain_backslash(case: &Case<'_, '_>, note: &mut Note) -> Result<(), AllocEr
 }
 
 /// A point.
-fn explain_point(case: &Case<'_, '_>, note: &mut Note) -> Result<(), AllocError> {
+fn explain_point(case: &FaultyScript<'_, '_>, note: &mut Note) -> Result<(), AllocError> {
     if byte_at(case.rest(), 1).is_ascii_digit() {
         note.tell(FRACTION, &[])?;
         note.advise(COUNT_CENTS, &[])
@@ -76,7 +76,7 @@ fn explain_point(case: &Case<'_, '_>, note: &mut Note) -> Result<(), AllocError>
     }
 }
 
-/// What is told of some bytes, if there is more to tell than that they begin nothing.
+/// What is reported about some bytes, if there is more to say than that they begin nothing.
 fn words_of(byte: u8) -> Option<&'static str> {
     match byte {
         b'"' => Some("this string has no end on its line"),
@@ -123,7 +123,10 @@ fn explain_other(byte: u8, note: &mut Note) -> Result<(), AllocError> {
 }
 
 /// 1: a byte that begins no token, or a string or an expression that cannot be read.
-pub(crate) fn explain_token(case: &Case<'_, '_>, note: &mut Note) -> Result<(), AllocError> {
+pub(crate) fn explain_token(
+    case: &FaultyScript<'_, '_>,
+    note: &mut Note,
+) -> Result<(), AllocError> {
     let byte = case.byte();
     match words_of(byte) {
         Some(words) => {
@@ -152,7 +155,10 @@ fn advice_of_pipe(text: &[u8]) -> &'static str {
 }
 
 /// 3: a form of input or output that the language leaves out.
-pub(crate) fn explain_input_output(case: &Case<'_, '_>, note: &mut Note) -> Result<(), AllocError> {
+pub(crate) fn explain_input_output(
+    case: &FaultyScript<'_, '_>,
+    note: &mut Note,
+) -> Result<(), AllocError> {
     match (case.byte(), byte_at(case.rest(), 1)) {
         (b'|', _) => {
             note.tell("pawk runs no other program: there is no |", &[])?;
@@ -209,7 +215,10 @@ fn is_exponent(text: &[u8]) -> bool {
 }
 
 /// 8: a numeral that is too great, or is directly followed by a `.`, a letter or `_`.
-pub(crate) fn explain_numeral(case: &Case<'_, '_>, note: &mut Note) -> Result<(), AllocError> {
+pub(crate) fn explain_numeral(
+    case: &FaultyScript<'_, '_>,
+    note: &mut Note,
+) -> Result<(), AllocError> {
     let rest = after_digits(case.rest());
     let next = byte_at(rest, 0);
     if next == b'.' {

@@ -1,9 +1,10 @@
-//! What is told of a fault in a program's text.
+//! What is reported about a fault in a program's text.
 
 use crate::words::{append_lines, append_words};
 use std::alloc::{AllocError, Global};
 
-/// What is told of a fault in a program's text: its place, counted from 0, what is at fault, and lines of advice.
+/// What is reported about a fault in a program's text: its place, counted from 0, what is at fault, and lines of
+/// advice.
 #[derive(Drop)]
 pub(crate) struct Note {
     pub(crate) start: usize,

@@ -1,7 +1,7 @@
 //! Programs that are refused.
 
 use crate::calls::explain_call;
-use crate::case::Case;
+use crate::case::FaultyScript;
 use crate::display::{append_position, append_source};
 use crate::expression::explain_expression;
 use crate::grammar::{explain_assigned, explain_misplaced, explain_nesting, explain_unexpected};
@@ -11,14 +11,14 @@ use crate::note::Note;
 use crate::script::Script;
 use crate::uses::explain_uses;
 use crate::words::append_lines;
+use pawk_lex::refusal::{Cause, SyntaxRefusal};
 use pawk_lex::token_list::TokenList;
-use pawk_token::refusal::{Cause, SyntaxRefusal};
 use std::alloc::{AllocError, Global};
 
 /// Explains a cause.
 fn explain_cause(
     alloc: Global,
-    case: &Case<'_, '_>,
+    case: &FaultyScript<'_, '_>,
     cause: Cause,
     note: &mut Note,
 ) -> Result<(), AllocError> {
@@ -45,7 +45,7 @@ fn note_of(
     start: usize,
 ) -> Result<Note, AllocError> {
     let list = TokenList::read(alloc, script.text())?;
-    let case = Case {
+    let case = FaultyScript {
         script,
         tokens: list.tokens.as_slice(),
         start,

@@ -39,7 +39,7 @@ pub fn explain_reason(alloc: Global, reason: Reason) -> Result<Vec<u8>, AllocErr
     Ok(out)
 }
 
-/// Explains the route `parallel`.
+/// The lines that explain the route `parallel`.
 pub fn explain_parallel(alloc: Global) -> Result<Vec<u8>, AllocError> {
     lines(
         alloc,
@@ -47,7 +47,7 @@ pub fn explain_parallel(alloc: Global) -> Result<Vec<u8>, AllocError> {
     )
 }
 
-/// Explains the route `redo`.
+/// The lines that explain the route `redo`.
 pub fn explain_redo(alloc: Global) -> Result<Vec<u8>, AllocError> {
     lines(
         alloc,

@@ -61,7 +61,7 @@ fn begins_with_newline(text: &[u8]) -> bool
 impl<'a> Script<'a> {
     ghost use Rattle.pawk_explain.specs.Script.{text_of, omissions_of, text_before};
 
-    /// No text yet.
+    /// A script to which no file was appended yet.
     pub fn new(alloc: Global) -> Script<'a>
         ensures text { text_of result ≡ [] }
         ensures omissions { omissions_of result ≡ [] }
@@ -101,7 +101,7 @@ impl<'a> Script<'a> {
         append_as_lf(&mut self.text, &mut self.omissions, bytes)
     }
 
-    /// What is parsed.
+    /// The text that is parsed: the files, one after the other.
     pub fn text(&self) -> &[u8]
         ensures { result.now ≡ text_of self.now }
     {

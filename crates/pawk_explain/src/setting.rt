@@ -3,8 +3,8 @@
 use crate::left_out;
 use crate::lexical::ESCAPES;
 use crate::words::{append_beginning, append_lines, append_number, append_words};
+use pawk_lex::vocabulary::{builtin, is_left_out, is_run_variable, reserved_word};
 use pawk_settings::{BUDGET_LIMIT, SettingsRefusal};
-use pawk_token::vocabulary::{builtin, is_left_out, is_run_variable, reserved_word};
 use std::alloc::{AllocError, Global};
 
 /// How many bytes of a value are shown at most.

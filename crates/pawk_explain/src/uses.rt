@@ -1,10 +1,10 @@
 //! Names with two uses: the number 5.
 
-use crate::case::Case;
+use crate::case::FaultyScript;
 use crate::display::append_position;
 use crate::note::Note;
-use pawk_token::token::{Builtin, Mark, Token, Value};
-use pawk_token::vocabulary::is_variable;
+use pawk_lex::token::{Builtin, Mark, Token, TokenValue};
+use pawk_lex::vocabulary::is_variable;
 use std::alloc::AllocError;
 
 /// How a name is used.
@@ -32,23 +32,26 @@ struct Uses {
 /// The tokens round a name: the two before it, and the one after it.
 #[derive(Clone, Copy)]
 struct Round<'t> {
-    earlier: Option<&'t Value>,
-    before: Option<&'t Value>,
-    after: Option<&'t Value>,
+    earlier: Option<&'t TokenValue>,
+    before: Option<&'t TokenValue>,
+    after: Option<&'t TokenValue>,
     is_filled: bool,
 }
 
 /// Whether this is a mark.
-fn is_mark(value: Option<&Value>, sign: Mark) -> bool {
+fn is_mark(value: Option<&TokenValue>, sign: Mark) -> bool {
     match value {
-        Some(Value::Mark(mark)) => *mark == sign,
+        Some(TokenValue::Mark(mark)) => *mark == sign,
         _ => false,
     }
 }
 
 /// Whether this may be the name of a function before the list of its parameters or arguments.
-fn is_called(value: Option<&Value>) -> bool {
-    matches!(value, Some(Value::FunctionName(_) | Value::Name(_)))
+fn is_called(value: Option<&TokenValue>) -> bool {
+    matches!(
+        value,
+        Some(TokenValue::FunctionName(_) | TokenValue::Name(_))
+    )
 }
 
 /// Whether a name between these is alone in a list of parameters or of arguments.
@@ -76,19 +79,19 @@ fn use_of_name(round: Round<'_>) -> Use {
 }
 
 /// How a token uses a name, if it has this one.
-fn use_of(value: &Value, name: &[u8], round: Round<'_>) -> Option<Use> {
+fn use_of(value: &TokenValue, name: &[u8], round: Round<'_>) -> Option<Use> {
     match value {
-        Value::Name(text) if text.as_slice() == name => Some(use_of_name(round)),
-        Value::FunctionName(text) if text.as_slice() == name => Some(Use::Function),
+        TokenValue::Name(text) if text.as_slice() == name => Some(use_of_name(round)),
+        TokenValue::FunctionName(text) if text.as_slice() == name => Some(Use::Function),
         _ => None,
     }
 }
 
 /// How many brackets are open after a token.
-fn depth_after(depth: usize, value: &Value) -> usize {
+fn depth_after(depth: usize, value: &TokenValue) -> usize {
     match value {
-        Value::Mark(Mark::LeftParenthesis | Mark::LeftBracket) => depth.saturating_add(1),
-        Value::Mark(Mark::RightParenthesis | Mark::RightBracket) => depth.saturating_sub(1),
+        TokenValue::Mark(Mark::LeftParenthesis | Mark::LeftBracket) => depth.saturating_add(1),
+        TokenValue::Mark(Mark::RightParenthesis | Mark::RightBracket) => depth.saturating_sub(1),
         _ => depth,
     }
 }
@@ -104,10 +107,10 @@ struct Walk {
 
 impl Walk {
     /// The walk past a token.
-    fn past(self, value: &Value) -> Walk {
+    fn past(self, value: &TokenValue) -> Walk {
         let depth = depth_after(self.depth, value);
-        let is_split = matches!(value, Value::Builtin(Builtin::Split));
-        let is_comma = matches!(value, Value::Mark(Mark::Comma));
+        let is_split = matches!(value, TokenValue::Builtin(Builtin::Split));
+        let is_comma = matches!(value, TokenValue::Mark(Mark::Comma));
         let is_filled = is_comma && self.list > 0 && self.list == depth;
         let list = if is_split {
             depth.saturating_add(1)
@@ -164,7 +167,7 @@ impl Uses {
 }
 
 /// The uses of the name at the place at fault.
-fn read_uses(case: &Case<'_, '_>) -> Uses {
+fn read_uses(case: &FaultyScript<'_, '_>) -> Uses {
     let name = case.name();
     let mut uses = Uses::none();
     let mut earlier = None;
@@ -228,7 +231,7 @@ fn other_than(uses: Uses, first: Use, elsewhere: Option<usize>) -> Option<Clash>
     None
 }
 
-/// The two uses of a name that are told.
+/// The two uses of a name that are reported.
 fn find_clash(uses: Uses) -> Option<Clash> {
     if uses.here != Use::Listed {
         return other_than(uses, uses.here, None);
@@ -241,7 +244,11 @@ fn find_clash(uses: Uses) -> Option<Clash> {
 }
 
 /// Tells of two uses.
-fn explain_clash(case: &Case<'_, '_>, clash: Clash, note: &mut Note) -> Result<(), AllocError> {
+fn explain_clash(
+    case: &FaultyScript<'_, '_>,
+    clash: Clash,
+    note: &mut Note,
+) -> Result<(), AllocError> {
     note.tell("@ is ", &[case.name()])?;
     note.tell(words_of(clash.first), &[])?;
     match clash.elsewhere {
@@ -258,13 +265,16 @@ fn explain_clash(case: &Case<'_, '_>, clash: Clash, note: &mut Note) -> Result<(
     note.advise("give one of them another name", &[])
 }
 
-/// Whether a token may stand before a parameter in a list of parameters.
+/// Whether a token may come before a parameter in a list of parameters.
 fn is_in_parameters(token: &Token) -> bool {
-    matches!(&token.value, Value::Name(_) | Value::Mark(Mark::Comma))
+    matches!(
+        &token.value,
+        TokenValue::Name(_) | TokenValue::Mark(Mark::Comma)
+    )
 }
 
 /// Whether the name at the place is in the list of the parameters of a function.
-fn is_parameter(case: &Case<'_, '_>) -> bool {
+fn is_parameter(case: &FaultyScript<'_, '_>) -> bool {
     let before = case.tokens.get(..case.count_before()).unwrap_or(&[]);
     let length = before
         .iter()
@@ -280,8 +290,8 @@ fn is_parameter(case: &Case<'_, '_>) -> bool {
     }
 }
 
-/// What is told of a parameter.
-fn words_of_parameter(case: &Case<'_, '_>, uses: Uses) -> &'static str {
+/// What is reported about a parameter.
+fn words_of_parameter(case: &FaultyScript<'_, '_>, uses: Uses) -> &'static str {
     if is_variable(case.name()) {
         "the parameter @ has the name of a variable of the language"
     } else if uses.function.is_some() {
@@ -293,12 +303,12 @@ fn words_of_parameter(case: &Case<'_, '_>, uses: Uses) -> &'static str {
     }
 }
 
-/// What is told of a name that is itself used in one way.
+/// What is reported about a name that is itself used in one way.
 const OTHER_KIND: &str =
     "@ is of another kind than what is passed for it, or than what it is passed for";
 
-/// What is told of a function.
-fn words_of_function(case: &Case<'_, '_>, uses: Uses) -> &'static str {
+/// What is reported about a function.
+fn words_of_function(case: &FaultyScript<'_, '_>, uses: Uses) -> &'static str {
     if uses.definitions > 1 {
         "the function @ is defined twice"
     } else if is_variable(case.name()) {
@@ -308,8 +318,8 @@ fn words_of_function(case: &Case<'_, '_>, uses: Uses) -> &'static str {
     }
 }
 
-/// What is told of a name of which no two uses were seen.
-fn words_of_single(case: &Case<'_, '_>, uses: Uses) -> &'static str {
+/// What is reported about a name of which no two uses were seen.
+fn words_of_single(case: &FaultyScript<'_, '_>, uses: Uses) -> &'static str {
     if uses.here == Use::Function {
         words_of_function(case, uses)
     } else if is_parameter(case) {
@@ -322,7 +332,11 @@ fn words_of_single(case: &Case<'_, '_>, uses: Uses) -> &'static str {
 }
 
 /// Tells of a name of which no two uses were seen.
-fn explain_single(case: &Case<'_, '_>, uses: Uses, note: &mut Note) -> Result<(), AllocError> {
+fn explain_single(
+    case: &FaultyScript<'_, '_>,
+    uses: Uses,
+    note: &mut Note,
+) -> Result<(), AllocError> {
     note.tell(words_of_single(case, uses), &[case.name()])?;
     note.advise(
         "a name is an array, a scalar or a function in all its places, and where it is passed to",
@@ -331,7 +345,7 @@ fn explain_single(case: &Case<'_, '_>, uses: Uses, note: &mut Note) -> Result<()
 }
 
 /// 5: one name has two uses.
-pub(crate) fn explain_uses(case: &Case<'_, '_>, note: &mut Note) -> Result<(), AllocError> {
+pub(crate) fn explain_uses(case: &FaultyScript<'_, '_>, note: &mut Note) -> Result<(), AllocError> {
     let uses = read_uses(case);
     match find_clash(uses) {
         Some(clash) => explain_clash(case, clash, note),

@@ -49,7 +49,7 @@ pub(crate) fn append_plain(out: &mut Vec<u8>, bytes: &[u8]) -> Result<(), AllocE
     Ok(())
 }
 
-/// Appends the beginning of bytes, of at most so many, and ` ..` where there are more.
+/// Appends the beginning of bytes, of at most `most`, and ` ..` where there are more.
 pub(crate) fn append_beginning(
     out: &mut Vec<u8>,
     bytes: &[u8],

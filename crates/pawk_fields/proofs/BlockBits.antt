@@ -17,7 +17,7 @@ pub bits_mask : (s : List ℕ) → blank_bits s ≡ mask_l (map is_blank s)
 bits_mask [] = refl
 bits_mask (b ∷ s) = ap (λ n. cond (is_blank b) 1 0 + 2 * n) (bits_mask s)
 
--- so many bits are enough
+-- k bits are enough
 pub bits_fit : (s : List ℕ) (k : ℕ) → length s ≤ k → blank_bits s < 2 ^ k
 bits_fit s k le =
     let most = mask_l-lt (map is_blank s) in
@@ -45,7 +45,7 @@ bits_append (b ∷ s) t =
     let twice : blank_bits t * 2 ^ length (b ∷ s) ≡ 2 * (blank_bits t * 2 ^ length s) = ap (λ n. blank_bits t * n) (pow-suc 2 (length s)) ∙ omega arith in
     omega (arith, more, twice)
 
--- a blank behind bytes
+-- a blank after bytes
 pub bits_behind : (s : List ℕ) → blank_bits (s ++ 32 ∷ []) ≡ blank_bits s + 2 ^ length s
 bits_behind s = bits_append s (32 ∷ []) ∙ omega arith
 
@@ -115,7 +115,7 @@ module _ (s : List ℕ) (from : ℕ) where
   pub length-block : length (block_from s from) ≤ 32
   length-block = omega (arith, length-take 32 (drop from s ++ 32 ∷ []))
 
-  -- it begins with the bytes of the lanes, and those behind them are either the last ones
+  -- it begins with the bytes of the lanes, and those after them are either the last ones
   pub block_ends : (n later : ℕ) → from + 16 ≤ length s → length s < from + 32 → n ≡ blank_bits (chunk from 16 s) → later ≡ blank_bits (drop (from + 16) s ++ 32 ∷ []) → n + later * 65536 ≡ blank_bits (block_from s from)
   block_ends n later room near is behind =
       let lanes = chunk from 16 s in

@@ -12,9 +12,9 @@ use Rattle.pawk_fields.specs.Blocks.{blank_bits}
 use Rattle.pawk_fields.specs.Fields.{is_not_blank}
 use Rattle.pawk_fields.proofs.BlockBits.{bits_behind, bits_drop, bits_fit, first_blank}
 
--- ---- the bits of the lanes, and one behind them
+-- ---- the bits of the lanes, and one after them
 
--- a blank behind bytes ends their word
+-- a blank after bytes ends their word
 ended : (xs : List ℕ) → prefix_len is_not_blank (xs ++ 32 ∷ []) ≡ prefix_len is_not_blank xs
 ended [] = refl
 ended (x ∷ xs) = ap (λ n. cond (is_not_blank x) (1 + n) 0) (ended xs)
@@ -49,7 +49,7 @@ module _ (s : List ℕ) (from : ℕ) where
   near run room is lt =
       is ∙ sym (split ∙ cond-false _ _ _ (ne_eqb _ _ (λ (e : prefix_len is_not_blank (chunk from 16 s) ≡ length (chunk from 16 s)). omega (arith, e, is, lt, length-chunk from 16 s room))))
 
-  -- or goes on behind them
+  -- or goes on after them
   pub far : (run : ℕ) → from + 16 ≤ length s → run ≡ prefix_len is_not_blank (drop 0 (chunk from 16 s)) → 16 ≤ run → prefix_len is_not_blank (drop from s) ≡ 16 + prefix_len is_not_blank (drop (from + 16) s)
   far run room is le =
       let long = length-chunk from 16 s room in
@@ -57,7 +57,7 @@ module _ (s : List ℕ) (from : ℕ) where
       let all : prefix_len is_not_blank (chunk from 16 s) ≡ length (chunk from 16 s) = omega (arith, is, le, long, most) in
       split ∙ cond-true _ _ _ (eq-eqb _ _ all) ∙ ap (λ n. n + prefix_len is_not_blank (drop (from + 16) s)) long
 
-  -- or it stands in the last lanes
+  -- or it is in the last lanes
   pub last : (run : ℕ) → 16 ≤ length s → length s - 16 ≤ from → run ≡ prefix_len is_not_blank (drop (from - (length s - 16)) (chunk (length s - 16) 16 s)) → run ≡ prefix_len is_not_blank (drop from s)
   last run long le is =
       let place = length s - 16 in

@@ -35,7 +35,7 @@ left_step s i r true false lt is one =
 left_step s i r false false lt is one =
     inl (one, ap (fields_left false) (drop_more s i 0 lt) ∙ left_in_word (get_or s i 0) (drop (i + 1) s) (sym is))
 
--- what is left behind the words that have begun
+-- what is left after the words that have begun
 pub left_on : (fs : List (List ℕ)) (s : List ℕ) (i n r : ℕ) (after_blank blank : Bool) → i < length s → blank ≡ is_blank (slice_index_or s i 0) → r ≡ bool_byte (after_blank && not blank) → drop n fs ≡ fields_left after_blank (drop i s)
     → drop (n + r) fs ≡ fields_left blank (drop (i + 1) s)
 left_on fs s i n r after_blank blank lt is one left =

@@ -32,7 +32,7 @@ fields_of_some (b ∷ s) none some =
       | false ↦ (λ e. fields_of_word b s e)
     ] refl
 
--- once they are passed, no blanks stand in front
+-- once they are passed, no blanks are at the front
 pub no_blanks_left : (s : List ℕ) → prefix_len is_blank (drop (prefix_len is_blank s) s) ≡ 0
 no_blanks_left [] = refl
 no_blanks_left (b ∷ s) =

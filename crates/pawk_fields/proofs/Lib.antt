@@ -6,3 +6,11 @@ pub mod WordLanes
 pub mod EndLanes
 pub mod BlockBits
 pub mod WordBits
+pub mod BetweenLemmas
+pub mod NewlineLemmas
+pub mod WalkLemmas
+pub mod FieldsOfLemmas
+pub mod LawLemmas
+pub mod ReadLemmas
+pub mod SearchLemmas
+pub mod FieldLemmas

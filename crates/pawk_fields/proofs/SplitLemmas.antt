@@ -77,7 +77,7 @@ word_to (b ∷ t) start at = by_first (word_to t start (at + 1)) (is_blank b) re
         let p : at + 1 + prefix_len is_not_blank t ≡ at + suc (prefix_len is_not_blank t) = omega arith in
         rw (e, n) (later ∙ ap (λ q. (start, q) ∷ words_from None q (drop (prefix_len is_not_blank t) t)) p)
 
--- where no blank stands in front a word begins
+-- where no blank is at the front a word begins
 pub first_word : (t : List ℕ) (at : ℕ) → prefix_len is_blank t ≡ 0 → 0 < length t
     → words_from None at t ≡ (at, at + prefix_len is_not_blank t) ∷ words_from None (at + prefix_len is_not_blank t) (drop (prefix_len is_not_blank t) t)
 first_word [] at none some = absurd (omega arith)
@@ -112,7 +112,7 @@ module _ (test : ℕ → Bool) (s : List ℕ) where
   rest : (at b : ℕ) (t : List ℕ) → drop at s ≡ b ∷ t → drop (at + 1) s ≡ t
   rest at b t left = sym (drop-drop 1 at s) ∙ ap (drop 1) left
 
-  -- up to `at` no byte of the piece passes, and what is left stands there
+  -- up to `at` no byte of the piece passes, and what is left is there
   are_pieces : (t : List ℕ) (start at : ℕ) → drop at s ≡ t → start ≤ at → at ≤ length s → NonePass test s start at → ArePieces test s start (pieces_from test start at t)
   are_pieces [] start at left le within none = (refl, le, none, inl (omega (arith, length-drop at s, ap length left), refl))
   are_pieces (b ∷ t) start at left le within none =

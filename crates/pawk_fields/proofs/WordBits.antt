@@ -73,8 +73,8 @@ abbrev other : Bool → Bool → Bool
 other true b = not b
 other false b = b
 
--- a bit for each byte that is a blank where the one before it is none, or the other way round, and one for the byte behind
--- them, which counts as no blank
+-- a bit for each byte that is a blank where the one before it is none, or the other way round, and one for the byte
+-- after them, which counts as no blank
 abbrev pub changes : Bool → List ℕ → ℕ
 changes a [] = cond a 1 0
 changes a (b ∷ s) = cond (other a (is_blank b)) 1 0 + 2 * changes (is_blank b) s
@@ -189,7 +189,7 @@ gap_some (b ∷ s) some none =
 
 -- ---- words
 
--- so many bytes of a text and a space behind it
+-- n bytes of a text and a space after it
 abbrev pub part : ℕ → List ℕ → List ℕ
 part m t = take m (t ++ 32 ∷ [])
 
@@ -356,7 +356,7 @@ module _ (s : List ℕ) (block place n : ℕ) (low : block ≤ place) (high : pl
       ∙ ap (words_from None (place + gap here)) (drop-drop (gap here) place s)
       ∙ ap (λ p. words_from None p (drop p s)) (sym start_is)
 
-  -- where no word ends behind it, it is not the block's first byte
+  -- where no word ends after it, it is not the block's first byte
   pub on_there : bit_and n (n - 1) ≡ 0 → 0 < blank_bits (block_from s block) → block < block + count_trailing_zeros 64 n
   on_there none some =
       elim (eq-zero-or-pos (place - block)) [
@@ -413,7 +413,7 @@ module _ (s : List ℕ) (block place n : ℕ) (low : block ≤ place) (high : pl
         ∙ ap (λ l. (place + gap here, place + far) ∷ words_from None (place + far) l) (drop-drop far place s)
         ∙ ap₂ (λ a b. (a, b) ∷ words_from None b (drop b s)) (sym start_is) (sym end_is)
 
-    -- the changes behind it
+    -- the changes after it
     pub left_behind : (end : ℕ) → end ≡ block + count_trailing_zeros 64 (bit_and n (n - 1))
         → bit_and (bit_and n (n - 1)) (bit_and n (n - 1) - 1) ≡ 2 ^ (end - block) * changes true (part (32 - (end - block)) (drop end s))
     left_behind end at =

@@ -56,7 +56,7 @@ both_lanes true false = refl
 both_lanes false true = refl
 both_lanes false false = refl
 
--- a word begins with b behind a
+-- a word begins with b after a
 begins_lane : (a b : ℕ) → top 7 (bit_and (blank_lane a) (no_blank_lane b)) ≡ is_blank a && is_not_blank b
 begins_lane a b =
     ap₂ (λ x y. top 7 (bit_and x y)) (either_lane (eqb a 32) (eqb a 9) (eqb a 10)) (neither_lane (eqb b 32) (eqb b 9) (eqb b 10))
@@ -73,7 +73,7 @@ ones_begins (a ∷ before) (b ∷ here) =
     ones-mask_l_cons (top 7 (bit_and (blank_lane a) (no_blank_lane b))) (begins_mask before here)
     ∙ ap₂ (λ m n. cond m 1 0 + n) (begins_lane a b) (ones_begins before here)
 
--- so many bits are set in the mask that is made of two vectors
+-- the mask that is made of two vectors has a bit for each word that begins
 pub lanes_tell : (before here : List ℕ) → length before ≡ 16 → length here ≡ 16
     → count_ones (mask_l (map (top 7) (zip2 bit_and (zip2 bit_or (zip2 equal_lane before (replicate 16 32)) (zip2 bit_or (zip2 equal_lane before (replicate 16 9)) (zip2 equal_lane before (replicate 16 10)))) (zip2 bit_and (zip2 other_lane here (replicate 16 32)) (zip2 bit_and (zip2 other_lane here (replicate 16 9)) (zip2 other_lane here (replicate 16 10)))))) % 2 ^ 64) ≡ word_begins before here
 lanes_tell before here lb lh =
@@ -96,7 +96,7 @@ begins_bound (a ∷ before) (b ∷ here) =
     let more = begins_bound before here in
     elim (is_blank a && is_not_blank b) as (λ v. cond v 1 0 + word_begins before here ≤ length (b ∷ here)) [ true ↦ omega (arith, more) | false ↦ omega (arith, more) ]
 
--- ---- what is left behind them
+-- ---- what is left after them
 
 -- a byte goes by
 begin_on : (a b : ℕ) (s : List ℕ) → length (fields_left (is_blank a) (b ∷ s)) ≡ cond (is_blank a && is_not_blank b) 1 0 + length (fields_left (is_blank b) s)
@@ -106,7 +106,7 @@ begin_on a b s =
     let on = count_on total (b ∷ s) 0 0 (cond (is_blank a && is_not_blank b) 1 0) (is_blank a) (is_blank b) byte refl (sym (byte_is (is_blank a && is_not_blank b))) (zero-add total) in
     omega (arith, on)
 
--- so many bytes go by
+-- n bytes go by
 chunk_on : (n a : ℕ) (s : List ℕ) → n ≤ length s → length (fields_left (is_blank a) s) ≡ word_begins (take n (a ∷ s)) (take n s) + length (fields_left (is_blank (get_or (a ∷ s) n 0)) (drop n s))
 chunk_on zero a s le = sym (zero-add _)
 chunk_on (suc n) a [] le = absurd (omega arith)

@@ -3,3 +3,12 @@ pub mod Words
 pub mod Splits
 pub mod FieldSeparator
 pub mod Blocks
+pub mod Between
+pub mod FieldWalks
+pub mod FieldsOf
+pub mod Cut
+pub mod Law
+pub mod ReadEre
+pub mod Search
+pub mod FieldList
+pub mod Laws

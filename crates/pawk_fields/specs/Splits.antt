@@ -11,8 +11,8 @@ use Rattle.pawk_value.specs.Bytes.{is_blank}
 abbrev pub separates : ℕ → Bool → ℕ → Bool
 separates separator paragraph b = (b == separator) || (paragraph && (b == 10))
 
--- The ranges of the pieces between the bytes that pass the test, in bytes that stand from place
--- `at` on; the first piece begins at `start`.
+-- The ranges of the pieces between the bytes that pass the test, in bytes that begin at place `at`;
+-- the first piece begins at `start`.
 abbrev pub pieces_from : (ℕ → Bool) → ℕ → ℕ → List ℕ → List (ℕ × ℕ)
 pieces_from test start at [] = (start, at) ∷ []
 pieces_from test start at (b ∷ s) =
@@ -27,7 +27,7 @@ pieces_after separator paragraph s (Some p) =
 
 -- ---- blanks separate
 
--- The ranges of the runs of bytes that are no blanks, in bytes that stand from place `at` on, where
+-- The ranges of the runs of bytes that are no blanks, in bytes that begin at place `at`, where
 -- the first run may have begun before.
 abbrev pub words_from : Option ℕ → ℕ → List ℕ → List (ℕ × ℕ)
 words_from None at [] = []
@@ -45,7 +45,7 @@ abbrev pub NonePass : (ℕ → Bool) → List ℕ → ℕ → ℕ → Type 0
 NonePass test s i j = (k : ℕ) → i ≤ k → k < j → test (slice_index s k) ≡ true → ⊥
 
 -- The ranges are the pieces of s from place `from` on: each holds no byte that passes the test, ends
--- at the end or before one that does, and the next one begins behind that byte.
+-- at the end or before one that does, and the next one begins after that byte.
 abbrev pub ArePieces : (ℕ → Bool) → List ℕ → ℕ → List (ℕ × ℕ) → Type 0
 ArePieces test s from [] = ⊥
 ArePieces test s from (f ∷ fs) =

@@ -9,7 +9,7 @@ use std::simd::prelude::*;
 /// How many bytes are looked at side by side.
 pub(crate) const LANES: usize = 16;
 
-/// The bit behind those of the lanes.
+/// The bit after those of the lanes.
 pub(crate) const BEHIND: u64 = 65_536;
 
 /// The blanks among the bytes that are looked at side by side from a place on.
@@ -24,7 +24,7 @@ pub(crate) fn lane_blanks(text: &[u8], place: usize) -> u64
     is_blank.to_bitmask()
 }
 
-/// The blanks of a short text, and one behind it.
+/// The blanks of a short text, and one after it.
 #[inline(never)]
 fn short_blanks(text: &[u8]) -> u64
     requires { length text.now < LANES }
@@ -39,7 +39,7 @@ fn short_blanks(text: &[u8]) -> u64
     bits
 }
 
-/// The blanks of the last bytes of a text, and one behind them.
+/// The blanks of the last bytes of a text, and one after them.
 #[inline(always)]
 fn last_blanks(text: &[u8], from: usize) -> u64
     requires long { LANES ≤ length text.now }

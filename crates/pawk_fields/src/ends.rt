@@ -21,7 +21,7 @@ fn lane_run(text: &[u8], place: usize, skip: usize) -> usize
 }
 
 /// Where the word ends that goes on at a place near the end of a text: the last bytes are looked at
-/// side by side where there are so many.
+/// side by side where there are that many.
 #[inline(always)]
 fn late_end(text: &[u8], from: usize) -> usize
     requires near { length text.now < from + LANES }

@@ -14,8 +14,8 @@ use crate::ends::word_end;
 use std::alloc::AllocError;
 use std::ops::Range;
 
-/// Adds the ranges of the words that end within a block, until there are so many. A word begins or ends where a byte and the
-/// one before it are not both blanks or both none; a blank stands before the block, and none behind it.
+/// Adds the ranges of the words that end within a block, until there are `count`. A word begins or ends where a byte
+/// and the one before it are not both blanks or both none; a blank is before the block, and none after it.
 #[inline(always)]
 fn add_words(
     text: &[u8],
@@ -85,7 +85,8 @@ fn add_long(
     Ok(())
 }
 
-/// Adds the ranges of the words that end within the block at a place, until there are so many, or that of one long word.
+/// Adds the ranges of the words that end within the block at a place, until there are `count`, or that of one long
+/// word.
 #[inline(always)]
 fn find_block(
     text: &[u8],
@@ -109,7 +110,7 @@ fn find_block(
     add_words(text, blanks, ranges, place, count)
 }
 
-/// Looks for words from a place on, until there are so many ranges or none is left.
+/// Looks for words from a place on, until there are `count` ranges or none is left.
 #[inline(always)]
 fn find_from(
     text: &[u8],
@@ -134,9 +135,9 @@ fn find_from(
     Ok(())
 }
 
-/// Looks for the words of a text from a place on, and adds their ranges, in bytes counted from 0, until there are so many
-/// ranges or no word is left. Then `next` is the place from which on the next word is looked for, or `None`. What was added
-/// and what is left are together what was left, also where memory was refused.
+/// Looks for the words of a text from a place on, and adds their ranges, in bytes counted from 0, until there are
+/// `count` ranges or no word is left. Then `next` is the place from which on the next word is looked for, or `None`.
+/// What was added and what is left are together what was left, also where memory was refused.
 ///
 /// POSIX.1-2017, awk, "Variables and Special Variables" (`FS`, the default).
 #[inline(never)]

@@ -24,12 +24,12 @@ pub enum FieldSeparator {
     ByteOrNewline(u8),
 }
 
-/// A field, as a range of the record in bytes counted from 0, and where a walk goes on behind it.
+/// A field, as a range of the record in bytes counted from 0, and where a walk goes on after it.
 #[derive(Clone, Copy)]
 pub struct FieldStep {
     /// The first byte of the field.
     pub start: usize,
-    /// The byte behind it.
+    /// The byte after it.
     pub end: usize,
     /// The place from which on the next field is looked for, if there may be one.
     pub next: Option<usize>,

@@ -216,7 +216,7 @@ first_percent (b ∷ s) h = elim (eqb_tells b 37) [ inl y ↦ ap (λ x. x ∷ s)
 past_is_shorter : (s : List ℕ) (n : ℕ) → length s ≤ n → length (past_directive s) ≤ n
 past_is_shorter s n h = let short = shorter_directive s in omega arith
 
--- what the pieces behind a `%` are
+-- what the pieces after a `%` are
 abbrev behind_percent : ℕ → List ℕ → List Piece
 behind_percent n s =
     cond (begins is_percent s) (Percent ∷ pieces_within n (drop 1 s))

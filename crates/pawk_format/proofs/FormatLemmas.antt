@@ -18,7 +18,7 @@ use Rattle.pawk_format.specs.FormatViews.{IsRadix}
 
 -- ---- digits, from the last to the first
 
--- room is left while digits are left
+-- space is left while digits are left
 pub room_left : (left start : ℕ) → 0 < left → left < 8 ^ (start - 2) → 2 ≤ start → 3 ≤ start
 room_left left zero h s l = absurd (omega arith)
 room_left left (suc zero) h s l = absurd (omega arith)

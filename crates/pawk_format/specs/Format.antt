@@ -110,7 +110,8 @@ with_spaces left width text = if left then text ++ spaces (width - length text) 
 abbrev pub in_width : Directive → List ℕ → List ℕ
 in_width d text = with_spaces d.flags.left d.width text
 
--- the zeros between what stands before a number and its digits: the precision is the least number of digits; without one, and without `-`, the flag `0` fills the width with zeros
+-- the zeros between what is before a number and its digits: the precision is the least number of digits; without one,
+-- and without `-`, the flag `0` fills the width with zeros
 abbrev pub zero_count : Bool → Option ℕ → ℕ → ℕ → ℕ → ℕ
 zero_count fills (Some p) width before count = p - count
 zero_count fills None width before count = if fills then width - (before + count) else 0
@@ -180,7 +181,7 @@ hexadecimal_prefix kind.Hexadecimal = codes "0x"
 hexadecimal_prefix kind.UpperHexadecimal = codes "0X"
 hexadecimal_prefix _ = []
 
--- it stands with `#`, where the number is not 0
+-- it is written with `#`, where the number is not 0
 abbrev pub unsigned_prefix : Directive → ℕ → List ℕ
 unsigned_prefix d n = if d.flags.alternate && not (n == 0) then hexadecimal_prefix d.conversion else []
 
@@ -296,7 +297,8 @@ abbrev pub value_text : Directive → List Val → Result (List ℕ) Fault
 value_text d [] = Err Format
 value_text d (v ∷ vs) = directive_text d v
 
--- the text of the pieces behind the bytes so far: each directive takes the next value; the first fault decides, in a directive its form, a missing value, the value, the length of all bytes up to its end; last the length of the whole
+-- the text of the pieces after the bytes so far: each directive takes the next value; the first fault decides, in a
+-- directive its form, a missing value, the value, the length of all bytes up to its end; last the length of the whole
 unfoldable pub text_of_pieces : List Piece → List Val → List ℕ → Result (List ℕ) Fault
 text_of_pieces [] vs out = within_limit out
 text_of_pieces (Plain b ∷ ps) vs out = text_of_pieces ps vs (out ++ b ∷ [])

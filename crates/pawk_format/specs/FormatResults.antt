@@ -7,7 +7,8 @@ use Rattle.pawk_scalar.specs.declared.faults.Stop.TheVariants as stop
 use Rattle.pawk_scalar.specs.Value.{Val}
 use Rattle.pawk_format.specs.Format.{Piece, text_of_pieces, writes}
 
--- the bytes or the fault that are wanted; want of memory is told only where a byte is written before the first fault
+-- the bytes or the fault that are wanted; a refused allocation is reported only where a byte is written before the
+-- first fault
 abbrev pub Formats : List Piece → List Val → Result (Vec ℕ Global) Stop → Type 0
 Formats ps vs (Ok text) = text_of_pieces ps vs [] ≡ Ok text.items
 Formats ps vs (Err (stop.Fault f)) = text_of_pieces ps vs [] ≡ Err f

@@ -48,12 +48,12 @@ abbrev pub shown_values : Arguments → List Val
 shown_values (arguments.Owned vs) = map shown vs.now
 shown_values (arguments.Lent vs) = map lent_value vs.now
 
--- the values that are left behind a piece
+-- the values that are left after a piece
 abbrev pub values_behind : Piece → List Val → List Val
 values_behind (code.Place d) vs = drop 1 vs
 values_behind _ vs = vs
 
--- a text behind the text so far, where the length allows it
+-- a text after the text so far, where the length allows it
 abbrev pub text_behind : List ℕ → Result (List ℕ) Fault → Result (List ℕ) Fault
 text_behind out text = and_then text (λ t. within_limit (out ++ t))
 
@@ -81,18 +81,20 @@ abbrev pub as_text : Result (Option ℕ) Fault → Result (List ℕ) Fault
 as_text (Ok b) = Ok (option_to_list b)
 as_text (Err f) = Err f
 
--- bytes are to be written behind those that there are
+-- bytes are to be written after those that there are
 abbrev pub Longer : List ℕ → Result (List ℕ) Fault → Type 0
 Longer before (Ok text) = length before < length text
 Longer before (Err f) = ⊥
 
--- the call made the bytes that are wanted, or tells the fault; want of memory is told only where bytes are to be written
+-- the call made the bytes that are wanted, or reports the fault; a refused allocation is reported only where bytes are
+-- to be written
 abbrev pub Makes : {A : Type 0} → List ℕ → Result (List ℕ) Fault → List ℕ → Result A Stop → Type 0
 Makes before wanted made (Ok u) = wanted ≡ Ok made
 Makes before wanted made (Err (stop.Fault f)) = wanted ≡ Err f
 Makes before wanted made (Err stop.Memory) = Longer before wanted
 
--- the bytes or the fault that are wanted; want of memory is told only where a byte is written before the first fault
+-- the bytes or the fault that are wanted; a refused allocation is reported only where a byte is written before the
+-- first fault
 abbrev pub Writes : {A : Type 0} → List format.Piece → List Val → List ℕ → Result A Stop → Type 0
 Writes ps vs made (Ok u) = format.text_of_pieces ps vs [] ≡ Ok made
 Writes ps vs made (Err (stop.Fault f)) = format.text_of_pieces ps vs [] ≡ Err f

@@ -1,14 +1,14 @@
 -- What a format that was read once shows.
 use Rattle.std.specs.Prelude.{◌≡◌, ℕ, List, [], ◌∷◌, map}
 use Rattle.std.specs.List.{flat_map}
-use Rattle.pawk_format.specs.declared.template.Part.{Part}
-use Rattle.pawk_format.specs.declared.template.Part.TheVariants as part
+use Rattle.pawk_format.specs.declared.template.FormatPart.{FormatPart}
+use Rattle.pawk_format.specs.declared.template.FormatPart.TheVariants as part
 use Rattle.pawk_format.specs.declared.template.Template.{Template}
 use Rattle.pawk_format.specs.Format.{Piece, Plain, Percent, Place, Malformed}
 use Rattle.pawk_format.specs.FormatViews.{cap_pieces_of}
 
 -- the pieces that a part shows
-abbrev pub part_pieces : Part → List Piece
+abbrev pub part_pieces : FormatPart → List Piece
 part_pieces (part.Plain bytes) = map Plain bytes.items
 part_pieces part.Percent = Percent ∷ []
 part_pieces (part.Place d) = Place d ∷ []

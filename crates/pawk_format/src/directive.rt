@@ -33,11 +33,11 @@ pub enum Conversion {
 /// The flags of a directive.
 #[derive(Clone, Copy)]
 pub struct Flags {
-    /// `-`: spaces stand behind the text.
+    /// `-`: the spaces come after the text.
     pub left: bool,
     /// `+`: a number has a sign.
     pub plus: bool,
-    /// A space: it stands where a number has no sign.
+    /// A space: it is written where a number has no sign.
     pub space: bool,
     /// `0`: zeros fill the width.
     pub zero: bool,
@@ -145,13 +145,13 @@ fn allows_precision(conversion: Conversion, some: bool) -> bool
 
 /// A count in front of a text, and what follows it.
 #[derive(Clone, Copy)]
-struct Count<'a> {
+struct LeadingCount<'a> {
     value: usize,
     rest: &'a [u8],
 }
 
 /// The number that the digits in front of a text write, and what follows them.
-fn read_count(text: &[u8]) -> Count<'_>
+fn read_count(text: &[u8]) -> LeadingCount<'_>
     ensures value { result.value
         ≡ cap (digits_value (take (prefix_len is_digit text.now) text.now)) }
     ensures rest { result.rest.now
@@ -160,7 +160,7 @@ fn read_count(text: &[u8]) -> Count<'_>
     let digits = leading_digits(text);
     let (_, rest) = text.split_at(digits.count);
     let value = digits.value.min(LENGTH_LIMIT as u64 + 1) as usize;
-    Count { value, rest }
+    LeadingCount { value, rest }
 }
 
 /// A precision in front of a text, if there is one, and what follows it.

@@ -41,7 +41,7 @@ fn push_format(out: &mut Vec<u8>, format: &[u8], arguments: Arguments<'_>) -> Re
 }
 
 /// Makes a buffer the text of a format with lent values, as `format`. What the buffer held is lost, and
-/// its room is used again. After a stop nothing is said of what the buffer holds.
+/// its space is used again. After a stop nothing is said of what the buffer holds.
 pub fn format_into(out: &mut Vec<u8>, format: &[u8], values: &[ValueRef<'_>]) -> Result<(), Stop>
     ensures { Writes (pieces_of format.now) (map lent_value values.now) out.new.items result }
 {

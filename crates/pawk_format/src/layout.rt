@@ -18,10 +18,10 @@ fn push_copies(out: &mut Vec<u8>, byte: u8, count: usize) -> Result<(), AllocErr
     out.resize(out.len() + count, byte)
 }
 
-/// What stands round the body of a text: spaces up to a width, before it or behind it.
+/// What surrounds the body of a text: spaces up to a width, before it or after it.
 #[derive(Clone, Copy)]
 pub struct Frame {
-    /// Whether the spaces stand behind.
+    /// Whether the spaces come after it.
     pub left: bool,
     /// The least number of bytes.
     pub width: usize,
@@ -76,7 +76,7 @@ pub fn push_plain(out: &mut Vec<u8>, directive: Directive, text: &[u8]) -> Resul
     push_framed(out, frame_of(directive), &[], 0, text)
 }
 
-/// How many zeros stand before the digits of a number.
+/// How many zeros are before the digits of a number.
 fn count_zeros(directive: Directive, before: usize, count: usize) -> usize
     ensures { result
         ≡ zero_count (fills_zeros directive.flags) directive.precision directive.width before count }

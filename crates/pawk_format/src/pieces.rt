@@ -29,7 +29,7 @@ pub struct Front<'a> {
     pub rest: &'a [u8],
 }
 
-/// How many bytes stand before the first `%`.
+/// How many bytes are before the first `%`.
 fn count_plain(text: &[u8]) -> usize
     ensures value { result ≡ prefix_len is_plain text.now }
     ensures bound { result ≤ length text.now }

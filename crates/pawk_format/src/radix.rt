@@ -4,7 +4,7 @@ ghost use Rattle.std.specs.Prelude.{◌≡◌, ◌⊎◌, ◌≤◌, ◌<◌, �
 ghost use Rattle.pawk_format.specs.Format.{radix_text};
 ghost use Rattle.pawk_format.specs.Format as spec;
 
-/// Room for the octal digits of 64 bits, with two bytes to spare.
+/// Space for the octal digits of 64 bits, with two bytes to spare.
 pub const RADIX_ROOM: usize = 24;
 
 /// The byte of a digit.

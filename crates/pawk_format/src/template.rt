@@ -17,7 +17,7 @@ use std::alloc::{AllocError, Global};
 
 /// A part of a format, with its own bytes.
 #[derive(Drop)]
-pub enum Part {
+pub enum FormatPart {
     /// Bytes that stay as they are.
     Plain(Vec<u8>),
     /// `%%`.
@@ -29,36 +29,36 @@ pub enum Part {
 }
 
 /// The part that a piece is.
-fn part_of(alloc: Global, piece: Piece<'_>) -> Result<Part, AllocError>
+fn part_of(alloc: Global, piece: Piece<'_>) -> Result<FormatPart, AllocError>
     ensures { IfOk result (λ part. part_pieces part ≡ shown_pieces piece.entry) }
 {
     match piece {
-        Piece::Plain(bytes) => Ok(Part::Plain(Vec::from_slice(alloc, bytes)?)),
-        Piece::Percent => Ok(Part::Percent),
-        Piece::Place(directive) => Ok(Part::Place(directive)),
-        Piece::Malformed => Ok(Part::Malformed),
+        Piece::Plain(bytes) => Ok(FormatPart::Plain(Vec::from_slice(alloc, bytes)?)),
+        Piece::Percent => Ok(FormatPart::Percent),
+        Piece::Place(directive) => Ok(FormatPart::Place(directive)),
+        Piece::Malformed => Ok(FormatPart::Malformed),
     }
 }
 
 /// The piece that a part is.
-fn piece_of(part: &Part) -> Piece<'_>
+fn piece_of(part: &FormatPart) -> Piece<'_>
     ensures { shown_pieces result ≡ part_pieces part.now }
 {
     match part {
-        Part::Plain(bytes) => Piece::Plain(bytes.as_slice()),
-        Part::Percent => Piece::Percent,
-        Part::Place(directive) => Piece::Place(*directive),
-        Part::Malformed => Piece::Malformed,
+        FormatPart::Plain(bytes) => Piece::Plain(bytes.as_slice()),
+        FormatPart::Percent => Piece::Percent,
+        FormatPart::Place(directive) => Piece::Place(*directive),
+        FormatPart::Malformed => Piece::Malformed,
     }
 }
 
 /// A format whose directives were read once, for many texts.
 #[derive(Drop)]
 pub struct Template {
-    parts: Vec<Part>,
+    parts: Vec<FormatPart>,
 }
 
-/// The template of a format. It is refused for want of memory alone.
+/// The template of a format. It is refused only where an allocation is refused.
 pub fn read_template(alloc: Global, format: &[u8]) -> Result<Template, AllocError>
     ensures { IfOk result (λ template. IsTemplateOf template format.now) }
 {

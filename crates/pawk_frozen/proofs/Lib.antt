@@ -1,4 +1,3 @@
 pub mod KeyLemmas
-pub mod PairLemmas
 pub mod KeptLemmas
 pub mod TableLemmas

@@ -12,11 +12,13 @@ use Rattle.pawk_world.specs.Answers.{Answers}
 use Rattle.pawk_world.specs.Halts as halt
 use Rattle.pawk_world.specs.Worlds.{Cell, scalar, element, gives, halts}
 use Rattle.pawk_admit.specs.Roles.{Roles}
-use Rattle.pawk_frozen.specs.declared.mark.Mark.{Mark as CodeMark}
+use Rattle.pawk_frozen.specs.declared.mark.CellMark.{CellMark as CodeMark}
 use Rattle.pawk_frozen.specs.Marks.{Mark, blank, summed, last_put, created, Marks, mark_found, put_mark, Table, mark_at, with_mark, with_amount}
 use Rattle.pawk_frozen.specs.Frozens.{Frozen, is_sum, signed_amount, with_sum, noted}
-use Rattle.pawk_frozen.specs.MarkViews.{kept, mark_view, Rise}
-use Rattle.pawk_frozen.proofs.KeyLemmas.{put_same, named}
+use Rattle.pawk_frozen.specs.MarkViews.{kept, mark_view}
+use Rattle.pawk_keyed_map.specs.Keyed.{Rise}
+use Rattle.pawk_frozen.proofs.KeyLemmas.{named}
+use Rattle.pawk_keyed_map.proofs.EntriesLemmas.{put_same}
 use Rattle.pawk_frozen.proofs.KeptLemmas.{within, kept_within, kept_mark_is}
 
 -- ---- an answer for a mark is one for the marks of an array

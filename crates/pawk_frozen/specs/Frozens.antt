@@ -33,7 +33,7 @@ abbrev pub signed_amount : Sign → ℤ → ℤ
 signed_amount Plus y = y
 signed_amount Minus y = pos 0 -ℤ y
 
--- the greatest size of a sum of a chunk's amounts; behind a greater one no value of the cell leaves a number
+-- the greatest size of a sum of a chunk's amounts; after a greater one no value of the cell leaves a number
 abbrev pub greatest_sum : ℤ
 greatest_sum = pos (2 ^ 64)
 
@@ -48,7 +48,7 @@ kept_mark c blank s = gives tt s
 kept_mark c (last_put v) s = gives tt s
 kept_mark c created s = gives tt s
 
--- the fault of the amount's conversion is told; the cell's own is not known yet
+-- the fault of the amount's conversion is reported; the cell's own is not known yet
 abbrev pub with_sum : Cell → Sign → Result ℤ Fault → Frozen → Answer Frozen (Unit {0})
 with_sum c sign (Err f) s = halts (halt.fault f) s
 with_sum c sign (Ok y) s = kept_mark c (with_amount (signed_amount sign y) (mark_at c s.table)) s

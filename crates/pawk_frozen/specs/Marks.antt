@@ -1,9 +1,9 @@
 -- What a chunk notes of the cells that it adds to, sets or creates, in place of changing them.
-use Rattle.std.specs.Prelude.{ℕ, ℤ, ◌+ℤ◌, List, [], Option, Some, None, replicate, slice_set, slice_index_or}
+use Rattle.std.specs.Prelude.{ℕ, ℤ, ◌+ℤ◌, List, [], Option, replicate, slice_set, slice_index_or}
 use Rattle.std.specs.Int.{int_min, int_max}
-use Rattle.std.specs.FinMap.Entries.{find, put as put_by}
+use Rattle.std.specs.Option.{unwrap_or}
 use Rattle.pawk_value.specs.Value.{Val}
-use Rattle.pawk_array.specs.Entries.{order}
+use Rattle.pawk_keyed_map.specs.Keyed.{Keyed, found_or, put}
 use Rattle.pawk_world.specs.Worlds.{Cell, scalar, element}
 
 pub data Mark : Type 0 where
@@ -26,24 +26,23 @@ with_amount y created = summed y y y
 
 -- marks by the keys of an array, in the order of their bytes
 abbrev pub Marks : Type 0
-Marks = List (List ℕ × Mark)
+Marks = Keyed Mark
 
 abbrev pub mark_or_blank : Option Mark → Mark
-mark_or_blank None = blank
-mark_or_blank (Some mark) = mark
+mark_or_blank o = unwrap_or o blank
 
 abbrev pub mark_found : List ℕ → Marks → Mark
-mark_found key marks = mark_or_blank (find order key marks)
+mark_found key marks = found_or blank key marks
 
 abbrev pub put_mark : List ℕ → Mark → Marks → Marks
-put_mark key mark marks = put_by order key mark marks
+put_mark key mark marks = put key mark marks
 
 -- the marks of scalars, and of the elements of arrays, by their slots
 pub record Table : Type 0 where
   pub scalars : List Mark
   pub arrays : List Marks
 
--- nothing noted of so many scalars and so many arrays
+-- nothing noted of m scalars and n arrays
 abbrev pub blank_table : ℕ → ℕ → Table
 blank_table scalars arrays = record { scalars = replicate scalars blank; arrays = replicate arrays [] }
 

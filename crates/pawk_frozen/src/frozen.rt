@@ -53,7 +53,7 @@ impl<'a> Frozen<'a> {
         })
     }
 
-    /// What the chunk noted.
+    /// The table of what the chunk noted of its globals.
     pub fn table(self) -> Table
         ensures { result ≡ self.entry.table }
     {

@@ -1,4 +1,6 @@
 //! The globals of a chunk: those that `BEGIN` left, and what it notes in place of changing them.
+//!
+//! `inline(always)` and `inline` mark what each amount that a record adds passes through (counted by bench/).
 #![tactic(auto)]
 
 mod frozen;
@@ -7,6 +9,6 @@ mod marks;
 mod table;
 
 pub use frozen::Frozen;
-pub use mark::{Mark, Sums};
-pub use marks::{MarkPairs, Marks};
+pub use mark::{CellMark, Sums};
+pub use marks::{ElementMarks, MarkPairs};
 pub use table::Table;

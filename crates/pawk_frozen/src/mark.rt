@@ -25,7 +25,7 @@ pub struct Sums {
 
 /// What a chunk notes of a cell.
 #[derive(Drop)]
-pub enum Mark {
+pub enum CellMark {
     /// Nothing.
     Blank,
     /// Amounts were added.
@@ -91,7 +91,7 @@ fn next_sums(sums: &Sums, amount: i128) -> Option<Sums>
     })
 }
 
-impl Mark {
+impl CellMark {
     /// Notes an amount that is added, or taken away.
     ///
     /// Fault `overflow` where the total passes 2^64 in size; then amounts were added before, and
@@ -104,28 +104,28 @@ impl Mark {
     {
         let amount = signed(sign, amount);
         match self {
-            Mark::Summed(sums) => {
+            CellMark::Summed(sums) => {
                 let Some(next) = next_sums(sums, amount) else {
                     return Err(Halt::Fault(Fault::Overflow));
                 };
                 *sums = next;
                 Ok(())
             }
-            Mark::Blank | Mark::Put(_) | Mark::Created => {
-                *self = Mark::Summed(first_sums(amount));
+            CellMark::Blank | CellMark::Put(_) | CellMark::Created => {
+                *self = CellMark::Summed(first_sums(amount));
                 Ok(())
             }
         }
     }
 
-    /// Notes that a value is set, in the room that the one before has for its text.
+    /// Notes that a value is set, in the space that the one before has for its text.
     pub(crate) fn put(&mut self, alloc: Global, value: ValueRef<'_>) -> Result<(), AllocError>
         ensures { OnOk result (mark_view self.new ≡ last_put (lent_value value.entry)) }
     {
         match self {
-            Mark::Put(before) => assign(alloc, before, value),
-            Mark::Blank | Mark::Summed(_) | Mark::Created => {
-                *self = Mark::Put(copy_lent(alloc, value)?);
+            CellMark::Put(before) => assign(alloc, before, value),
+            CellMark::Blank | CellMark::Summed(_) | CellMark::Created => {
+                *self = CellMark::Put(copy_lent(alloc, value)?);
                 Ok(())
             }
         }

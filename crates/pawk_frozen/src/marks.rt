@@ -5,19 +5,19 @@ ghost use Rattle.std.specs.Option.{option_map};
 ghost use Rattle.std.specs.Borrow.{sem};
 ghost use Rattle.std.specs.FinMap.Entries.{find};
 ghost use Rattle.pawk_value.specs.Value.{lent_value};
-ghost use Rattle.pawk_array.specs.Entries.{order};
-ghost use Rattle.pawk_array.specs.Keys.{text_of};
+ghost use Rattle.pawk_keyed_map.specs.Keyed.{Rise, order};
+ghost use Rattle.pawk_keyed_map.specs.Keys.{text_of};
 ghost use Rattle.pawk_world.specs.Answers.{Answers};
 ghost use Rattle.pawk_frozen.specs.Marks.{created, last_put, mark_found, put_mark, with_amount};
 ghost use Rattle.pawk_frozen.specs.Frozens.{signed_amount};
-ghost use Rattle.pawk_frozen.specs.MarkViews.{HasKeyAt, Rise, kept, mark_view, marks_of};
+ghost use Rattle.pawk_frozen.specs.MarkViews.{kept, mark_view};
 ghost use Rattle.pawk_frozen.specs.MarkLending.{LendsMark};
 
-use crate::mark::Mark;
+use crate::mark::CellMark;
 use indexmap::IndexMap;
 use indexmap::map::IntoIter;
-use pawk_array::{Key, Query};
 use pawk_code::word::Sign;
+use pawk_keyed_map::{Key, Query, place_of};
 use pawk_value::ValueRef;
 use pawk_world::Halt;
 use std::alloc::{AllocError, Global};
@@ -26,12 +26,12 @@ use std::marker::Model;
 /// What a chunk notes of the elements of an array, by their keys. Contracts see the marks in the
 /// order of the bytes of the keys.
 #[derive(Drop)]
-pub struct Marks {
+pub struct ElementMarks {
     alloc: Global,
-    map: IndexMap<Key, Mark>,
+    map: IndexMap<Key, CellMark>,
 }
 
-impl Model for Marks {
+impl Model for ElementMarks {
     ghost use Rattle.pawk_frozen.specs.Marks as spec;
     ghost use Rattle.pawk_frozen.specs.MarkViews.{marks_of};
 
@@ -40,28 +40,29 @@ impl Model for Marks {
     ghost view = { λ m. marks_of m.map.entries };
 }
 
-/// Keys and their marks that are taken out one behind the other, in the order in which the elements
+/// Keys and their marks that are taken out one after the other, in the order in which the elements
 /// were first noted. Contracts see those that are left, in the order of the bytes of the keys.
 #[derive(Drop)]
 pub struct MarkPairs {
-    pairs: IntoIter<Key, Mark>,
+    pairs: IntoIter<Key, CellMark>,
 }
 
 impl Model for MarkPairs {
     ghost use Rattle.pawk_frozen.specs.Marks as spec;
-    ghost use Rattle.pawk_frozen.specs.MarkViews.{StandOnce, marks_of};
+    ghost use Rattle.pawk_keyed_map.specs.Pairs.{StandOnce};
+    ghost use Rattle.pawk_frozen.specs.MarkViews.{mark_view, marks_of};
 
     ghost Value = { spec.Marks };
 
     ghost view = { λ m. marks_of m.pairs };
 
-    ghost invariant = { λ m. StandOnce m.pairs };
+    ghost invariant = { λ m. StandOnce mark_view m.pairs };
 }
 
 impl MarkPairs {
     /// Takes out the next key and its mark; each that is left has another key. None where there is
     /// none.
-    pub fn next(&mut self) -> Option<(Key, Mark)>
+    pub fn next(&mut self) -> Option<(Key, CellMark)>
         ensures { MatchOption result ((self.old ≡ []) × (self.new ≡ [])) (λ pair.
             (self.old ≡ put_mark (text_of pair.0) (mark_view pair.1) self.new)
             × (find order (text_of pair.0) self.new ≡ None)) }
@@ -70,30 +71,12 @@ impl MarkPairs {
     }
 }
 
-/// The place of a key among the pairs; a key that is missing is added, with nothing noted.
-fn place_of(alloc: Global, map: &mut IndexMap<Key, Mark>, key: &[u8]) -> Result<usize, AllocError>
-    ensures place { IfOk result (λ place. HasKeyAt map.new.entries place key.now) }
-    ensures named { OnOk result (marks_of map.new.entries
-        ≡ put_mark key.now (mark_found key.now (marks_of map.old.entries))
-        (marks_of map.old.entries)) }
-    ensures err { OnErr result (map.new.entries ≡ map.old.entries) }
-{
-    match map.get_index_of(Query(key)) {
-        Some(place) => Ok(place),
-        None => {
-            let key = Key::new(alloc, key)?;
-            let (place, _) = map.insert_full(key, Mark::Blank)?;
-            Ok(place)
-        }
-    }
-}
-
-impl Marks {
+impl ElementMarks {
     /// Nothing noted. Takes no memory.
-    pub(crate) fn new(alloc: Global) -> Marks
+    pub(crate) fn new(alloc: Global) -> ElementMarks
         ensures { result ≡ [] }
     {
-        Marks {
+        ElementMarks {
             alloc,
             map: IndexMap::new(alloc),
         }
@@ -108,13 +91,13 @@ impl Marks {
     }
 
     /// The mark of an element, if it has one.
-    pub fn get(&self, key: &[u8]) -> Option<&Mark>
+    pub fn get(&self, key: &[u8]) -> Option<&CellMark>
         ensures { option_map (λ mark. mark_view mark.now) result ≡ find order key.now self.now }
     {
         self.map.get(Query(key))
     }
 
-    /// The keys and their marks, to be taken out one behind the other. Takes no memory.
+    /// The keys and their marks, to be taken out one after the other. Takes no memory.
     pub fn into_pairs(self) -> MarkPairs
         ensures { result ≡ self }
     {
@@ -125,12 +108,12 @@ impl Marks {
 
     /// The mark of an element, lent for a change. One that is missing is made blank; memory is
     /// refused only then, and the marks are as before.
-    fn entry(&mut self, key: &[u8]) -> Result<&mut Mark, AllocError>
+    fn entry(&mut self, key: &[u8]) -> Result<&mut CellMark, AllocError>
         ensures* writes_back { sem 𝓛 (LendsMark self.entry key.now result) }
         ensures value { IfOk result (λ mark. mark_view mark.now ≡ mark_found key.now self.old) }
         ensures rise { OnOk result (Rise self.old) }
     {
-        let place = place_of(self.alloc, &mut self.map, key)?;
+        let place = place_of(self.alloc, &mut self.map, key, CellMark::Blank)?;
         Ok(self.map.get_index_mut(place).unwrap())
     }
 
@@ -148,7 +131,7 @@ impl Marks {
         mark.add(sign, amount)
     }
 
-    /// Notes that an element is set, in the room that the value before has for its text.
+    /// Notes that an element is set, in the space that the value before has for its text.
     pub(crate) fn put(&mut self, key: &[u8], value: ValueRef<'_>) -> Result<(), AllocError>
         ensures { OnOk result
             (self.new ≡ put_mark key.now (last_put (lent_value value.entry)) self.old) }
@@ -163,7 +146,7 @@ impl Marks {
         ensures { OnOk result (self.new ≡ put_mark key.now created self.old) }
     {
         let mark = self.entry(key)?;
-        *mark = Mark::Created;
+        *mark = CellMark::Created;
         Ok(())
     }
 }

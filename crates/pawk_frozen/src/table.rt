@@ -10,8 +10,8 @@ ghost use Rattle.pawk_frozen.specs.Marks.{with_amount, with_mark};
 ghost use Rattle.pawk_frozen.specs.Frozens.{signed_amount};
 ghost use Rattle.pawk_frozen.specs.MarkViews.{kept, mark_view};
 
-use crate::mark::Mark;
-use crate::marks::Marks;
+use crate::mark::CellMark;
+use crate::marks::ElementMarks;
 use pawk_code::word::Sign;
 use pawk_value::{ValueRef, push_text_lent};
 use pawk_world::Halt;
@@ -22,8 +22,8 @@ use std::marker::Model;
 #[derive(Drop)]
 pub struct Table {
     alloc: Global,
-    scalars: Vec<Mark>,
-    arrays: Vec<Marks>,
+    scalars: Vec<CellMark>,
+    arrays: Vec<ElementMarks>,
 }
 
 impl Model for Table {
@@ -39,30 +39,30 @@ impl Model for Table {
     } };
 }
 
-/// So many blank marks.
-fn blank_marks(alloc: Global, count: usize) -> Result<Vec<Mark>, AllocError>
+/// `count` blank marks.
+fn blank_marks(alloc: Global, count: usize) -> Result<Vec<CellMark>, AllocError>
     ensures { IfOk result (λ marks. map mark_view marks.items ≡ replicate count blank) }
 {
     let mut marks = Vec::with_capacity(alloc, count)?;
     for _ in 0..count {
-        marks.push(Mark::Blank)?;
+        marks.push(CellMark::Blank)?;
     }
     Ok(marks)
 }
 
-/// Of so many arrays nothing noted.
-fn empty_marks(alloc: Global, count: usize) -> Result<Vec<Marks>, AllocError>
+/// Nothing noted of `count` arrays.
+fn empty_marks(alloc: Global, count: usize) -> Result<Vec<ElementMarks>, AllocError>
     ensures { IfOk result (λ marks. marks.items ≡ replicate count []) }
 {
     let mut marks = Vec::with_capacity(alloc, count)?;
     for _ in 0..count {
-        marks.push(Marks::new(alloc))?;
+        marks.push(ElementMarks::new(alloc))?;
     }
     Ok(marks)
 }
 
 impl Table {
-    /// Nothing noted of so many scalars and so many arrays.
+    /// Nothing noted of the scalars and arrays of these numbers.
     pub(crate) fn blank(alloc: Global, scalars: usize, arrays: usize) -> Result<Table, AllocError>
         ensures { IfOk result (λ table. table ≡ blank_table scalars arrays) }
     {
@@ -74,21 +74,21 @@ impl Table {
     }
 
     /// The marks of the scalars by their slots.
-    pub fn scalars(&self) -> &[Mark]
+    pub fn scalars(&self) -> &[CellMark]
         ensures { map mark_view result.now ≡ self.now.scalars }
     {
         self.scalars.as_slice()
     }
 
     /// The marks of the elements of each array, by the arrays' slots.
-    pub fn arrays(&self) -> &[Marks]
+    pub fn arrays(&self) -> &[ElementMarks]
         ensures { result.now ≡ self.now.arrays }
     {
         self.arrays.as_slice()
     }
 
     /// The marks of the scalars, and those of the elements of each array, by their slots.
-    pub fn into_marks(self) -> (Vec<Mark>, Vec<Marks>)
+    pub fn into_marks(self) -> (Vec<CellMark>, Vec<ElementMarks>)
         ensures scalars { map mark_view result.0.items ≡ self.scalars }
         ensures arrays { result.1.items ≡ self.arrays }
     {
@@ -142,7 +142,7 @@ impl Table {
         Ok(())
     }
 
-    /// Notes that a scalar is set to the text of a value with more behind it.
+    /// Notes that a scalar is set to the text of a value with more after it.
     pub(crate) fn append_scalar(
         &mut self,
         slot: usize,

@@ -73,7 +73,7 @@ parts_of false v rest h = cc
 after_test : (a b c d : ℕ) → (ltb a c || (eqb a c && ltb b d)) ≡ true → (a < c) ⊎ ((a ≡ c) × (b < d))
 after_test a b c d h = grind (arith, nat_tests)
 
--- a place before or behind them is not among the places that pass a test
+-- a place before or after them is not among the places that pass a test
 pub no_place : (test : ℕ → Bool) (i n q : ℕ) → (q < i) ⊎ (i + n ≤ q) → list_any (eqb q) (places_where test i n) ≡ false
 no_place test i zero q h = refl
 no_place test i (suc n) q h =

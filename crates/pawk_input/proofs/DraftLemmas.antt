@@ -16,7 +16,7 @@ pub moved : {A : Type 0} (old new all : List A) (x : A) (rest more : List A) →
 moved old new all x rest more is first added =
     ap (λ l. l ++ more) added ∙ append_assoc old (x ∷ []) more ∙ ap (λ l. old ++ l) (sym first) ∙ is
 
--- so many are there at least
+-- there is at least one more than the old ones
 pub one_more_fits : {A : Type 0} (old all : List A) (x : A) (rest more : List A) → old ++ rest ≡ all → rest ≡ x ∷ more → length old + 1 ≤ length all
 one_more_fits old all x rest more is first =
     omega (arith, sym (length-append old rest) ∙ ap length is, ap length first)

@@ -2,8 +2,8 @@
 use Rattle.std.proofs.Common.{All, Some, option_map, slice_get, subst, ◌≡◌, ℕ, ◌+◌, ◌≤◌, List, [], ◌∷◌, ◌++◌, length, get_or, set, Vec, Global, refl, ap, arith, sym, ◌<◌, ◌∙◌, length-append, zero, suc, take, drop, length-drop, length-take}
 use Rattle.pawk_records.specs.Records.{records_by}
 use Rattle.std.proofs.lemmas.List.Elements.{All-head, All-map, All-tail}
-use Rattle.pawk_blocks.specs.Blocks.{AreMended, joined, parts}
-use Rattle.pawk_blocks.proofs.BlocksLemmas.{no_records, parts_all, records_of_blocks}
+use Rattle.pawk_records.specs.Blocks.{AreMended, joined, parts}
+use Rattle.pawk_records.proofs.BlocksLemmas.{no_records, parts_all, records_of_blocks}
 use Rattle.pawk_input.specs.Input.{File, FileInBlocks, IsReady, empty_file, file_at, file_of, files_of, in_blocks, in_vector, in_vectors, named_blocks, whole_file, whole_files, total_size, file_items, items_from}
 use Rattle.std.proofs.lemmas.List.{append-nil, length-map}
 use Rattle.std.proofs.lemmas.Option.{get_or_from_slice_get, slice_get-map, slice_get_within}
@@ -51,7 +51,7 @@ pub next_piece : (rs : List ℕ) (file : ℕ) (name : List ℕ) (nr fnr : ℕ) (
     → items_ahead rs file name nr fnr (rest ∷ pieces) later ≡ items_ahead rs file name nr fnr pieces later
 next_piece rs file name nr fnr rest pieces later none = rw none refl
 
--- past the records of a file stand those of the next
+-- past the records of a file come those of the next
 pub next_file : (rs : List ℕ) (file : ℕ) (name : List ℕ) (nr fnr : ℕ) (f : FileInBlocks) (fs : List FileInBlocks) (size : ℕ) → length (joined f.blocks) ≤ size
     → items_ahead rs file name nr fnr [] (f ∷ fs) ≡ items_ahead rs (file + 1) f.name nr 0 ([] ∷ parts 0 size f.blocks) fs
 next_file rs file name nr fnr f fs size all =

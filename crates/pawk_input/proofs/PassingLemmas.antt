@@ -52,7 +52,7 @@ none_uncut n m s words le h = subst (λ l. HoldsNone l words) (take-take n m s l
 
 -- ---- the least place at which a word is seen
 
--- none of the words before the place stands in the text
+-- none of the words before the place occurs in the text
 abbrev pub LacksBefore : List ℕ → List (List ℕ) → ℕ → Type 0
 LacksBefore s words i = (q : ℕ) (d : List ℕ) → q < i → (k : ℕ) → OccursAt s (get_or words q d) k → ⊥
 
@@ -64,7 +64,7 @@ module _ (text word : List ℕ) (least : ℕ) (within : least ≤ length text) w
   in_least : (n k : ℕ) → n ≤ least → OccursAt (take n text) word k → OccursAt (take least text) word k
   in_least n k le o = occurs_in_longer n (take least text) word k (subst (λ l. OccursAt l word k) (sym (take-take n least text le)) o)
 
-  -- the word does not stand in front of the place
+  -- the word does not occur before the place
   lacks_here : (r : Option ℕ) → FindsNeedle (take least text) word 0 r → 1 ≤ unwrap_or r least → (k : ℕ) → OccursAt (take (unwrap_or r least) text) word k → ⊥
   lacks_here None h some k o = let fits = o.fits in h k (omega arith) (omega arith) o
   lacks_here (Some place) h some k o =
@@ -80,7 +80,7 @@ module _ (text word : List ℕ) (least : ℕ) (within : least ≤ length text) w
         | inr before ↦ h.0.before k (omega arith) (omega (arith, before.1)) here
       ]
 
-  -- one more word does not stand there
+  -- one more word does not occur there
   pub lacks_more : (words : List (List ℕ)) (i n : ℕ) (r : Option ℕ) → i < length words → word ≡ get_or words i word → n ≡ unwrap_or r least → FindsNeedle (take least text) word 0 r
       → (1 ≤ least → LacksBefore (take least text) words i) → 1 ≤ n → LacksBefore (take n text) words (i + 1)
   lacks_more words i n r lt is now h before some q d le k o =
@@ -121,7 +121,7 @@ none_in_items words file name nr fnr (r ∷ rs) h =
 
 -- ---- the items ahead
 
--- the records of the first bytes of a piece, and those that are left behind them
+-- the records of the first bytes of a piece, and those that are left after them
 items_passed : (rs : List ℕ) (file : ℕ) (name : List ℕ) (nr fnr : ℕ) (rest front back : List ℕ) (pieces : List (List ℕ)) (later : List FileInBlocks)
     → records_by rs rest ≡ records_by rs front ++ records_by rs back
     → items_ahead rs file name nr fnr (rest ∷ pieces) later
@@ -140,7 +140,7 @@ items_passed rs file name nr fnr rest front back pieces later parted =
     ∙ ap (λ m. (first ++ second) ++ items_in_blocks rs (file + 1) m later) count
     ∙ append_assoc first second (items_in_blocks rs (file + 1) (nr + length a + length b) later)
 
--- The first n bytes of a piece end with the separator. They are so many records, and there are more bytes behind them.
+-- The first n bytes of a piece end with the separator. They are n records, and there are more bytes after them.
 module _ (rs : List ℕ) (e file nr fnr n count : ℕ) (name rest front back : List ℕ) (pieces : List (List ℕ)) (later : List FileInBlocks)
     (line : rs ≡ e ∷ []) (some : 1 ≤ n) (within : n < length rest) (last : get_or rest (n - 1) 0 ≡ e)
     (is_front : front ≡ take n rest) (is_back : back ≡ drop n rest) (counted : count ≡ length (records e front)) where

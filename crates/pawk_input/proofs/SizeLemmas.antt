@@ -154,7 +154,7 @@ module _ (rs s : List ℕ) (size : ℕ → ℕ) (k nr p q : ℕ) (old all : List
       → new ++ chunks_at rs k s nr (places_left rs s size q) ≡ all
   chunk_moved new fnr count added = moved old new all _ _ _ is next (rw count at added)
 
-  -- so many are there at least
+  -- there is at least one more than the old ones
   pub chunk_fits : length old + 1 ≤ length all
   chunk_fits = one_more_fits old all _ _ _ is next
 

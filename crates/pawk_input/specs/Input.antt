@@ -4,7 +4,7 @@ use Rattle.std.specs.Prelude.{ℕ, ◌+◌, List, [], ◌∷◌, ◌++◌, lengt
 use Rattle.std.specs.List.{slice_index_or}
 use Rattle.std.specs.declared.alloc.Global.{Global}
 use Rattle.pawk_records.specs.Records.{records_by}
-use Rattle.pawk_blocks.specs.Blocks.{AreMended, joined}
+use Rattle.pawk_records.specs.Blocks.{AreMended, joined}
 use Rattle.pawk_input.specs.declared.item.Item.{Item as LentItem}
 
 -- a file: its name and what it holds
@@ -87,7 +87,7 @@ file_items file name nr fnr (r ∷ rs) =
     record { bytes = r; file = file; name = name; nr = nr + 1; fnr = fnr + 1 }
     ∷ file_items file name (nr + 1) (fnr + 1) rs
 
--- the records of files of which the first stands at place `file` and before which nr records came;
+-- the records of files of which the first is at place `file` and before which nr records came;
 -- fnr begins anew in each
 abbrev pub items_from : List ℕ → ℕ → ℕ → List File → List Item
 items_from rs file nr [] = []

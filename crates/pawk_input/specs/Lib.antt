@@ -2,7 +2,7 @@ pub mod Limits
 pub use Rattle.pawk_records.specs.Records
 pub use Rattle.pawk_records.specs.Begins
 pub use Rattle.pawk_records.specs.Separator
-pub use Rattle.pawk_blocks.specs.Blocks
+pub use Rattle.pawk_records.specs.Blocks
 pub mod Input
 pub mod Lent
 pub mod Held
@@ -10,10 +10,10 @@ pub mod Walk
 pub use Rattle.pawk_fields.specs.Fields
 pub use Rattle.pawk_fields.specs.Splits
 pub use Rattle.pawk_fields.specs.FieldSeparator
-pub use Rattle.pawk_split.specs.Between
-pub use Rattle.pawk_split.specs.FieldWalks
-pub use Rattle.pawk_split.specs.FieldsOf
-pub use Rattle.pawk_split.specs.Law
+pub use Rattle.pawk_fields.specs.Between
+pub use Rattle.pawk_fields.specs.FieldWalks
+pub use Rattle.pawk_fields.specs.FieldsOf
+pub use Rattle.pawk_fields.specs.Law
 pub mod Plan
 pub mod Counts
 pub mod Passed

@@ -3,7 +3,7 @@ use Rattle.std.specs.Prelude.{◌≡◌, ℕ, ◌≤◌, List, ◌++◌, length,
 use Rattle.pawk_ere.specs.Words.{HoldsNone}
 use Rattle.pawk_input.specs.Input.{Item}
 
--- The walk goes on so many records later: none of those between holds one of the words. Where there are such, another
+-- The walk goes on n records later: none of those between holds one of the words. Where there are such, another
 -- record follows.
 pub record PassesOver (words : List (List ℕ)) (old new : List Item) (n : ℕ) : Type 0 where
   pub passed : List Item

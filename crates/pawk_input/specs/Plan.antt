@@ -51,7 +51,7 @@ chunks_at rs file bytes nr (p ∷ ps) =
     }
     ∷ chunks_at rs file bytes nr ps
 
--- The chunks of files of which the first stands at place `file` and before which nr records came.
+-- The chunks of files of which the first is at place `file` and before which nr records came.
 -- `chosen` takes a file's place and the places where its records begin to those where its chunks
 -- do.
 abbrev pub chunks_of : List ℕ → (ℕ → List ℕ → List ℕ) → ℕ → ℕ → List File → List Chunk
@@ -94,7 +94,7 @@ size_at size [] place = size
 size_at size (step ∷ steps) place =
     if nat_le step.from place then size_at step.size steps place else size
 
--- the same at a place of a file before which so many bytes came
+-- the same at a place of a file before which `before` bytes came
 abbrev pub size_in_file : ℕ → List SizeStep → ℕ → ℕ → ℕ
 size_in_file size steps before place = size_at size steps (before + place)
 
@@ -148,7 +148,7 @@ cut_fault rs files cuts = cut_fault_from rs files None cuts
 
 -- ---- what the two plans are refused with
 
--- a list of so many chunks is refused because that is more than `most`, or because memory was
+-- a list of `count` chunks is refused because that is more than `most`, or because memory was
 -- refused
 abbrev pub RefusesMany : ℕ → ℕ → CutRefusal → Type 0
 RefusesMany count most NoRecord = ⊥

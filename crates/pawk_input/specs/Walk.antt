@@ -12,7 +12,7 @@ items_left walk = walk
 abbrev pub block_records : List ℕ → List (List ℕ) → List (List ℕ)
 block_records rs blocks = flat_map (records_by rs) blocks
 
--- the records of the blocks of files, of which the first stands at place `file` and before which nr
+-- the records of the blocks of files, of which the first is at place `file` and before which nr
 -- records came
 abbrev pub items_in_blocks : List ℕ → ℕ → ℕ → List FileInBlocks → List Item
 items_in_blocks rs file nr [] = []

@@ -5,7 +5,7 @@ ghost use Rattle.pawk_records.specs.Records.{records_by};
 ghost use Rattle.pawk_records.specs.Begins.{begins_within};
 ghost use Rattle.pawk_records.specs.Separator.{rs_of};
 ghost use Rattle.pawk_input.specs.Limits.{most_bytes, most_chunks};
-ghost use Rattle.pawk_blocks.specs.Blocks.{AreMended, joined};
+ghost use Rattle.pawk_records.specs.Blocks.{AreMended, joined};
 ghost use Rattle.pawk_input.specs.Input.{IsReady, file_at, files_of};
 ghost use Rattle.pawk_input.specs.Counts.{block_counts, blocks_of, counts_left};
 ghost use Rattle.pawk_input.specs.Passed.{IsPassed};
@@ -15,8 +15,7 @@ use crate::cutting::{Chunk, CutRefusal};
 use crate::draft::{Draft, add_chunk, begin_or_end};
 use crate::files::Input;
 use crate::steps::FileSteps;
-use pawk_blocks::LentBlocks;
-use pawk_records::Separator;
+use pawk_records::{LentBlocks, Separator};
 use std::alloc::{AllocError, Global};
 use std::ops::Range;
 

@@ -1,9 +1,8 @@
 //! Chunks of the input, and why a cutting is refused.
 
 use std::alloc::{AllocError, AllocFailed};
-use std::error::Error;
-use std::fmt;
 use std::ops::Range;
+use thiserror::Error;
 
 /// The most chunks that a plan may have.
 pub const MOST_CHUNKS: usize = 1_048_576;
@@ -22,30 +21,21 @@ pub struct Chunk {
 }
 
 /// Why a plan was not made.
-#[derive(Clone, Copy, Debug, PartialEq, Eq)]
+#[derive(Clone, Copy, Debug, PartialEq, Eq, Drop, Error)]
 pub enum CutRefusal {
     /// No record after the file's first begins at a cut.
+    #[error("no record begins at a cut")]
     NoRecord = 1,
     /// A cut does not come after the cut before it.
+    #[error("a cut is not after the one before it")]
     NotRising = 2,
     /// The plan would have more chunks than a plan may have.
+    #[error("too many chunks")]
     TooMany = 3,
     /// Memory was refused.
+    #[error("out of memory")]
     Memory = 4,
 }
-
-impl fmt::Display for CutRefusal {
-    fn fmt<W: fmt::Write>(&self, f: &mut fmt::Formatter<W>) -> fmt::Result {
-        f.write_str(match self {
-            CutRefusal::NoRecord => "no record begins at a cut",
-            CutRefusal::NotRising => "a cut is not after the one before it",
-            CutRefusal::TooMany => "too many chunks",
-            CutRefusal::Memory => "out of memory",
-        })
-    }
-}
-
-impl Error for CutRefusal {}
 
 impl From<AllocError> for CutRefusal {
     ghost use Rattle.std.specs.Prelude.{◌≡◌};

@@ -6,13 +6,12 @@ ghost use Rattle.pawk_input.specs.Limits.{most_bytes, most_chunks};
 ghost use Rattle.pawk_records.specs.Records.{records_by};
 ghost use Rattle.pawk_records.specs.Begins.{BeginsAt, begins_by};
 ghost use Rattle.pawk_records.specs.Separator.{rs_of};
-ghost use Rattle.pawk_blocks.specs.Blocks.{AreMended, joined};
+ghost use Rattle.pawk_records.specs.Blocks.{AreMended, joined};
 ghost use Rattle.pawk_input.specs.Plan.{IsBeginOrEnd, RefusesMany, RisesFrom};
 ghost use Rattle.pawk_input.specs.Plan.{chunks_at, cut_places, offsets, sized_chunks};
 
 use crate::cutting::{Chunk, CutRefusal, MOST_CHUNKS};
-use pawk_blocks::LentBlocks;
-use pawk_records::Separator;
+use pawk_records::{LentBlocks, Separator};
 use std::alloc::Global;
 use std::ops::Range;
 

@@ -3,7 +3,7 @@
 ghost use Rattle.std.specs.Prelude.{◌≡◌, ℕ, ◌+◌, ◌<◌, ◌≤◌, ◌↔◌, [], ◌∷◌, length, IsTrue};
 ghost use Rattle.std.specs.Prelude.{List, OnOk, IfOk, MatchResult};
 ghost use Rattle.pawk_input.specs.Limits.{most_bytes};
-ghost use Rattle.pawk_blocks.specs.Blocks.{AreMended, joined};
+ghost use Rattle.pawk_records.specs.Blocks.{AreMended, joined};
 ghost use Rattle.pawk_input.specs.Input.{IsReady, file_at, file_of, files_of, in_blocks};
 ghost use Rattle.pawk_input.specs.Input.{items, total_size, whole_files};
 ghost use Rattle.pawk_input.specs.Held.{held_files};
@@ -12,31 +12,22 @@ ghost use Rattle.pawk_input.specs.Walk.{items_left};
 
 use crate::lent::{LentFile, LentFiles};
 use crate::walk::Records;
-use pawk_blocks::{Blocks, LentBlocks};
-use pawk_records::Separator;
+use pawk_records::{Blocks, LentBlocks, Separator};
 use std::alloc::AllocError;
-use std::error::Error;
-use std::fmt;
 use std::marker::Model;
+use thiserror::Error;
 
 /// The most bytes that the files of an input may hold together.
 pub const LIMIT: u64 = 4_611_686_018_427_387_904;
 
 /// The files hold more than [`LIMIT`] bytes together.
-#[derive(Clone, Copy, Debug)]
+#[derive(Clone, Copy, Debug, Drop, Error)]
+#[error("the input is too large")]
 pub struct TooLarge;
-
-impl fmt::Display for TooLarge {
-    fn fmt<W: fmt::Write>(&self, f: &mut fmt::Formatter<W>) -> fmt::Result {
-        f.write_str("the input is too large")
-    }
-}
-
-impl Error for TooLarge {}
 
 /// How the files are held.
 #[derive(Drop)]
-enum Held {
+enum HeldFiles {
     /// Names, each with all bytes in one vector.
     Vectors(Vec<(Vec<u8>, Vec<u8>)>),
     /// Names, each with the blocks of the bytes.
@@ -46,7 +37,7 @@ enum Held {
 /// A list of files with their names and bytes, of at most [`LIMIT`] bytes together.
 #[derive(Drop)]
 pub struct Input {
-    held: Held,
+    held: HeldFiles,
 }
 
 impl Model for Input {
@@ -89,14 +80,14 @@ fn mend_files(files: &mut [(Vec<u8>, Blocks)], rs: &[u8]) -> Result<(), AllocErr
     Ok(())
 }
 
-impl Held {
+impl HeldFiles {
     /// The files, lent.
     fn lend(&self) -> LentFiles<'_>
         ensures { result ≡ held_files self.now }
     {
         match self {
-            Held::Vectors(files) => LentFiles::in_vectors(files),
-            Held::Blocks(files) => LentFiles::in_blocks(files),
+            HeldFiles::Vectors(files) => LentFiles::in_vectors(files),
+            HeldFiles::Blocks(files) => LentFiles::in_blocks(files),
         }
     }
 
@@ -107,8 +98,8 @@ impl Held {
         ensures ready { OnOk result (IsReady rs.now (held_files self.new)) }
     {
         match self {
-            Held::Vectors(_) => Ok(()),
-            Held::Blocks(files) => mend_files(files, rs),
+            HeldFiles::Vectors(_) => Ok(()),
+            HeldFiles::Blocks(files) => mend_files(files, rs),
         }
     }
 }
@@ -128,7 +119,7 @@ impl Input {
     {
         if are_limited(LentFiles::in_vectors(&files)) {
             Ok(Input {
-                held: Held::Vectors(files),
+                held: HeldFiles::Vectors(files),
             })
         } else {
             Err(TooLarge)
@@ -147,7 +138,7 @@ impl Input {
     {
         if are_limited(LentFiles::in_blocks(&files)) {
             Ok(Input {
-                held: Held::Blocks(files),
+                held: HeldFiles::Blocks(files),
             })
         } else {
             Err(TooLarge)

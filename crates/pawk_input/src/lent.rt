@@ -4,7 +4,7 @@ ghost use Rattle.std.specs.Prelude.{◌≡◌, ◌^◌, ◌<◌, [], ◌∷◌, 
 ghost use Rattle.pawk_input.specs.Input.{in_blocks, in_vector, in_vectors, named_blocks};
 ghost use Rattle.pawk_input.specs.Lent.{lent_file};
 
-use pawk_blocks::{Blocks, LentBlocks};
+use pawk_records::{Blocks, LentBlocks};
 use std::marker::Model;
 
 /// A file: its name, and its bytes as they lie in memory.
@@ -46,7 +46,7 @@ fn at<T>(list: &[T], place: usize) -> &T
 
 /// Where files lie.
 #[derive(Clone, Copy)]
-enum Place<'a> {
+enum FileStorage<'a> {
     /// Names, each with all bytes in one vector.
     Vectors(&'a [(Vec<u8>, Vec<u8>)]),
     /// Names, each with the blocks of the bytes.
@@ -56,7 +56,7 @@ enum Place<'a> {
 /// Files as they lie in memory.
 #[derive(Drop)]
 pub(crate) struct LentFiles<'a> {
-    place: Place<'a>,
+    place: FileStorage<'a>,
 }
 
 impl<'a> Model for LentFiles<'a> {
@@ -75,7 +75,7 @@ impl<'a> LentFiles<'a> {
         ensures { result ≡ in_vectors files.entry.now }
     {
         LentFiles {
-            place: Place::Vectors(files),
+            place: FileStorage::Vectors(files),
         }
     }
 
@@ -84,7 +84,7 @@ impl<'a> LentFiles<'a> {
         ensures { result ≡ in_blocks files.entry.now }
     {
         LentFiles {
-            place: Place::Blocks(files),
+            place: FileStorage::Blocks(files),
         }
     }
 
@@ -93,7 +93,7 @@ impl<'a> LentFiles<'a> {
         ensures { result ≡ [] }
     {
         LentFiles {
-            place: Place::Vectors(&[]),
+            place: FileStorage::Vectors(&[]),
         }
     }
 
@@ -102,8 +102,8 @@ impl<'a> LentFiles<'a> {
         ensures { result ≡ length self.now }
     {
         match self.place {
-            Place::Vectors(files) => files.len(),
-            Place::Blocks(files) => files.len(),
+            FileStorage::Vectors(files) => files.len(),
+            FileStorage::Blocks(files) => files.len(),
         }
     }
 
@@ -113,8 +113,8 @@ impl<'a> LentFiles<'a> {
         ensures { slice_get self.now place ≡ Some (lent_file result) }
     {
         match self.place {
-            Place::Vectors(files) => LentFile::whole(at(files, place)),
-            Place::Blocks(files) => LentFile::parted(at(files, place)),
+            FileStorage::Vectors(files) => LentFile::whole(at(files, place)),
+            FileStorage::Blocks(files) => LentFile::parted(at(files, place)),
         }
     }
 
@@ -124,14 +124,14 @@ impl<'a> LentFiles<'a> {
             (λ file. self.old ≡ lent_file file ∷ self.new) }
     {
         match self.place {
-            Place::Vectors(files) => {
+            FileStorage::Vectors(files) => {
                 let (first, later) = files.split_first()?;
-                self.place = Place::Vectors(later);
+                self.place = FileStorage::Vectors(later);
                 Some(LentFile::whole(first))
             }
-            Place::Blocks(files) => {
+            FileStorage::Blocks(files) => {
                 let (first, later) = files.split_first()?;
-                self.place = Place::Blocks(later);
+                self.place = FileStorage::Blocks(later);
                 Some(LentFile::parted(first))
             }
         }

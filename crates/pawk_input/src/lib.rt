@@ -1,5 +1,7 @@
 //! The input of awk: files, their records, the fields of a record by any FS, and plans that cut the
 //! records into chunks.
+//!
+//! `inline(always)` marks what every record or byte passes through (counted by bench/).
 #![tactic(auto)]
 
 mod counts;
@@ -18,16 +20,12 @@ pub use counts::{count_block, count_blocks};
 pub use cutting::{Chunk, CutRefusal, MOST_CHUNKS};
 pub use files::{Input, LIMIT, TooLarge};
 pub use item::Item;
-pub use pawk_blocks::{Block, Blocks};
 pub use pawk_fields::{
-    BlankFields, FieldSeparator, FieldStep, SplitFields, append_ranges, blanks_law, count_fields,
-    count_split, field, fields, fields_law, pieces_law, split,
+    BlankFields, FieldSeparator, FieldStep, FieldWalk, Finder, SplitFields, append_between,
+    append_fields, append_ranges, blanks_law, count_fields, count_split, expression_matcher, field,
+    fields, fields_law, pieces_law, split, split_fields, split_fields_with, split_law,
 };
-pub use pawk_records::{begins_law, records_law};
-pub use pawk_split::{
-    FieldWalk, Finder, append_between, append_fields, count_between, count_fields_by,
-    expression_matcher, field_by, split_fields, split_fields_with, split_law,
-};
+pub use pawk_records::{Block, Blocks, begins_law, records_law};
 pub use plan::Plan;
 pub use steps::SizeStep;
 pub use walk::Records;

@@ -12,7 +12,7 @@ const FIRST_LOOK: usize = 1_024;
 /// How many times as many bytes each later look takes in.
 const WIDENING: usize = 2;
 
-/// A place before which none of these words stands: the first at which one does, or the text's end.
+/// A place before which none of these words occurs: the first at which one does, or the text's end.
 fn least_place(words: &[Finder<'static>], text: &[u8]) -> usize
     ensures within { result ≤ length text.now }
     ensures none { 1 ≤ result → HoldsNone (take result text.now) words.now }

@@ -63,7 +63,7 @@ impl Plan {
         })
     }
 
-    /// The plan by size again, out of the counts of records of blocks: `counts` tells how many
+    /// The plan by size again, out of the counts of records of blocks: `counts` says how many
     /// records begin in each block of `block` bytes of each file, the last of a file shorter, file by
     /// file (`count_block`). Reads of the files only what is near the chunks' ends.
     ///

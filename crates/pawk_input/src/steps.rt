@@ -3,7 +3,7 @@
 ghost use Rattle.std.specs.Prelude.{◌≡◌, ◌+◌, ◌^◌, ◌<◌};
 ghost use Rattle.pawk_input.specs.Plan.{size_in_file};
 
-/// From a place of the input on, chunks have at least so many bytes.
+/// From a place of the input on, chunks have at least a given number of bytes.
 #[derive(Clone, Copy)]
 pub struct SizeStep {
     /// The place among the bytes of all files, counted from 0.

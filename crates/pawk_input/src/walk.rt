@@ -2,7 +2,7 @@
 
 ghost use Rattle.std.specs.Prelude.{◌≡◌, ℕ, ◌+◌, ◌^◌, ◌<◌, ◌≤◌, [], ◌∷◌, length};
 ghost use Rattle.std.specs.Iterator.{YieldsFirstBy, item_count};
-ghost use Rattle.pawk_blocks.specs.Blocks.{joined};
+ghost use Rattle.pawk_records.specs.Blocks.{joined};
 ghost use Rattle.pawk_records.specs.Separator.{rs_of};
 ghost use Rattle.pawk_input.specs.Input.{file_items, files_of, item_of, total_size};
 ghost use Rattle.pawk_input.specs.Walk.{block_records, items_in_blocks, items_left};
@@ -13,8 +13,7 @@ use crate::item::Item;
 use crate::lent::LentFiles;
 use crate::passing::passed_length;
 use memchr::memmem::Finder;
-use pawk_blocks::Pieces;
-use pawk_records::{LineEnds, Separator};
+use pawk_records::{LineEnds, Pieces, Separator};
 use std::marker::Model;
 
 /// The records that are left of the input or of a part of it, in order.
@@ -36,7 +35,7 @@ impl<'a> Model for Records<'a> {
     ghost use Rattle.pawk_records.specs.LineEnds.{AreEnds};
     ghost use Rattle.pawk_records.specs.Separator.{rs_of};
     ghost use Rattle.pawk_input.specs.Limits.{most_bytes};
-    ghost use Rattle.pawk_blocks.specs.Blocks.{joined};
+    ghost use Rattle.pawk_records.specs.Blocks.{joined};
     ghost use Rattle.pawk_input.specs.Input.{Item, files_of, total_size};
     ghost use Rattle.pawk_input.specs.Walk.{items_ahead};
 

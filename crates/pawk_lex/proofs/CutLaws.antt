@@ -3,12 +3,12 @@ use Rattle.std.proofs.Common.{◌≡◌, ◌≤◌, ◌<◌, ℕ, ◌+◌, ◌/�
 use Rattle.std.specs.Prelude.{◌==◌, nat_le, slice_index}
 use Rattle.std.proofs.lemmas.Bool.{eqb-true}
 use Rattle.std.proofs.lemmas.Bool.Decides.{nat_tests}
-use Rattle.pawk_token.specs.declared.token.Mark.{Mark}
-use Rattle.pawk_token.specs.declared.token.Mark.TheVariants as m
-use Rattle.pawk_token.specs.Bytes.{Text, is_name_byte, is_octal}
-use Rattle.pawk_token.specs.Vocabulary.{mark_text, double}
+use Rattle.pawk_lex.specs.declared.token.Mark.{Mark}
+use Rattle.pawk_lex.specs.declared.token.Mark.TheVariants as m
+use Rattle.pawk_lex.specs.Bytes.{Text, is_name_byte, is_octal}
+use Rattle.pawk_lex.specs.Vocabulary.{mark_text, double}
 use Rattle.pawk_lex.specs.Strings.{simple_escape, three_digits}
-use Rattle.pawk_token.specs.Tokens.{Tok, number, string, ere, name, function_name, builtin, mark, divides_after}
+use Rattle.pawk_lex.specs.Tokens.{Tok, number, string, ere, name, function_name, builtin, mark, divides_after}
 use Rattle.pawk_lex.specs.Next.{Finding, finds, is_redirection, next}
 use Rattle.pawk_lex.specs.Cut.{Gap, no_gap, a_blank, a_joined_line, a_comment, is_ordinary, Inside, at_quote, itself, by_escape, one_digit, two_octal, three_octal, MarkEnds, Ends, Stands, Writes, Takes, CutFrom, at_end, a_token}
 use Rattle.pawk_lex.specs.Canonical.{byte_text, string_text, token_text, AreBytes, IsWritable, AreWritable, is_separator, MayEnd}
@@ -41,7 +41,7 @@ cut_unique (a_token {rest = rest} {t = t} {ts = ts} k c) (a_token {rest = more} 
         let same = again (rw (← s.token, ← s.left) at f) in
         rw (s.token, same) refl
 
--- ---- what separates tokens may stand anywhere between them
+-- ---- what separates tokens may come anywhere between them
 
 pub gap_join : {x y z : Text} → Gap x y → Gap y z → Gap x z
 gap_join no_gap h = h

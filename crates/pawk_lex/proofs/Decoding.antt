@@ -1,6 +1,6 @@
 -- The steps of decoding a string.
 use Rattle.std.proofs.Common.{◌≡◌, ◌≤◌, ℕ, zero, suc, ◌-◌, [], ◌∷◌, ◌++◌, drop, Some, None, refl, sym, ◌∙◌, arith}
-use Rattle.pawk_token.specs.Bytes.{Text}
+use Rattle.pawk_lex.specs.Bytes.{Text}
 use Rattle.pawk_lex.specs.Strings.{string_byte, decode}
 
 pub decode_left : (n : ℕ) (front z : Text) → decode n front z ≡ decode 0 front (drop n z)

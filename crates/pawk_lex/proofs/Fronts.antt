@@ -5,14 +5,14 @@ use Rattle.std.specs.Char.{is_ascii_digit}
 use Rattle.std.specs.List.{list_all}
 use Rattle.std.proofs.Math.Seq.{take-append_seam, drop-append_seam}
 use Rattle.std.proofs.lemmas.Bool.{cases_Bool, eqb-true, false≢true}
-use Rattle.pawk_token.specs.declared.token.Mark.{Mark}
-use Rattle.pawk_token.specs.declared.token.Mark.TheVariants as m
-use Rattle.pawk_token.specs.declared.token.Builtin.{Builtin}
-use Rattle.pawk_token.specs.declared.token.Builtin.TheVariants as b
-use Rattle.pawk_token.specs.Bytes.{Text, is_name_byte, is_blank, is_in_line, AllAre, BeginsBy}
-use Rattle.pawk_token.specs.Vocabulary.{mark_text, builtin_text, reserved_word, builtin as builtin_of, double, single, is_left_out_arithmetic, is_left_out_output, is_left_out_variable}
+use Rattle.pawk_lex.specs.declared.token.Mark.{Mark}
+use Rattle.pawk_lex.specs.declared.token.Mark.TheVariants as m
+use Rattle.pawk_lex.specs.declared.token.Builtin.{Builtin}
+use Rattle.pawk_lex.specs.declared.token.Builtin.TheVariants as b
+use Rattle.pawk_lex.specs.Bytes.{Text, is_name_byte, is_blank, is_in_line, AllAre, BeginsBy}
+use Rattle.pawk_lex.specs.Vocabulary.{mark_text, builtin_text, reserved_word, builtin as builtin_of, double, single, is_left_out_arithmetic, is_left_out_output, is_left_out_variable}
 use Rattle.pawk_lex.specs.Gaps.{gap_length, pass, skip}
-use Rattle.pawk_token.specs.Tokens.{Tok, number as number_token, string as string_token, ere as ere_token, name, function_name, builtin, mark}
+use Rattle.pawk_lex.specs.Tokens.{Tok, number as number_token, string as string_token, ere as ere_token, name, function_name, builtin, mark}
 use Rattle.pawk_lex.specs.Next.{finds, value_from, number, word_cause, word_tok, word, string_by, string, ere_by, ere, is_redirection, sign, token_at, next}
 use Rattle.pawk_lex.specs.Cut.{EndsLine, Gap, no_gap, a_blank, a_joined_line, a_comment, IsName, Inside, IsEre, MarkEnds, Ends, MarkStands, Stands, Writes, Begins, Takes}
 use Rattle.pawk_lex.proofs.Runs.{Stops, stops, run, all_from_test}

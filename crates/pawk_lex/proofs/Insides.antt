@@ -5,7 +5,7 @@ use Rattle.std.proofs.Math.Seq.{take-append_seam}
 use Rattle.std.proofs.lemmas.List.{append-nil, length-append}
 use Rattle.std.proofs.lemmas.Bool.{eqb-true}
 use Rattle.std.proofs.lemmas.Bool.Decides.{nat_tests}
-use Rattle.pawk_token.specs.Bytes.{Text, is_octal}
+use Rattle.pawk_lex.specs.Bytes.{Text, is_octal}
 use Rattle.pawk_lex.specs.Gaps.{pass}
 use Rattle.pawk_lex.specs.Strings.{simple_escape, two_digits, three_digits, octal_escape, string_byte, decode, ere_length}
 use Rattle.pawk_lex.specs.Cut.{is_ordinary, Inside, at_quote, itself, by_escape, one_digit, two_octal, three_octal, is_plain, IsEre, no_byte, a_byte, a_pair}

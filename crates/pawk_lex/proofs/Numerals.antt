@@ -11,7 +11,7 @@ use Rattle.std.proofs.lemmas.Str.{digit_value_digit}
 use Rattle.std.proofs.lemmas.Str.Parse.{digit_from_value}
 use Rattle.std.proofs.lemmas.Fmt.{decimal_is_IsNumeral}
 use Rattle.std.proofs.lemmas.Option.{none-some}
-use Rattle.pawk_token.specs.Bytes.{Text, AllAre, BeginsBy}
+use Rattle.pawk_lex.specs.Bytes.{Text, AllAre, BeginsBy}
 use Rattle.pawk_lex.specs.Next.{value_from}
 use Rattle.pawk_lex.specs.Cut.{IsNumeralOf}
 

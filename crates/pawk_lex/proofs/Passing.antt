@@ -3,7 +3,7 @@ use Rattle.std.proofs.Common.{◌≡◌, ◌≢◌, ◌≤◌, ℕ, zero, suc, �
 use Rattle.std.specs.Prelude.{◌==◌}
 use Rattle.std.proofs.lemmas.Bool.{cases_Bool}
 use Rattle.std.proofs.lemmas.Bool.Decides.{nat_tests}
-use Rattle.pawk_token.specs.Bytes.{Text}
+use Rattle.pawk_lex.specs.Bytes.{Text}
 use Rattle.pawk_lex.specs.Gaps.{pass}
 
 pub pass_left : (lead : Text → ℕ) (n : ℕ) (z : Text) → pass lead n z ≡ pass lead 0 (drop n z)

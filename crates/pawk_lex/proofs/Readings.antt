@@ -1,11 +1,11 @@
 -- From one token to the next.
 use Rattle.std.proofs.Common.{◌≡◌, ◌<◌, Bool, List, [], ◌∷◌, ◌++◌, length, Option, Some, None, refl, sym, ap, subst, ◌∙◌, append_assoc}
 use Rattle.std.proofs.lemmas.List.{append-nil}
-use Rattle.pawk_token.specs.declared.token.Token.{Token}
-use Rattle.pawk_token.specs.declared.refusal.SyntaxRefusal.{SyntaxRefusal}
-use Rattle.pawk_token.specs.declared.refusal.SyntaxRefusal.TheVariants as refusal
-use Rattle.pawk_token.specs.Bytes.{Text}
-use Rattle.pawk_token.specs.Tokens.{Tok, tok, divides_after}
+use Rattle.pawk_lex.specs.declared.token.Token.{Token}
+use Rattle.pawk_lex.specs.declared.refusal.SyntaxRefusal.{SyntaxRefusal}
+use Rattle.pawk_lex.specs.declared.refusal.SyntaxRefusal.TheVariants as refusal
+use Rattle.pawk_lex.specs.Bytes.{Text}
+use Rattle.pawk_lex.specs.Tokens.{Tok, tok, divides_after}
 use Rattle.pawk_lex.specs.Next.{finds}
 use Rattle.pawk_lex.specs.Cut.{Gap, Takes, CutFrom, at_end, a_token, Cut}
 use Rattle.pawk_lex.specs.Reads.{State, start_state, Hands}

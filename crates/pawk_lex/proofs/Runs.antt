@@ -4,7 +4,7 @@ use Rattle.std.specs.Prelude.{slice_index}
 use Rattle.std.specs.List.{prefix_len, list_all}
 use Rattle.std.proofs.Math.Numerals.{one-add}
 use Rattle.std.proofs.lemmas.Bool.{and_parts}
-use Rattle.pawk_token.specs.Bytes.{Text, AllAre, BeginsBy}
+use Rattle.pawk_lex.specs.Bytes.{Text, AllAre, BeginsBy}
 
 -- the run ends here
 abbrev pub Stops : (ℕ → Bool) → Text → Type 0

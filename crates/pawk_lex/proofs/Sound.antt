@@ -8,16 +8,16 @@ use Rattle.std.proofs.lemmas.List.{take-append-drop, append-nil}
 use Rattle.std.proofs.lemmas.Slice.Eq.{bytes_eq-Decides}
 use Rattle.std.proofs.lemmas.Bool.{eqb-true}
 use Rattle.std.proofs.lemmas.Bool.Decides.{nat_tests}
-use Rattle.pawk_token.specs.declared.token.Mark.{Mark}
-use Rattle.pawk_token.specs.declared.token.Mark.TheVariants as m
-use Rattle.pawk_token.specs.declared.token.Builtin.{Builtin}
-use Rattle.pawk_token.specs.declared.refusal.Cause.{Cause}
-use Rattle.pawk_token.specs.declared.refusal.Cause.TheVariants as cause
-use Rattle.pawk_token.specs.Bytes.{Text, is_name_byte, is_blank, is_in_line, is_octal, AllAre, BeginsBy}
-use Rattle.pawk_token.specs.Vocabulary.{mark_text, builtin_text, reserved_words, builtins, singles, doubles, mark_among, reserved_word, builtin as builtin_of, double, single}
+use Rattle.pawk_lex.specs.declared.token.Mark.{Mark}
+use Rattle.pawk_lex.specs.declared.token.Mark.TheVariants as m
+use Rattle.pawk_lex.specs.declared.token.Builtin.{Builtin}
+use Rattle.pawk_lex.specs.declared.refusal.Cause.{Cause}
+use Rattle.pawk_lex.specs.declared.refusal.Cause.TheVariants as cause
+use Rattle.pawk_lex.specs.Bytes.{Text, is_name_byte, is_blank, is_in_line, is_octal, AllAre, BeginsBy}
+use Rattle.pawk_lex.specs.Vocabulary.{mark_text, builtin_text, reserved_words, builtins, singles, doubles, mark_among, reserved_word, builtin as builtin_of, double, single}
 use Rattle.pawk_lex.specs.Gaps.{gap_length, pass, skip}
 use Rattle.pawk_lex.specs.Strings.{simple_escape, by_two, two_digits, three_digits, octal_escape, string_byte, decode, decode_by, after_backslash, ere_length}
-use Rattle.pawk_token.specs.Tokens.{Tok, number as number_token, string as string_token, ere as ere_token, name, function_name, mark}
+use Rattle.pawk_lex.specs.Tokens.{Tok, number as number_token, string as string_token, ere as ere_token, name, function_name, mark}
 use Rattle.pawk_lex.specs.Next.{finds, fails, value_from, number_by, number, word_cause, named_by, word_by, word_tok, word_unless, word, string_end, string_by, string, ere_by, ere, is_redirection, sign_by, sign_unless, sign, token_at, next}
 use Rattle.pawk_lex.specs.Cut.{EndsLine, Gap, no_gap, a_blank, a_joined_line, a_comment, Inside, at_quote, itself, by_escape, one_digit, two_octal, three_octal, IsEre, no_byte, a_byte, a_pair, MarkEnds, MarkStands, Writes, Begins, Takes}
 use Rattle.pawk_lex.proofs.Runs.{Stops, prefix_all, prefix_first, prefix_ends, next_stops}
@@ -243,7 +243,7 @@ decode_sound (b ∷ z) zero front bytes rest e = go (λ n more. decode_sound z n
         let k = again (p.1 - 1) (front ++ p.0 ∷ []) g in
         record { tail = p.0 ∷ k.tail; bytes_are = k.bytes_are ∙ append_assoc front (p.0 ∷ []) k.tail; inside = written_step b z p k.tail rest f k.inside }
 
--- a string's text stands alone
+-- the text of a string up to its quote, without what follows
 record IsFronted (z bytes rest : Text) : Type 0 where
   lexeme : Text
   front : z ≡ lexeme ++ rest

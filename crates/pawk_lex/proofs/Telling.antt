@@ -1,18 +1,18 @@
--- What the lexer tells: its causes, and where it wants memory.
+-- What the lexer reports: its causes, and where it needs memory.
 use Rattle.std.proofs.Common.{◌≡◌, ℕ, Bool, true, false, ◌||◌, ◌&&◌, cond, [], ◌∷◌, drop, take, Option, Some, None, Ok, Err, refl, inl, inr}
 use Rattle.std.specs.Prelude.{◌==◌, slice_index}
 use Rattle.std.specs.Char.{is_ascii_digit}
 use Rattle.std.specs.List.{prefix_len}
 use Rattle.std.specs.Str.{bytes_eq}
 use Rattle.std.proofs.lemmas.Bool.{cases_Bool}
-use Rattle.pawk_token.specs.declared.token.Mark.{Mark}
-use Rattle.pawk_token.specs.declared.refusal.Cause.{Cause}
-use Rattle.pawk_token.specs.declared.refusal.Cause.TheVariants as cause
-use Rattle.pawk_token.specs.Bytes.{Text, is_name_byte}
-use Rattle.pawk_token.specs.Tokens.{Tok}
-use Rattle.pawk_token.specs.Vocabulary.{getline, is_left_out, double, single}
-use Rattle.pawk_token.specs.Refusals.{cause_number, is_lexer_number}
-use Rattle.pawk_lex.specs.declared.fault.Fault.TheVariants.{At, Memory}
+use Rattle.pawk_lex.specs.declared.token.Mark.{Mark}
+use Rattle.pawk_lex.specs.declared.refusal.Cause.{Cause}
+use Rattle.pawk_lex.specs.declared.refusal.Cause.TheVariants as cause
+use Rattle.pawk_lex.specs.Bytes.{Text, is_name_byte}
+use Rattle.pawk_lex.specs.Tokens.{Tok}
+use Rattle.pawk_lex.specs.Vocabulary.{getline, is_left_out, double, single}
+use Rattle.pawk_lex.specs.Refusals.{cause_number, is_lexer_number}
+use Rattle.pawk_lex.specs.declared.fault.SyntaxFault.TheVariants.{At, Memory}
 use Rattle.pawk_lex.specs.Gaps.{skip, pass}
 use Rattle.pawk_lex.specs.Strings.{decode, ere_length}
 use Rattle.pawk_lex.specs.Next.{Finding, value_from, number_by, number, word_cause, word_unless, word, string_end, string, ere_end, ere, is_redirection, sign_unless, sign, token_at}

@@ -1,12 +1,12 @@
 -- One answer of the lexer.
 use Rattle.std.proofs.Common.{◌≡◌, ◌≤◌, ℕ, ◌+◌, ◌-◌, Bool, [], ◌∷◌, length, Some, None, Ok, Err, refl, sym, ◌∙◌, inl, inr, IsTrue, arith}
-use Rattle.pawk_lex.specs.declared.fault.Fault.{Fault}
-use Rattle.pawk_lex.specs.declared.fault.Fault.TheVariants as fault
-use Rattle.pawk_token.specs.declared.refusal.SyntaxRefusal.{SyntaxRefusal}
-use Rattle.pawk_token.specs.Bytes.{Text}
-use Rattle.pawk_token.specs.Refusals.{is_lexer_refusal}
-use Rattle.pawk_token.specs.declared.token.Token.{Token}
-use Rattle.pawk_token.specs.Tokens.{Tok, tok}
+use Rattle.pawk_lex.specs.declared.fault.SyntaxFault.{SyntaxFault}
+use Rattle.pawk_lex.specs.declared.fault.SyntaxFault.TheVariants as fault
+use Rattle.pawk_lex.specs.declared.refusal.SyntaxRefusal.{SyntaxRefusal}
+use Rattle.pawk_lex.specs.Bytes.{Text}
+use Rattle.pawk_lex.specs.Refusals.{is_lexer_refusal}
+use Rattle.pawk_lex.specs.declared.token.Token.{Token}
+use Rattle.pawk_lex.specs.Tokens.{Tok, tok}
 use Rattle.pawk_lex.specs.Gaps.{skip}
 use Rattle.pawk_lex.specs.Next.{Finding, token_at, next}
 use Rattle.pawk_lex.specs.Cut.{Gap}
@@ -43,7 +43,7 @@ hands old y t rest s e b n = record {
 pub ends : (d : Bool) (z y : Text) → y ≡ skip z → token_at d y ≡ Ok None → Gap z []
 ends d z y s e = none_sound d z (next_is d z y _ s e)
 
-pub refuses : (old : State) (y : Text) (f : Fault) (e : SyntaxRefusal) → y ≡ skip old.rest → length old.rest ≤ old.size → IsFault (NeedsMemory old.divides y) (token_at old.divides y) f → e ≡ refusal_of old.size f → FailsBy old e
+pub refuses : (old : State) (y : Text) (f : SyntaxFault) (e : SyntaxRefusal) → y ≡ skip old.rest → length old.rest ≤ old.size → IsFault (NeedsMemory old.divides y) (token_at old.divides y) f → e ≡ refusal_of old.size f → FailsBy old e
 refuses old y fault.Memory e s h g is = rw is (wants old.divides old.rest y s g)
 refuses old y (fault.At why left) e s h g is =
     let finding = next_is old.divides old.rest y _ s g in
@@ -59,13 +59,13 @@ refuses old y (fault.At why left) e s h g is =
     })
 
 -- the fault's number is one of the lexer's
-pub tells : (d : Bool) (y : Text) (size : ℕ) (f : Fault) (e : SyntaxRefusal) → IsFault (NeedsMemory d y) (token_at d y) f → e ≡ refusal_of size f → IsTrue (is_lexer_refusal e)
+pub tells : (d : Bool) (y : Text) (size : ℕ) (f : SyntaxFault) (e : SyntaxRefusal) → IsFault (NeedsMemory d y) (token_at d y) f → e ≡ refusal_of size f → IsTrue (is_lexer_refusal e)
 tells d y size fault.Memory e g is = rw is refl
 tells d y size (fault.At why left) e g is =
     let told : IsTold (Err (fault.At why left)) = rw g at (token_told d y) in
     rw (is, told) refl
 
--- where nothing but what separates tokens is left, there is neither a token nor a fault, nor want of memory
+-- where nothing but what separates tokens is left, there is neither a token nor a fault, nor a refused allocation
 at_end : (d : Bool) (z y : Text) → y ≡ skip z → Gap z [] → token_at d y ≡ Ok None
 unfolding next
 at_end d z y s k = rw s (gap_none d z k)
@@ -80,6 +80,6 @@ end_needs_none d (b ∷ z) e (inr h) =
 pub no_token_at_end : (d : Bool) (z y : Text) (t : Tok) (rest : Text) → y ≡ skip z → token_at d y ≡ Ok (Some (t, rest)) → Gap z [] → ⊥
 no_token_at_end d z y t rest s e k = let bad : ◌≡◌ {A = Finding} (Ok None) (Ok (Some (t, rest))) = sym (at_end d z y s k) ∙ e in absurd cc
 
-pub no_fault_at_end : (d : Bool) (z y : Text) (f : Fault) → y ≡ skip z → IsFault (NeedsMemory d y) (token_at d y) f → Gap z [] → ⊥
+pub no_fault_at_end : (d : Bool) (z y : Text) (f : SyntaxFault) → y ≡ skip z → IsFault (NeedsMemory d y) (token_at d y) f → Gap z [] → ⊥
 no_fault_at_end d z y fault.Memory s g k = end_needs_none d y (at_end d z y s k) g
 no_fault_at_end d z y (fault.At why left) s g k = let bad : ◌≡◌ {A = Finding} (Ok None) (Err (fault.At why left)) = sym (at_end d z y s k) ∙ g in absurd cc

@@ -5,11 +5,11 @@ use Rattle.std.specs.Char.{is_ascii_digit}
 use Rattle.std.specs.List.{prefix_len}
 use Rattle.std.proofs.lemmas.List.{length-drop}
 use Rattle.std.proofs.lemmas.Bool.{cases_Bool}
-use Rattle.pawk_token.specs.declared.token.Mark.{Mark}
-use Rattle.pawk_token.specs.declared.refusal.Cause.{Cause}
-use Rattle.pawk_lex.specs.declared.fault.Fault.TheVariants.{At, Memory}
-use Rattle.pawk_token.specs.Bytes.{Text, is_name_byte}
-use Rattle.pawk_token.specs.Vocabulary.{double, single}
+use Rattle.pawk_lex.specs.declared.token.Mark.{Mark}
+use Rattle.pawk_lex.specs.declared.refusal.Cause.{Cause}
+use Rattle.pawk_lex.specs.declared.fault.SyntaxFault.TheVariants.{At, Memory}
+use Rattle.pawk_lex.specs.Bytes.{Text, is_name_byte}
+use Rattle.pawk_lex.specs.Vocabulary.{double, single}
 use Rattle.pawk_lex.specs.Gaps.{gap_length, skip, pass}
 use Rattle.pawk_lex.specs.Strings.{string_byte, decode, decode_by, ere_length}
 use Rattle.pawk_lex.specs.Next.{Finding, fails, value_from, number_by, number, word_cause, word_unless, word, string_end, string, ere_end, ere, is_redirection, sign_by, sign_unless, sign, token_at, next}

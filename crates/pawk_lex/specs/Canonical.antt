@@ -1,9 +1,9 @@
 -- One way to write each token.
 use Rattle.std.specs.Prelude.{◌≤◌, ◌<◌, ℕ, ◌+◌, ◌/◌, ◌%◌, Bool, ◌&&◌, ◌||◌, if◌then◌else◌, ◌==◌, nat_le, List, [], ◌∷◌, ◌++◌}
 use Rattle.std.specs.Fmt.{decimal}
-use Rattle.pawk_token.specs.Bytes.{Text, is_blank}
-use Rattle.pawk_token.specs.Vocabulary.{mark_text, builtin_text}
-use Rattle.pawk_token.specs.Tokens.{Tok, number, string, ere, name, function_name, builtin, mark}
+use Rattle.pawk_lex.specs.Bytes.{Text, is_blank}
+use Rattle.pawk_lex.specs.Vocabulary.{mark_text, builtin_text}
+use Rattle.pawk_lex.specs.Tokens.{Tok, number, string, ere, name, function_name, builtin, mark}
 use Rattle.pawk_lex.specs.Cut.{IsName, IsEre}
 
 -- a byte inside quotes: a quote and a backslash after a backslash, a printable byte itself, any
@@ -49,7 +49,7 @@ AreWritable (t ∷ ts) = IsWritable t × AreWritable ts
 abbrev pub is_separator : ℕ → Bool
 is_separator b = is_blank b || b == 92 || b == 35
 
--- the token may end before a blank: any but a name that stands directly before `(`
+-- the token may end before a blank: any but a name directly before `(`
 abbrev pub MayEnd : Tok → Type 0
 MayEnd (function_name w) = ⊥
 MayEnd _ = Unit {0}

@@ -2,13 +2,13 @@
 use Rattle.std.specs.Prelude.{◌≡◌, ◌≤◌, ◌<◌, ℕ, ◌-◌, Bool, true, false, ◌||◌, if◌then◌else◌, ◌==◌, List, [], ◌∷◌, ◌++◌, Some, None, slice_index, MatchBool}
 use Rattle.std.specs.Char.{is_ascii_digit}
 use Rattle.std.specs.Str.Parse.{IsNumeral, digits_value}
-use Rattle.pawk_token.specs.declared.token.Mark.{Mark}
-use Rattle.pawk_token.specs.declared.token.Mark.TheVariants as m
-use Rattle.pawk_token.specs.Bytes.{Text, is_name_byte, is_blank, is_in_line, is_octal, AllAre, BeginsBy}
-use Rattle.pawk_token.specs.Vocabulary.{mark_text, builtin_text, reserved_word, builtin as builtin_of, double}
+use Rattle.pawk_lex.specs.declared.token.Mark.{Mark}
+use Rattle.pawk_lex.specs.declared.token.Mark.TheVariants as m
+use Rattle.pawk_lex.specs.Bytes.{Text, is_name_byte, is_blank, is_in_line, is_octal, AllAre, BeginsBy}
+use Rattle.pawk_lex.specs.Vocabulary.{mark_text, builtin_text, reserved_word, builtin as builtin_of, double}
 use Rattle.pawk_lex.specs.Strings.{simple_escape, two_digits, three_digits}
 use Rattle.pawk_lex.specs.Next.{word_cause, is_redirection}
-use Rattle.pawk_token.specs.Tokens.{Tok, number, string, ere, name, function_name, builtin, mark, divides_after}
+use Rattle.pawk_lex.specs.Tokens.{Tok, number, string, ere, name, function_name, builtin, mark, divides_after}
 
 -- ---- between tokens: <blank>, <backslash> before <newline>, comment
 
@@ -65,7 +65,7 @@ pub data Inside : Text → Text → Text → Type 0 where
       is_octal c ≡ true → three_digits a b c < 256 → Inside z bytes rest →
       Inside (92 ∷ a ∷ b ∷ c ∷ z) (three_digits a b c ∷ bytes) rest
 
--- bytes that can stand between slashes: a backslash takes the byte after it along
+-- bytes that can occur between slashes: a backslash takes the byte after it along
 abbrev pub is_plain : ℕ → Bool
 is_plain b = if b == 47 || b == 10 then false else (if b == 92 then false else true)
 

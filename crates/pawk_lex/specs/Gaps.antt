@@ -1,8 +1,8 @@
--- What stands between tokens: blanks, joined lines and comments (POSIX.1-2017, awk, "Lexical Conventions":
+-- What is between tokens: blanks, joined lines and comments (POSIX.1-2017, awk, "Lexical Conventions":
 -- <blank>, <backslash> before <newline>, comment).
 use Rattle.std.specs.Prelude.{ℕ, zero, suc, ◌-◌, ◌&&◌, if◌then◌else◌, ◌==◌, [], ◌∷◌, slice_index}
 use Rattle.std.specs.List.{prefix_len}
-use Rattle.pawk_token.specs.Bytes.{Text, is_blank, is_in_line}
+use Rattle.pawk_lex.specs.Bytes.{Text, is_blank, is_in_line}
 
 -- how many bytes at the front of the text separate tokens: a blank, a backslash with its newline,
 -- or a comment up to its newline

@@ -1,7 +1,7 @@
-pub use Rattle.pawk_token.specs.Bytes
-pub use Rattle.pawk_token.specs.Vocabulary
-pub use Rattle.pawk_token.specs.Tokens
-pub use Rattle.pawk_token.specs.Refusals
+pub mod Bytes
+pub mod Vocabulary
+pub mod Tokens
+pub mod Refusals
 pub mod Gaps
 pub mod Strings
 pub mod Next

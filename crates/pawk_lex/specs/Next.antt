@@ -3,21 +3,21 @@ use Rattle.std.specs.Prelude.{ℕ, ◌+◌, ◌-◌, ◌*◌, Bool, true, false,
 use Rattle.std.specs.Char.{is_ascii_digit}
 use Rattle.std.specs.List.{prefix_len}
 use Rattle.std.specs.Str.{bytes_eq}
-use Rattle.pawk_token.specs.declared.token.Mark.{Mark}
-use Rattle.pawk_token.specs.declared.token.Builtin.{Builtin}
-use Rattle.pawk_token.specs.declared.refusal.Cause.{Cause}
-use Rattle.pawk_token.specs.declared.refusal.Cause.TheVariants as cause
-use Rattle.pawk_lex.specs.declared.fault.Fault.{Fault}
-use Rattle.pawk_lex.specs.declared.fault.Fault.TheVariants.{At}
-use Rattle.pawk_token.specs.Bytes.{Text, is_name_byte}
-use Rattle.pawk_token.specs.Vocabulary.{getline, reserved_word, builtin as builtin_of, is_left_out, double, single}
+use Rattle.pawk_lex.specs.declared.token.Mark.{Mark}
+use Rattle.pawk_lex.specs.declared.token.Builtin.{Builtin}
+use Rattle.pawk_lex.specs.declared.refusal.Cause.{Cause}
+use Rattle.pawk_lex.specs.declared.refusal.Cause.TheVariants as cause
+use Rattle.pawk_lex.specs.declared.fault.SyntaxFault.{SyntaxFault}
+use Rattle.pawk_lex.specs.declared.fault.SyntaxFault.TheVariants.{At}
+use Rattle.pawk_lex.specs.Bytes.{Text, is_name_byte}
+use Rattle.pawk_lex.specs.Vocabulary.{getline, reserved_word, builtin as builtin_of, is_left_out, double, single}
 use Rattle.pawk_lex.specs.Gaps.{skip, pass}
 use Rattle.pawk_lex.specs.Strings.{decode, ere_length}
-use Rattle.pawk_token.specs.Tokens.{Tok, number as number_token, string as string_token, ere as ere_token, name, function_name, builtin, mark}
+use Rattle.pawk_lex.specs.Tokens.{Tok, number as number_token, string as string_token, ere as ere_token, name, function_name, builtin, mark}
 
 -- a token and the text after it, nothing at the end of the text, or what is at fault
 abbrev pub Finding : Type 0
-Finding = Result (Option (Tok × Text)) Fault
+Finding = Result (Option (Tok × Text)) SyntaxFault
 
 abbrev pub finds : Tok → Text → Finding
 finds t rest = Ok (Some (t, rest))

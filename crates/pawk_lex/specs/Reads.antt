@@ -1,30 +1,30 @@
 -- What the functions of the lexer ensure.
 use Rattle.std.specs.Prelude.{◌≡◌, ◌≤◌, ◌⊎◌, ℕ, ◌+◌, ◌-◌, Bool, false, [], ◌∷◌, length, Option, Some, None, Result, Ok, Err}
 use Rattle.std.specs.Borrow.{Bor}
-use Rattle.pawk_token.specs.declared.token.Value.{Value}
-use Rattle.pawk_token.specs.declared.token.Token.{Token}
-use Rattle.pawk_token.specs.declared.refusal.Cause.{Cause}
-use Rattle.pawk_lex.specs.declared.fault.Fault.{Fault}
-use Rattle.pawk_lex.specs.declared.fault.Fault.TheVariants as fault
-use Rattle.pawk_token.specs.declared.refusal.SyntaxRefusal.{SyntaxRefusal}
-use Rattle.pawk_token.specs.declared.refusal.SyntaxRefusal.TheVariants as refusal
-use Rattle.pawk_token.specs.Bytes.{Text}
-use Rattle.pawk_token.specs.Tokens.{Tok, string, ere, name, function_name, tok, divides_after}
+use Rattle.pawk_lex.specs.declared.token.TokenValue.{TokenValue}
+use Rattle.pawk_lex.specs.declared.token.Token.{Token}
+use Rattle.pawk_lex.specs.declared.refusal.Cause.{Cause}
+use Rattle.pawk_lex.specs.declared.fault.SyntaxFault.{SyntaxFault}
+use Rattle.pawk_lex.specs.declared.fault.SyntaxFault.TheVariants as fault
+use Rattle.pawk_lex.specs.declared.refusal.SyntaxRefusal.{SyntaxRefusal}
+use Rattle.pawk_lex.specs.declared.refusal.SyntaxRefusal.TheVariants as refusal
+use Rattle.pawk_lex.specs.Bytes.{Text}
+use Rattle.pawk_lex.specs.Tokens.{Tok, string, ere, name, function_name, tok, divides_after}
 use Rattle.pawk_lex.specs.Next.{Finding, token_at, next}
 use Rattle.pawk_lex.specs.Cut.{Gap, Begins, Takes}
 
--- the fault that the lexical rules find; or want of memory, where memory is needed
-abbrev pub IsFault : Type 0 → Finding → Fault → Type 0
+-- the fault that the lexical rules find; or out of memory, where memory is needed
+abbrev pub IsFault : Type 0 → Finding → SyntaxFault → Type 0
 IsFault needed finding (fault.At why left) = finding ≡ Err (fault.At why left)
 IsFault needed finding fault.Memory = needed
 
 -- a token, and the text after it
-abbrev pub IsFinding : Type 0 → Finding → Result (Value × Bor Text) Fault → Type 0
+abbrev pub IsFinding : Type 0 → Finding → Result (TokenValue × Bor Text) SyntaxFault → Type 0
 IsFinding needed finding (Ok p) = finding ≡ Ok (Some (tok p.0, p.1.now))
 IsFinding needed finding (Err e) = IsFault needed finding e
 
 -- the same, or nothing at the end
-abbrev pub IsSomeFinding : Type 0 → Finding → Result (Option (Value × Bor Text)) Fault → Type 0
+abbrev pub IsSomeFinding : Type 0 → Finding → Result (Option (TokenValue × Bor Text)) SyntaxFault → Type 0
 IsSomeFinding needed finding (Ok (Some p)) = finding ≡ Ok (Some (tok p.0, p.1.now))
 IsSomeFinding needed finding (Ok None) = finding ≡ Ok None
 IsSomeFinding needed finding (Err e) = IsFault needed finding e
@@ -74,7 +74,7 @@ start_state text = record { size = length text; rest = text; divides = false; la
 abbrev pub place_of : ℕ → ℕ → ℕ
 place_of size left = size - left + 1
 
-abbrev pub refusal_of : ℕ → Fault → SyntaxRefusal
+abbrev pub refusal_of : ℕ → SyntaxFault → SyntaxRefusal
 refusal_of size (fault.At why left) = refusal.At why (place_of size left)
 refusal_of size fault.Memory = refusal.Memory
 
@@ -87,7 +87,7 @@ pub record Hands (old : State) (t : Token) (rest : Text) : Type 0 where
   pub start : t.span.start + length text ≡ old.size
   pub end : t.span.end + length rest ≡ old.size
 
--- the text is at fault: it neither ends nor begins with a token, and the lexical rules tell this
+-- the text is at fault: it neither ends nor begins with a token, and the lexical rules report this
 -- cause at this byte of it
 pub record Fails (old : State) (why : Cause) (place : ℕ) : Type 0 where
   pub at_least : 1 ≤ place

@@ -2,7 +2,7 @@
 -- and ERE, with the
 -- table "Escape Sequences in awk" and that of XBD 5, "File Format Notation").
 use Rattle.std.specs.Prelude.{ℕ, zero, suc, ◌+◌, ◌-◌, ◌*◌, ◌&&◌, ◌||◌, if◌then◌else◌, ◌==◌, nat_lt, [], ◌∷◌, ◌++◌, Option, Some, None, slice_index}
-use Rattle.pawk_token.specs.Bytes.{Text, is_octal}
+use Rattle.pawk_lex.specs.Bytes.{Text, is_octal}
 
 -- the byte that a backslash and this byte write
 unfoldable pub simple_escape : ℕ → Option ℕ

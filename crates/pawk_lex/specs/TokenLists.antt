@@ -1,11 +1,11 @@
 -- All tokens of a text.
 use Rattle.std.specs.Prelude.{Bool, false, List, [], ◌∷◌, ◌++◌, length, map, Option, Some, None}
-use Rattle.pawk_token.specs.declared.token.Token.{Token}
-use Rattle.pawk_token.specs.declared.refusal.SyntaxRefusal.{SyntaxRefusal}
-use Rattle.pawk_token.specs.declared.refusal.SyntaxRefusal.TheVariants as refusal
+use Rattle.pawk_lex.specs.declared.token.Token.{Token}
+use Rattle.pawk_lex.specs.declared.refusal.SyntaxRefusal.{SyntaxRefusal}
+use Rattle.pawk_lex.specs.declared.refusal.SyntaxRefusal.TheVariants as refusal
 use Rattle.pawk_lex.specs.declared.token_list.TokenList.{TokenList}
-use Rattle.pawk_token.specs.Bytes.{Text}
-use Rattle.pawk_token.specs.Tokens.{Tok, tok, divides_after}
+use Rattle.pawk_lex.specs.Bytes.{Text}
+use Rattle.pawk_lex.specs.Tokens.{Tok, tok, divides_after}
 use Rattle.pawk_lex.specs.Cut.{Takes, Cut}
 use Rattle.pawk_lex.specs.Reads.{State, Fails}
 
@@ -16,7 +16,7 @@ pub data CutUpTo : Text → List Tok → Bool → Text → Type 0 where
       CutUpTo text ts divides y → Takes divides y t rest →
       CutUpTo text (ts ++ t ∷ []) (divides_after t) rest
 
--- the refusal is of the text, not for want of memory
+-- the refusal is of the text, not of an allocation
 abbrev pub RefusedBy : State → SyntaxRefusal → Type 0
 RefusedBy old (refusal.At why place) = Fails old why place
 RefusedBy old refusal.Memory = ⊥

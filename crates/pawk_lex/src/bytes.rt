@@ -1,9 +1,9 @@
 //! Single bytes of a text.
 
 ghost use Rattle.std.specs.Prelude.{◌≡◌, ◌≢◌, ◌<◌, length, slice_index};
-ghost use Rattle.pawk_token.specs.Bytes as spec;
+ghost use Rattle.pawk_lex.specs.Bytes as spec;
 
-/// Whether this byte may stand in a name.
+/// Whether this byte may occur in a name.
 pub fn is_name_byte(byte: u8) -> bool
     ensures { result ≡ spec.is_name_byte byte }
 {

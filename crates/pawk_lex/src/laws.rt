@@ -2,8 +2,8 @@
 
 ghost use Rattle.std.specs.Prelude.{◌≡◌, ℕ, Bool, List, [], ◌∷◌, ◌++◌, ◌↔◌, true, None, Ok};
 ghost use Rattle.std.specs.Prelude.{slice_index};
-ghost use Rattle.pawk_token.specs.Bytes.{Text};
-ghost use Rattle.pawk_token.specs.Tokens.{Tok, divides_after};
+ghost use Rattle.pawk_lex.specs.Bytes.{Text};
+ghost use Rattle.pawk_lex.specs.Tokens.{Tok, divides_after};
 ghost use Rattle.pawk_lex.specs.Next.{next, finds};
 ghost use Rattle.pawk_lex.specs.Cut.{Gap, Ends, Stands, Writes, Takes, CutFrom, Cut};
 ghost use Rattle.pawk_lex.specs.Canonical.{AreBytes, IsWritable, AreWritable, MayEnd};
@@ -24,8 +24,8 @@ pub fn next_is_first_token()
     ensures end { (divides : Bool) (text : Text) → (next divides text ≡ Ok None) ↔ Gap text [] }
 {}
 
-/// Blanks, joined lines and comments may stand before a text, and after each token but a name that
-/// stands directly before `(`: the text is cut into the same tokens.
+/// Blanks, joined lines and comments may come before a text, and after each token but a name that
+/// is directly before `(`: the text is cut into the same tokens.
 pub fn spacing_is_free()
     ensures before { (divides : Bool) (gap text : Text) (ts : List Tok) →
         Gap gap text → CutFrom divides text ts → CutFrom divides gap ts }

@@ -2,17 +2,17 @@
 
 ghost use Rattle.std.specs.Prelude.{◌≡◌, ◌≢◌, ◌<◌, ◌≤◌, [], length, IfOk, OnErr};
 ghost use Rattle.pawk_lex.specs.Next as spec;
-ghost use Rattle.pawk_token.specs.Tokens.{tok};
+ghost use Rattle.pawk_lex.specs.Tokens.{tok};
 ghost use Rattle.pawk_lex.specs.Reads.{IsFinding, IsSomeFinding, CopiesBytes, HasBytes, NeedsMemory};
 
 use crate::bytes::{byte_at, is_name_byte};
-use crate::fault::Fault;
+use crate::fault::SyntaxFault;
+use crate::refusal::Cause;
 use crate::scan::{digit_count, name_length};
+use crate::signs::{double, single};
 use crate::strings::{after_ere, decode};
-use pawk_token::refusal::Cause;
-use pawk_token::signs::{double, single};
-use pawk_token::token::Value;
-use pawk_token::vocabulary::{builtin, is_left_out, reserved_word};
+use crate::token::TokenValue;
+use crate::vocabulary::{builtin, is_left_out, reserved_word};
 use std::alloc::{AllocError, Global};
 
 /// The greatest number of a numeral.
@@ -41,15 +41,15 @@ fn value(mut digits: &[u8]) -> Option<u64>
 /// is at fault at its first byte where it is greater than 9223372036854775807, or where a `.`, a
 /// letter or `_` follows it directly.
 #[tactic(auto, unfolding(crate::specs::Next::number))]
-fn number(text: &[u8]) -> Result<(Value, &[u8]), Fault>
+fn number(text: &[u8]) -> Result<(TokenValue, &[u8]), SyntaxFault>
     ensures { IsFinding ⊥ (spec.number text.now) result }
 {
     let (digits, rest) = text.split_at(digit_count(text));
     match value(digits) {
         Some(number) if !is_name_byte(byte_at(rest, 0)) && byte_at(rest, 0) != b'.' => {
-            Ok((Value::Number(number), rest))
+            Ok((TokenValue::Number(number), rest))
         }
-        _ => Err(Fault::At {
+        _ => Err(SyntaxFault::At {
             cause: Cause::Numeral,
             left: text.len(),
         }),
@@ -72,33 +72,33 @@ fn word_cause(word: &[u8]) -> Option<Cause>
 
 /// What a word is, before this byte.
 #[tactic(auto, unfolding(crate::specs::Next::word_tok))]
-fn word_value(alloc: Global, word: &[u8], next: u8) -> Result<Value, AllocError>
+fn word_value(alloc: Global, word: &[u8], next: u8) -> Result<TokenValue, AllocError>
     ensures value { IfOk result (λ v. tok v ≡ spec.word_tok word.now next) }
     ensures memory { OnErr result (HasBytes (spec.word_tok word.now next)) }
 {
     if let Some(mark) = reserved_word(word) {
-        return Ok(Value::Mark(mark));
+        return Ok(TokenValue::Mark(mark));
     }
     if let Some(function) = builtin(word) {
-        return Ok(Value::Builtin(function));
+        return Ok(TokenValue::Builtin(function));
     }
     let name = Vec::from_slice(alloc, word)?;
     if next == b'(' {
-        Ok(Value::FunctionName(name))
+        Ok(TokenValue::FunctionName(name))
     } else {
-        Ok(Value::Name(name))
+        Ok(TokenValue::Name(name))
     }
 }
 
 /// A name or a word with a meaning of its own (the same section: word, keywords, BUILTIN_FUNC,
 /// NAME and FUNC_NAME). A word that may not be used is at fault at its first byte.
 #[tactic(auto, unfolding(crate::specs::Next::word))]
-fn word(alloc: Global, text: &[u8]) -> Result<(Value, &[u8]), Fault>
+fn word(alloc: Global, text: &[u8]) -> Result<(TokenValue, &[u8]), SyntaxFault>
     ensures { let found = spec.word text.now in IsFinding (CopiesBytes found) found result }
 {
     let (word, rest) = text.split_at(name_length(text));
     match word_cause(word) {
-        Some(cause) => Err(Fault::At {
+        Some(cause) => Err(SyntaxFault::At {
             cause,
             left: text.len(),
         }),
@@ -109,18 +109,18 @@ fn word(alloc: Global, text: &[u8]) -> Result<(Value, &[u8]), Fault>
 /// A string, from its opening quote on (the same section: STRING). A backslash that begins no
 /// escape is at fault there; a string without an end on its line at its opening quote.
 #[tactic(auto, unfolding(crate::specs::Next::string))]
-fn string(alloc: Global, text: &[u8]) -> Result<(Value, &[u8]), Fault>
+fn string(alloc: Global, text: &[u8]) -> Result<(TokenValue, &[u8]), SyntaxFault>
     requires { 0 < length text.now }
     ensures { IsFinding (Unit {0}) (spec.string text.now) result }
 {
     let (bytes, rest) = decode(alloc, &text[1..])?;
     match rest {
-        [b'"', rest @ ..] => Ok((Value::String(bytes), rest)),
-        [b'\\', ..] => Err(Fault::At {
+        [b'"', rest @ ..] => Ok((TokenValue::String(bytes), rest)),
+        [b'\\', ..] => Err(SyntaxFault::At {
             cause: Cause::Token,
             left: rest.len(),
         }),
-        _ => Err(Fault::At {
+        _ => Err(SyntaxFault::At {
             cause: Cause::Token,
             left: text.len(),
         }),
@@ -130,7 +130,7 @@ fn string(alloc: Global, text: &[u8]) -> Result<(Value, &[u8]), Fault>
 /// An expression, from its opening slash on (the same section: ERE). Without an end on its line it
 /// is at fault at its opening slash.
 #[tactic(auto, unfolding(crate::specs::Next::ere))]
-fn ere(alloc: Global, text: &[u8]) -> Result<(Value, &[u8]), Fault>
+fn ere(alloc: Global, text: &[u8]) -> Result<(TokenValue, &[u8]), SyntaxFault>
     requires { 0 < length text.now }
     ensures { let found = spec.ere text.now in IsFinding (CopiesBytes found) found result }
 {
@@ -139,9 +139,9 @@ fn ere(alloc: Global, text: &[u8]) -> Result<(Value, &[u8]), Fault>
     match rest {
         [b'/', after @ ..] => {
             let bytes = Vec::from_slice(alloc, &body[..body.len() - rest.len()])?;
-            Ok((Value::Ere(bytes), after))
+            Ok((TokenValue::Ere(bytes), after))
         }
-        _ => Err(Fault::At {
+        _ => Err(SyntaxFault::At {
             cause: Cause::Token,
             left: text.len(),
         }),
@@ -163,23 +163,23 @@ fn is_redirection(byte: u8, next: u8) -> bool
 /// A sign or a newline; of two signs that begin so the longer one (the same section: the
 /// two-character tokens and the single characters).
 #[tactic(auto, unfolding(crate::specs::Next::sign))]
-fn sign(text: &[u8], byte: u8, next: u8) -> Result<(Value, &[u8]), Fault>
+fn sign(text: &[u8], byte: u8, next: u8) -> Result<(TokenValue, &[u8]), SyntaxFault>
     requires some { 0 < length text.now }
     requires more { next ≢ 0 → 1 < length text.now }
     ensures { IsFinding ⊥ (spec.sign text.now byte next) result }
 {
     if is_redirection(byte, next) {
-        return Err(Fault::At {
+        return Err(SyntaxFault::At {
             cause: Cause::InputOutput,
             left: text.len(),
         });
     }
     if let Some(mark) = double(byte, next) {
-        return Ok((Value::Mark(mark), &text[2..]));
+        return Ok((TokenValue::Mark(mark), &text[2..]));
     }
     match single(byte) {
-        Some(mark) => Ok((Value::Mark(mark), &text[1..])),
-        None => Err(Fault::At {
+        Some(mark) => Ok((TokenValue::Mark(mark), &text[1..])),
+        None => Err(SyntaxFault::At {
             cause: Cause::Token,
             left: text.len(),
         }),
@@ -189,7 +189,11 @@ fn sign(text: &[u8], byte: u8, next: u8) -> Result<(Value, &[u8]), Fault>
 /// The token at the front of a text that begins with none of what separates tokens; `divides` says
 /// that a slash is a division there.
 #[tactic(auto, unfolding(crate::specs::Next::token_at))]
-pub fn token_at(alloc: Global, divides: bool, text: &[u8]) -> Result<Option<(Value, &[u8])>, Fault>
+pub fn token_at(
+    alloc: Global,
+    divides: bool,
+    text: &[u8],
+) -> Result<Option<(TokenValue, &[u8])>, SyntaxFault>
     ensures { IsSomeFinding (NeedsMemory divides text.now) (spec.token_at divides text.now) result }
 {
     match text {

@@ -1,13 +1,13 @@
 //! Cuts a text into tokens.
 
 ghost use Rattle.std.specs.Prelude.{◌≡◌, ◌<◌, ◌≤◌, ◌^◌, [], length, None, IfSome, IfErr, IsTrue};
-ghost use Rattle.pawk_token.specs.Refusals.{is_lexer_answer, is_lexer_refusal};
+ghost use Rattle.pawk_lex.specs.Refusals.{is_lexer_answer, is_lexer_refusal};
 ghost use Rattle.pawk_lex.specs.Cut.{Gap};
 
 use crate::lexemes::token_at;
+use crate::refusal::SyntaxRefusal;
 use crate::scan::skip;
-use pawk_token::refusal::SyntaxRefusal;
-use pawk_token::token::{Span, Token};
+use crate::token::{Span, Token};
 use std::alloc::Global;
 
 /// Hands out the tokens of a text, one at a time. It walks the text once, and copies no more of

@@ -1,6 +1,6 @@
 //! The tokens of awk: a text is cut into names, words, numerals, strings, expressions between
 //! slashes, signs and newlines, as POSIX.1-2017, awk, "Lexical Conventions", says, for an awk of
-//! whole numbers.
+//! whole numbers; and the refusals of a program text.
 #![tactic(auto)]
 
 mod bytes;
@@ -8,8 +8,10 @@ mod fault;
 pub mod laws;
 mod lexemes;
 pub mod lexer;
+pub mod refusal;
 mod scan;
+pub mod signs;
 pub mod strings;
+pub mod token;
 pub mod token_list;
-
-pub use pawk_token::{refusal, token, vocabulary};
+pub mod vocabulary;

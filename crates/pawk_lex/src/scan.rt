@@ -3,7 +3,7 @@
 ghost use Rattle.std.specs.Prelude.{◌≡◌, ◌≤◌, length};
 ghost use Rattle.std.specs.Char.{is_ascii_digit};
 ghost use Rattle.std.specs.List.{prefix_len};
-ghost use Rattle.pawk_token.specs.Bytes as bytes;
+ghost use Rattle.pawk_lex.specs.Bytes as bytes;
 ghost use Rattle.pawk_lex.specs.Gaps as spec;
 
 use crate::bytes::is_name_byte;

@@ -1,7 +1,7 @@
 //! The bytes inside strings and between slashes.
 
 ghost use Rattle.std.specs.Prelude.{◌≡◌, ◌≢◌, ◌<◌, ◌≤◌, IsTrue, [], length, IfSome, IfOk};
-ghost use Rattle.pawk_token.specs.Bytes as bytes;
+ghost use Rattle.pawk_lex.specs.Bytes as bytes;
 ghost use Rattle.pawk_lex.specs.Gaps.{pass};
 ghost use Rattle.pawk_lex.specs.Strings as spec;
 

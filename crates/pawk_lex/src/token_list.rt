@@ -1,8 +1,8 @@
 //! All tokens of a text.
 
 use crate::lexer::Lexer;
-use pawk_token::refusal::SyntaxRefusal;
-use pawk_token::token::Token;
+use crate::refusal::SyntaxRefusal;
+use crate::token::Token;
 use std::alloc::{AllocError, Global};
 
 /// The tokens of a text, up to its end or to where it is refused.
@@ -14,12 +14,12 @@ pub struct TokenList {
 
 impl TokenList {
     ghost use Rattle.std.specs.Prelude.{◌≡◌, List, None, IfOk};
-    ghost use Rattle.pawk_token.specs.Tokens.{Tok};
+    ghost use Rattle.pawk_lex.specs.Tokens.{Tok};
     ghost use Rattle.pawk_lex.specs.Cut.{Cut};
     ghost use Rattle.pawk_lex.specs.TokenLists.{IsTokenListOf, values};
 
     /// Reads all tokens of a text, or those before the first that is refused, with that refusal.
-    /// The error is want of memory alone.
+    /// The only error is a refused allocation.
     pub fn read(alloc: Global, text: &[u8]) -> Result<TokenList, AllocError>
         // The text is cut into the tokens; or into tokens and a rest that is refused.
         ensures tokens { IfOk result (λ r. IsTokenListOf text.now r) }

@@ -1,9 +1,9 @@
--- What texts one behind the other are together.
+-- What texts one after the other are together.
 use Rattle.std.proofs.Common.{◌≡◌, ℕ, zero, suc, ◌+◌, ◌<◌, ◌≤◌, List, [], ◌∷◌, ◌++◌, length, get_or, take, drop, Vec, ap, sym, ◌∙◌, arith, length-append}
 use Rattle.std.specs.declared.alloc.Global.{Global}
 use Rattle.std.proofs.Math.Seq.{drop-nil, take-append_seam, drop-append_seam}
 use Rattle.std.proofs.lemmas.List.{take-append-le}
-use Rattle.pawk_meaning.specs.Outputs.{in_a_row}
+use Rattle.pawk_semantics.specs.Outputs.{in_a_row}
 use Rattle.pawk_device.proofs.TransferLemmas.{take-more}
 
 -- one more text
@@ -22,7 +22,7 @@ drop-more zero m xs = let e : m ≡ 0 + m = omega arith in ap (λ k. drop k xs) 
 drop-more (suc n) m [] = drop-nil m ∙ sym (drop-nil (suc n + m))
 drop-more (suc n) m (x ∷ xs) = let e : suc (n + m) ≡ suc n + m = omega arith in drop-more n m xs ∙ ap (λ k. drop k (x ∷ xs)) e
 
--- some bytes of a text that comes behind others
+-- some bytes of a text that comes after others
 pub take-into : (whole text rest : List ℕ) (d n : ℕ) → drop d whole ≡ text ++ rest → n ≤ length text → take d whole ++ take n text ≡ take (d + n) whole
 take-into whole text rest d n is small =
     ap (λ l. take d whole ++ l) (sym (take-append-le n text rest small)) ∙ ap (λ l. take d whole ++ take n l) (sym is) ∙ take-more d n whole
@@ -32,6 +32,6 @@ pub take-whole : (whole text rest : List ℕ) (d : ℕ) → drop d whole ≡ tex
 take-whole whole text rest d is =
     ap (λ l. take d whole ++ l) (sym (take-append_seam text rest)) ∙ ap (λ l. take d whole ++ take (length text) l) (sym is) ∙ take-more d (length text) whole
 
--- what comes behind it
+-- what comes after it
 pub drop-past : (whole text rest : List ℕ) (d : ℕ) → drop d whole ≡ text ++ rest → drop (d + length text) whole ≡ rest
 drop-past whole text rest d is = sym (drop-more d (length text) whole) ∙ ap (λ l. drop (length text) l) is ∙ drop-append_seam text rest

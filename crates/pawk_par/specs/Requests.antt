@@ -1,11 +1,11 @@
 -- Requests that are accepted, and why others are not.
 use Rattle.std.specs.Prelude.{◌≡◌, ◌≢◌, ℕ, List, map, Some, None}
-use Rattle.pawk_token.specs.Bytes.{Text}
-use Rattle.pawk_token.specs.declared.refusal.SyntaxRefusal.TheVariants as syntax_refusal
+use Rattle.pawk_lex.specs.Bytes.{Text}
+use Rattle.pawk_lex.specs.declared.refusal.SyntaxRefusal.TheVariants as syntax_refusal
 use Rattle.pawk_lex.specs.Cut.{Cut}
-use Rattle.pawk_syntax_program.specs.Item.{Part}
-use Rattle.pawk_syntax_program.specs.ItemCanonical.{canon_program}
-use Rattle.pawk_syntax_kinds.specs.Demands.{Kinds, AreKindsOf}
+use Rattle.pawk_syntax_tree.specs.Item.{Part}
+use Rattle.pawk_syntax_tree.specs.ItemCanonical.{canon_program}
+use Rattle.pawk_syntax_check.specs.Demands.{Kinds, AreKindsOf}
 use Rattle.pawk_syntax.specs.Spells.{Spells}
 use Rattle.pawk_settings.specs.declared.refusal.SettingsRefusal.{SettingsRefusal}
 use Rattle.pawk_settings.specs.declared.refusal.SettingsRefusal.TheVariants as settings_refusal

@@ -1,14 +1,14 @@
 -- Runs from a source to a sink.
 use Rattle.std.specs.Prelude.{◌≡◌, ℕ, ◌<◌, List, [], ◌∷◌, length, take, Option, IfSome, MatchBool, true, false}
 use Rattle.std.specs.Io.KnownBytes.{Keeps, Appends}
-use Rattle.pawk_token.specs.Bytes.{Text}
+use Rattle.pawk_lex.specs.Bytes.{Text}
 use Rattle.pawk_code.specs.Programs.{Code}
 use Rattle.pawk_input.specs.Input.{File}
 use Rattle.pawk_input.specs.declared.files.TheConstants.{LIMIT}
 use Rattle.pawk_store.specs.Globals.{Globals}
-use Rattle.pawk_meaning.specs.Records.{End}
-use Rattle.pawk_meaning.specs.Runs.{Finish, reads_records}
-use Rattle.pawk_threads.specs.Ends.{ending_view}
+use Rattle.pawk_semantics.specs.Records.{End}
+use Rattle.pawk_semantics.specs.Runs.{Finish, reads_records}
+use Rattle.pawk_threads.specs.RunEnds.{ending_view}
 use Rattle.pawk_threads.specs.Ending.{Ending}
 use Rattle.pawk_threads.specs.Cuttings.{HasNoPlan}
 use Rattle.pawk_threads.specs.Routes.{IsRoute, begin_end, whole_run}
@@ -54,7 +54,7 @@ IsInput code left files = MatchBool (reads_records code) (AreBytes left files) (
 abbrev pub IsUnread : Code → Devices → Devices → Type 0
 IsUnread code old new = reads_records code ≡ false → ReadNothing old new
 
--- what a run stands on: the code and the assignments of a request that is accepted, and the files that were read
+-- what a run depends on: the code and the assignments of a request that is accepted, and the files that were read
 pub record Basis (wanted : Request) (old new : Devices) : Type 0 where
   pub code : Code
   pub assignments : List (Text × Text)
@@ -85,7 +85,7 @@ pub record Answers (wanted : Request) (old new : Devices) (ending : Ending) (rep
   pub route_is : IsRoute basis.code wanted.budget basis.files (begin_of basis) report.route
   pub wrote : Appends old.taken new.taken (meant basis).output
 
--- the sink took so many bytes of an output, and not all
+-- the sink took n bytes of an output, and not all
 abbrev pub TookPart : List ℕ → Option (List ℕ) → Option (List ℕ) → ℕ → Type 0
 TookPart output old new count = (count < length output) × Appends old new (take count output)
 
@@ -117,8 +117,8 @@ abbrev pub AreWanted : Request → Type 0
 AreWanted wanted =
     (code : Code) × (assignments : List (Text × Text)) × IsAccepted wanted code assignments × (reads_records code ≡ true)
 
--- What a refusal tells: Nothing was written, but with Write. Nothing was read where the text or the settings are refused, and
--- where the program reads none.
+-- What a refusal says: Nothing was written, but with Write. Nothing was read where the text or the settings are
+-- refused, and where the program reads none.
 abbrev pub WhyRefused : Request → Devices → Devices → StreamRefusal → Type 0
 WhyRefused wanted old new refusal.Memory = WroteNothing old new
 WhyRefused wanted old new refusal.Thread = Basis wanted old new × WroteNothing old new

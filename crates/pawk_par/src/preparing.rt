@@ -1,4 +1,4 @@
-//! What is told of a request before anything is read.
+//! What is reported about a request before anything is read.
 
 ghost use Rattle.std.specs.Prelude.{◌≡◌, IfOk, IfErr};
 ghost use Rattle.pawk_syntax.specs.Programs.{parts};

@@ -7,30 +7,39 @@ use pawk_settings::SettingsRefusal;
 use pawk_syntax::SyntaxRefusal;
 use pawk_threads::Refusal;
 use std::alloc::AllocError;
+use thiserror::Error;
 
 /// Why a run over streams was refused. Nothing was written, but with `Write`.
-#[derive(Clone, Copy, PartialEq, Eq)]
+#[derive(Clone, Copy, Debug, PartialEq, Eq, Drop, Error)]
 pub enum StreamRefusal {
     /// 1: memory was refused.
+    #[error("out of memory")]
     Memory,
     /// 2: a worker could not be started.
+    #[error("a worker could not be started")]
     Thread,
     /// 3: there is no plan of this cutting.
+    #[error("there is no plan of this cutting")]
     Cutting,
     /// 4: the text is refused as a program, for this cause. Nothing was read.
+    #[error("the program is refused: {0}")]
     Program(SyntaxRefusal),
     /// 5: an assignment or the budget is refused. Nothing was read.
+    #[error("the settings are refused: {0}")]
     Settings(SettingsRefusal),
     /// 6: a read failed.
+    #[error("a read failed")]
     Read,
-    /// 7: a write failed, after so many bytes of the output.
+    /// 7: a write failed, after this number of bytes of the output.
+    #[error("a write failed after {0} bytes of the output")]
     Write(u64),
     /// 8: the source has more bytes than an input may have.
+    #[error("the input is too large")]
     Input,
 }
 
 impl StreamRefusal {
-    /// The number by which users are told the refusal.
+    /// The number by which the refusal is reported to users.
     pub fn number(self) -> u8
         ensures { result ≡ refusal_number self }
     {

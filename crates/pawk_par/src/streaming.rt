@@ -27,7 +27,7 @@ use std::thread::Threads;
 /// place; `Settings` where an assignment or the budget is refused, the first at fault; `Read` where a read
 /// failed, `Input` where the source has more than 4,611,686,018,427,387,904 bytes; `Cutting` where the
 /// records may be run in chunks and the cutting has no plan, `Thread` where a worker could not be started;
-/// `Write` where a write failed or took nothing, after so many bytes; and at any time `Memory` where memory
+/// `Write` where a write failed or took nothing, after some bytes; and at any time `Memory` where memory
 /// was refused. Nothing was written, but with `Write`; nothing was read with `Program` and `Settings`.
 ///
 /// POSIX.1-2017, awk, "OPTIONS" (-v), "STDIN", "STDOUT" and "Overall Program Structure".

@@ -2,14 +2,14 @@
 
 ghost use Rattle.std.specs.Prelude.{◌≡◌, ◌<◌, ◌^◌, length, IfOk, IfErr, IfSome, OnOk};
 ghost use Rattle.std.specs.Io.KnownBytes.{Appends};
-ghost use Rattle.pawk_meaning.specs.Outputs.{in_a_row};
+ghost use Rattle.pawk_semantics.specs.Outputs.{in_a_row};
 ghost use Rattle.pawk_par.specs.Streams.{TookPart, WhyUnwritten};
 
 use crate::refusal::StreamRefusal;
 use pawk_device::{Sink, write_all};
 use pawk_threads::Output;
 
-/// How many bytes these parts have together, where 64 bits tell it.
+/// How many bytes these parts have together, where 64 bits are enough for it.
 fn size_of_all(parts: &[Vec<u8>]) -> Option<u64>
     ensures { IfSome result (λ size. size ≡ length (in_a_row parts.now)) }
 {
@@ -20,7 +20,7 @@ fn size_of_all(parts: &[Vec<u8>]) -> Option<u64>
     Some(size)
 }
 
-/// Writes these parts, whose size 64 bits tell, one after the other, and gives the room of each back when it was written. The
+/// Writes these parts, whose size fits in 64 bits, one after the other, and frees each when it was written. The
 /// error is the count of bytes that went out before a write failed, or took nothing.
 fn write_parts<K: Sink>(sink: &mut K, parts: Vec<Vec<u8>>) -> Result<(), u64>
     requires { length (in_a_row parts.items) < 2 ^ 64 }

@@ -1,4 +1,4 @@
--- Fields that stand in a line with OFS between them, and an assignment to one of them there.
+-- Fields that are in a line with OFS between them, and an assignment to one of them there.
 use Rattle.std.proofs.Common.{◌≡◌, ℕ, zero, suc, ◌+◌, ◌-◌, ◌<◌, ◌≤◌, min, arith, List, [], ◌∷◌, ◌++◌, length, set, replicate, map, drop, take, Some, None, Result, Ok, Err, length-drop, refl, sym, ap, subst, ◌∙◌, append_assoc, append-nil, length-append}
 use Rattle.std.proofs.lemmas.List.{drop_at, take_at, take_rest, set_at, set_split, drop-set-lt, map-set, take-append-drop}
 use Rattle.std.proofs.lemmas.List.Edits.{length-between}
@@ -61,7 +61,7 @@ pub on_ok_two : {T E : Type 0} (P Q R : Type 0) (r : Result T E) → (P → Q �
 on_ok_two P Q R (Ok x) f p q = f p q
 on_ok_two P Q R (Err e) f p q = tt
 
--- ---- whether fields stand so in a line
+-- ---- whether fields are laid out so in a line
 
 later : (i : ℕ) (ofs : List ℕ) → before_at (i + 1) ofs ≡ ofs
 later i ofs = let e : i + 1 ≡ suc i = omega arith in ap (λ k. before_at k ofs) e
@@ -219,7 +219,7 @@ moves_more number range end old new at is = record {
 
 -- ---- a value among others
 
--- what stands before a value, behind others
+-- what is before a value, after others
 abbrev upto : List ℕ → List ℕ → List Val → List ℕ
 upto before ofs [] = before
 upto before ofs (u ∷ us) = before ++ (text_of u ++ upto ofs ofs us)
@@ -261,7 +261,7 @@ split [] i h = absurd (omega arith)
 split (v ∷ vs) zero h = record { us = []; w = v; ws = vs; is = refl; at = refl }
 split (v ∷ vs) (suc i) h = let c = split vs i (omega arith) in record { us = v ∷ c.us; w = c.w; ws = c.ws; is = ap (λ xs. v ∷ xs) c.is; at = ap suc c.at }
 
--- where the range of a value stands among the others
+-- where the range of a value is among the others
 record Cut (ofs : List ℕ) (vs : List Val) (i : ℕ) (range : ℕ × ℕ) : Type 0 where
   parts : Split vs i
   start : range.0 ≡ length (upto [] ofs parts.us)
@@ -368,7 +368,7 @@ replaced ofs vs i v range old new at l r short = record { text = line; ranges = 
         ∙ sym (places_split 0 [] ofs us v ws)
         ∙ ap (places_from 0 [] ofs) (sym here)
 
--- a range stands within the line, and has a kind
+-- a range is within the line, and has a kind
 pub replaced_order : (ofs : List ℕ) (vs : List Val) (i : ℕ) (range : ℕ × ℕ) (old : Layout) → slice_get old.ranges.items i ≡ Some (range_of range) → IsLaidOut ofs vs old → range.0 ≤ range.1
 replaced_order ofs vs i range old at l = let c = cut ofs vs i range (ap (λ rs. slice_get rs i) (sym l.ranges) ∙ at) in omega (arith, c.start, c.end)
 
@@ -394,7 +394,7 @@ replaced_kind ofs vs i range old at l =
     length_map [] = refl
     length_map (u ∷ us) = ap suc (length_map us)
 
--- ---- a field behind the last one assigned
+-- ---- a field after the last one assigned
 
 abbrev next_before : List ℕ → List ℕ → List Val → List ℕ
 next_before before ofs [] = before

@@ -1,4 +1,4 @@
--- Fields that are laid out behind each other.
+-- Fields that are laid out after each other.
 use Rattle.std.proofs.Common.{◌≡◌, ℕ, zero, suc, ◌+◌, ◌-◌, ◌≤◌, arith, List, [], ◌∷◌, ◌++◌, length, map, drop, take, Some, refl, sym, ap, ◌∙◌, append_assoc, append-nil, length-append}
 use Rattle.std.proofs.Math.Seq.{take-append_seam}
 use Rattle.std.proofs.lemmas.List.{drop_at}
@@ -10,7 +10,7 @@ use Rattle.pawk_record.specs.declared.layout.Layout.{Layout}
 use Rattle.pawk_record.specs.Lines.{Adds, IsLaidOut, IsLaidOutTo, before_at, kind_of, places_from, value_of, values}
 use Rattle.pawk_record.specs.Records.{joined, joined_from}
 
--- the range of a value's text behind so many bytes
+-- the range of a value's text after n bytes
 abbrev range_behind : ℕ → List ℕ → Val → Range ℕ
 range_behind at before v = record { start = at + length before; end = at + length before + length (text_of v) }
 

@@ -6,15 +6,15 @@ use Rattle.pawk_scalar.specs.Value.{Maybe}
 use Rattle.pawk_value.specs.Fault.{Fault}
 use Rattle.pawk_value.specs.Stop.{Stop}
 use Rattle.pawk_value.specs.Stop.TheVariants as stops
-use Rattle.pawk_machine.specs.declared.node.Node.{Node}
+use Rattle.pawk_ere_automaton.specs.declared.node.Node.{Node}
 use Rattle.pawk_fields.specs.FieldSeparator.{range_of, ranges_by, ranges_from}
 use Rattle.pawk_fields.specs.declared.separator.FieldSeparator.{FieldSeparator}
 use Rattle.pawk_fields.specs.declared.separator.FieldSeparator.TheVariants.{Blanks, Byte, ByteOrNewline}
-use Rattle.pawk_split.specs.FieldsOf.{AddsFields, IfFault, IsFaultOf}
-use Rattle.pawk_search.specs.FieldList.{fields_between, fields_of}
-use Rattle.pawk_search.specs.ReadEre.{read_ere}
-use Rattle.pawk_search.proofs.ReadLemmas.{read_law_lem}
-use Rattle.pawk_search.proofs.FieldLemmas.{fields_law_lem}
+use Rattle.pawk_fields.specs.FieldsOf.{AddsFields, IfFault, IsFaultOf}
+use Rattle.pawk_fields.specs.FieldList.{fields_between, fields_of}
+use Rattle.pawk_fields.specs.ReadEre.{read_ere}
+use Rattle.pawk_fields.proofs.ReadLemmas.{read_law_lem}
+use Rattle.pawk_fields.proofs.FieldLemmas.{fields_law_lem}
 use Rattle.pawk_record.specs.declared.splitter.By.{By}
 use Rattle.pawk_record.specs.declared.splitter.By.TheVariants.{Plain, Expression, Bad}
 use Rattle.pawk_record.specs.declared.splitter.Splitter.{Splitter}

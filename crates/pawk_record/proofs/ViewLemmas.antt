@@ -9,7 +9,7 @@ use Rattle.pawk_scalar.specs.Value.{Val}
 use Rattle.pawk_value.specs.Fault.{Fault}
 use Rattle.pawk_value.specs.Fault.TheVariants.{Field, Length}
 use Rattle.pawk_fields.specs.FieldSeparator.{range_of}
-use Rattle.pawk_search.specs.FieldList.{fields_of}
+use Rattle.pawk_fields.specs.FieldList.{fields_of}
 use Rattle.pawk_record.specs.declared.layout.Kind.{Kind}
 use Rattle.pawk_record.specs.declared.layout.Layout.{Layout}
 use Rattle.pawk_record.specs.declared.record.Record.TheInside.{Inside}

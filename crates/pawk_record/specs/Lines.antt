@@ -1,4 +1,4 @@
--- Where the fields stand in a line, and what they are.
+-- Where the fields are in a line, and what they are.
 use Rattle.std.specs.Prelude.{◌≡◌, ℕ, zero, suc, ◌+◌, ◌-◌, ◌^◌, ◌≤◌, ◌++◌, min, Bool, if◌then◌else◌, Option, None, Some, List, [], ◌∷◌, length, slice_range, slice_set, take, drop, map}
 use Rattle.std.specs.declared.ops.Range.{Range}
 use Rattle.pawk_scalar.specs.Conversion.{text_of}
@@ -33,13 +33,13 @@ value_by (Some k) bytes = value_of k bytes
 abbrev pub bytes_in : List ℕ → Range ℕ → List ℕ
 bytes_in text r = slice_range text r.start r.end
 
--- the values that stand in ranges of a line; without a kind it is a candidate
+-- the values that are in ranges of a line; without a kind it is a candidate
 unfoldable pub values : List ℕ → List (Range ℕ) → List Kind → List Val
 values text [] ks = []
 values text (r ∷ rs) [] = Maybe (bytes_in text r) ∷ values text rs []
 values text (r ∷ rs) (k ∷ ks) = value_of k (bytes_in text r) ∷ values text rs ks
 
--- where the texts of values stand that are joined from a place on
+-- where the texts of values lie that are joined from a place on
 abbrev pub places_from : ℕ → List ℕ → List ℕ → List Val → List (Range ℕ)
 places_from at before ofs [] = []
 places_from at before ofs (v ∷ vs) =
@@ -51,19 +51,19 @@ abbrev pub before_at : ℕ → List ℕ → List ℕ
 before_at zero ofs = []
 before_at (suc n) ofs = ofs
 
--- a value was added behind a text
+-- a value was added after a text
 pub record Adds (before : List ℕ) (v : Val) (old new : Layout) : Type 0 where
   pub text : new.text.items ≡ old.text.items ++ (before ++ text_of v)
   pub range : new.ranges.items ≡ old.ranges.items ++ record { start = length old.text.items + length before; end = length old.text.items + length before + length (text_of v) } ∷ []
   pub kind : new.kinds.items ≡ old.kinds.items ++ kind_of v ∷ []
 
--- the line is the values' texts with OFS between them, and they stand so in it
+-- the line is the values' texts with OFS between them, and they lie so in it
 pub record IsLaidOut (ofs : List ℕ) (vs : List Val) (layout : Layout) : Type 0 where
   pub text : layout.text.items ≡ joined ofs vs
   pub ranges : layout.ranges.items ≡ places_from 0 [] ofs vs
   pub kinds : layout.kinds.items ≡ map kind_of vs
 
--- the same where so many of the values stand there
+-- the same where the first n of the values are there
 pub record IsLaidOutTo (ofs : List ℕ) (vs : List Val) (i : ℕ) (layout : Layout) : Type 0 where
   pub text : layout.text.items ++ joined_from (before_at i ofs) ofs (drop i vs) ≡ joined ofs vs
   pub ranges : layout.ranges.items ++ places_from (length layout.text.items) (before_at i ofs) ofs (drop i vs) ≡ places_from 0 [] ofs vs
@@ -77,7 +77,7 @@ values_of layout = values layout.text.items layout.ranges.items layout.kinds.ite
 pub record IsJoined (layout : Layout) : Type 0 where
   pub laid : IsLaidOut layout.ofs.items (values_of layout) layout
 
--- a field stands right behind some bytes at a place
+-- a field is right after some bytes at a place
 pub record IsBehind (text : List ℕ) (place : ℕ) (before : List ℕ) (r : Range ℕ) : Type 0 where
   pub start : r.start ≡ place + length before
   pub order : r.start ≤ r.end
@@ -106,7 +106,7 @@ moved_place from to place = min (place - from + to) (2 ^ 64 - 1)
 abbrev pub moved : ℕ → ℕ → Range ℕ → Range ℕ
 moved from to r = record { start = moved_place from to r.start; end = moved_place from to r.end }
 
--- a field has another end, and those behind it, which are joined, moved by as much
+-- a field has another end, and those after it, which are joined, moved by as much
 pub record MovesEnd (number : ℕ) (range : ℕ × ℕ) (end : ℕ) (old new : List (Range ℕ)) : Type 0 where
   pub moves : (ofs : List ℕ) (vs : List Val) → drop (number + 1) old ≡ places_from range.1 ofs ofs vs → end + length (joined_from ofs ofs vs) ≤ 2 ^ 64 - 1
       → new ≡ take number old ++ (record { start = range.0; end = end } ∷ places_from end ofs ofs vs)

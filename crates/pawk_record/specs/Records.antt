@@ -7,7 +7,7 @@ use Rattle.pawk_scalar.specs.Value.{Val, Uninit, Maybe}
 use Rattle.pawk_value.specs.Fault.{Fault}
 use Rattle.pawk_value.specs.Fault.TheVariants.{Field, Length}
 use Rattle.pawk_fields.specs.Splits.{bytes_of}
-use Rattle.pawk_search.specs.FieldList.{fields_of}
+use Rattle.pawk_fields.specs.FieldList.{fields_of}
 use Rattle.pawk_record.specs.Limits.{greatest_field}
 
 -- the text of `$0`, and the values of `$1`, `$2` and so on, as many as NF
@@ -26,7 +26,7 @@ field_at r (suc n) = value_or_uninit (slice_get r.fields n)
 
 -- ---- reading a record
 
--- what stands in a range of the record, which came from outside
+-- what is in a range of the record, which came from outside
 abbrev pub candidate : List ℕ → ℕ × ℕ → Val
 candidate text f = Maybe (bytes_of text f)
 
@@ -57,7 +57,7 @@ joined_from before ofs (v ∷ vs) = before ++ (text_of v ++ joined_from ofs ofs 
 unfoldable pub joined : List ℕ → List Val → List ℕ
 joined ofs vs = joined_from [] ofs vs
 
--- so many fields at least
+-- at least n fields
 abbrev pub padded : List Val → ℕ → List Val
 padded vs n = vs ++ replicate (n - length vs) Uninit
 

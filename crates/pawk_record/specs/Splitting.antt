@@ -2,11 +2,11 @@
 use Rattle.std.specs.Prelude.{◌≡◌, ℕ, Bool, List, [], ◌∷◌, Option, Some, None, Result, Ok, Err}
 use Rattle.pawk_value.specs.Fault.{Fault}
 use Rattle.pawk_value.specs.Fault.TheVariants.{Fs, Ere}
-use Rattle.pawk_pattern.specs.Tokens.{SpellsNone}
+use Rattle.pawk_ere_syntax.specs.Tokens.{SpellsNone}
 use Rattle.pawk_ere.specs.Kept.{IsOfText}
 use Rattle.pawk_fields.specs.FieldSeparator.{ranges_from}
-use Rattle.pawk_split.specs.FieldsOf.{separator_of}
-use Rattle.pawk_search.specs.FieldList.{fields_of}
+use Rattle.pawk_fields.specs.FieldsOf.{separator_of}
+use Rattle.pawk_fields.specs.FieldList.{fields_of}
 use Rattle.pawk_record.specs.declared.splitter.By.{By}
 use Rattle.pawk_record.specs.declared.splitter.By.TheVariants.{Plain, Expression, Bad}
 use Rattle.pawk_record.specs.declared.splitter.Splitter.{Splitter}

@@ -1,4 +1,4 @@
-//! A line, and where its fields stand in it.
+//! A line, and where its fields are in it.
 
 ghost use Rattle.std.specs.Prelude.{◌≡◌, ◌+◌, ◌<◌, ◌≤◌, ◌++◌, true, false, [], None, Some, length, max, replicate, slice_get, slice_range, IfErr, IfOk, MatchOption, OnErr, OnOk};
 ghost use Rattle.pawk_fields.specs.FieldSeparator.{range_of};
@@ -6,7 +6,7 @@ ghost use Rattle.pawk_scalar.specs.Conversion.{text_of};
 ghost use Rattle.pawk_scalar.specs.Limits.{length_limit};
 ghost use Rattle.pawk_scalar.specs.Value.{lent_value};
 ghost use Rattle.pawk_scalar.specs.declared.faults.Fault.TheVariants.{Length};
-ghost use Rattle.pawk_split.specs.FieldsOf.{IfFault};
+ghost use Rattle.pawk_fields.specs.FieldsOf.{IfFault};
 ghost use Rattle.pawk_record.specs.Lines.{Adds, IsJoined, IsLaidOut, Replaces, before_at, exchanged, kind_of, line_of, value_by, values, values_of};
 ghost use Rattle.pawk_record.specs.Records.{joined, value_or_uninit, with_value};
 
@@ -16,7 +16,7 @@ use pawk_value::{Fault, LENGTH_LIMIT, Stop, ValueRef, text_in};
 use std::alloc::{AllocError, Global};
 use std::ops::Range;
 
-/// What a field is. The bytes of a text stand in the line, and so does the decimal text of a number.
+/// What a field is. The bytes of a text are in the line, and so is the decimal text of a number.
 #[derive(Clone, Copy)]
 pub(crate) enum Kind {
     /// Never assigned.
@@ -75,7 +75,7 @@ fn value_by(kind: Option<Kind>, bytes: &[u8]) -> ValueRef<'_>
     }
 }
 
-/// A line that is lent, with its fields: where each one stands, as a range in bytes counted from 0, and what it is. A
+/// A line that is lent, with its fields: where each one is, as a range in bytes counted from 0, and what it is. A
 /// field without a kind is a text that came from outside.
 #[derive(Clone, Copy)]
 pub(crate) struct FieldsRef<'a> {
@@ -102,14 +102,18 @@ impl<'a> FieldsRef<'a> {
 
 /// An assignment of a value to the field at `n`, counted from 1.
 #[derive(Clone, Copy)]
-pub(crate) struct Assignment<'a> {
+pub(crate) struct FieldAssignment<'a> {
     pub(crate) n: usize,
     pub(crate) value: ValueRef<'a>,
 }
 
 /// The value of the field with that number, counted from 0, after an assignment.
 #[inline]
-fn value_after<'a>(fields: FieldsRef<'a>, change: Assignment<'a>, number: usize) -> ValueRef<'a>
+fn value_after<'a>(
+    fields: FieldsRef<'a>,
+    change: FieldAssignment<'a>,
+    number: usize,
+) -> ValueRef<'a>
     requires first { 1 ≤ change.n }
     requires within { number < max change.n (length fields.ranges.now) }
     ensures { slice_get (with_value change.entry.n (lent_value change.entry.value)
@@ -152,7 +156,7 @@ impl Layout {
         }
     }
 
-    /// Empties the line, and keeps its room.
+    /// Empties the line, and keeps its capacity.
     pub(crate) fn clear(&mut self)
         ensures text { self.new.text.items ≡ [] }
         ensures ranges { self.new.ranges.items ≡ [] }
@@ -211,8 +215,8 @@ impl Layout {
         Ok(())
     }
 
-    /// Makes a copy of a lent line its own where the fields stand in it with `ofs` between them and all came from outside.
-    /// Whether the line is its own afterwards.
+    /// Makes a copy of a lent line its own where the fields lie in it with `ofs` between them and all came
+    /// from outside. Whether the line is its own afterwards.
     pub(crate) fn own(&mut self, is_own: bool, lent: &[u8], ofs: &[u8]) -> Result<bool, AllocError>
         requires own { self.old.is_joined ≡ true → is_own ≡ true }
         requires joined { self.old.is_joined ≡ true → IsJoined self.old }
@@ -237,7 +241,7 @@ impl Layout {
         Ok(true)
     }
 
-    /// Adds a field behind the line: some bytes, and then the text of its value. Fault `length` where the line would be
+    /// Adds a field at the end: some bytes, and then the text of its value. Fault `length` where the line would be
     /// longer than a text may be.
     fn push(&mut self, before: &[u8], value: ValueRef<'_>) -> Result<(), Stop>
         ensures added { OnOk result (Adds before.now (lent_value value.entry) self.old self.new) }
@@ -263,8 +267,8 @@ impl Layout {
         Ok(())
     }
 
-    /// Puts a value in the place of the field with that number, counted from 0, which stands in that range. What stands
-    /// behind it moves. Fault `length` where the line would be longer than a text may be.
+    /// Puts a value in the place of the field with that number, counted from 0, which is in that range. What is
+    /// after it moves. Fault `length` where the line would be longer than a text may be.
     fn replace(
         &mut self,
         number: usize,
@@ -305,11 +309,11 @@ impl Layout {
         Ok(())
     }
 
-    /// Assigns to a field, or behind the last one, in a line that is the texts of the fields with `ofs` between them, and
-    /// stays so. Fault `length` where the line would be longer than a text may be; then it stays.
+    /// Assigns to a field, or to one after the last, in a line that is the texts of the fields with `ofs`
+    /// between them, and stays so. Fault `length` where the line would be longer than a text may be; then it stays.
     pub(crate) fn assign(
         &mut self,
-        change: Assignment<'_>,
+        change: FieldAssignment<'_>,
         ofs: &[u8],
         room: &mut Vec<u8>,
     ) -> Result<(), Stop>
@@ -338,7 +342,7 @@ impl Layout {
     pub(crate) fn lay_out(
         &mut self,
         fields: FieldsRef<'_>,
-        change: Assignment<'_>,
+        change: FieldAssignment<'_>,
         ofs: &[u8],
     ) -> Result<(), Stop>
         requires first { 1 ≤ change.n }

@@ -1,4 +1,4 @@
-//! Where the fields of a line stand that is their texts with OFS between them.
+//! Where the fields lie in a line that is their texts with OFS between them.
 
 ghost use Rattle.std.specs.Prelude.{◌≡◌, ◌<◌, ◌≤◌, true, length, map, slice_get, slice_range, Some, OnErr, OnOk};
 ghost use Rattle.pawk_fields.specs.FieldSeparator.{range_of};
@@ -18,7 +18,7 @@ pub(crate) fn bytes_in(text: &[u8], start: usize, end: usize) -> &[u8]
     &text[first..past]
 }
 
-/// What stands before a value, by the number of values before it.
+/// What is before a value, by the number of values before it.
 #[inline]
 pub(crate) fn before_at(ofs: &[u8], number: usize) -> &[u8]
     ensures { result.now ≡ before_at number ofs.now }
@@ -26,7 +26,7 @@ pub(crate) fn before_at(ofs: &[u8], number: usize) -> &[u8]
     if number == 0 { b"" } else { ofs }
 }
 
-/// Whether a field stands in a line right behind some bytes at a place.
+/// Whether a field is in a line right after some bytes at a place.
 #[inline]
 fn stands(text: &[u8], place: usize, before: &[u8], range: &Range<usize>) -> bool
     ensures { result ≡ true → IsBehind text.now place before.now range.now }
@@ -54,7 +54,8 @@ pub(crate) fn are_joined(text: &[u8], ranges: &[Range<usize>], ofs: &[u8]) -> bo
     true
 }
 
-/// Puts other bytes in the place of a part of a text. The room serves where their lengths differ.
+/// Puts other bytes in the place of a part of a text. Where their lengths differ, the new text is put together in
+/// `room`, which holds the old one afterwards.
 pub(crate) fn exchange(
     text: &mut Vec<u8>,
     range: (usize, usize),
@@ -80,7 +81,7 @@ pub(crate) fn exchange(
     Ok(())
 }
 
-/// Where a range stands after a place before it moved.
+/// Where a range lies after a place before it moved.
 #[inline]
 fn move_one(range: &Range<usize>, from: usize, to: usize) -> Range<usize>
     ensures { result ≡ moved from to range.now }
@@ -98,7 +99,7 @@ fn move_all(ranges: &mut [Range<usize>], from: usize, to: usize)
     }
 }
 
-/// Moves the end of the range with that number to a place, and those behind it by as much.
+/// Moves the end of the range with that number to a place, and those after it by as much.
 pub(crate) fn move_end(
     ranges: &mut [Range<usize>],
     number: usize,

@@ -2,11 +2,11 @@
 
 ghost use Rattle.std.specs.Prelude.{◌≡◌, ◌≤◌, length, Some, None, Ok, Err, [], IfErr, IfOk, IfSome, OnOk};
 ghost use Rattle.pawk_scalar.specs.Value.{lent_value};
-ghost use Rattle.pawk_split.specs.FieldsOf.{IfFault};
+ghost use Rattle.pawk_fields.specs.FieldsOf.{IfFault};
 ghost use Rattle.pawk_record.specs.Lines.{line_of};
 ghost use Rattle.pawk_record.specs.Records.{IsPrepared, field_at, read, with_field, with_text};
 
-use crate::layout::{Assignment, FieldsRef, Layout};
+use crate::layout::{FieldAssignment, FieldsRef, Layout};
 use crate::limits::GREATEST_FIELD;
 use crate::splitter::Splitter;
 use pawk_value::{Fault, Stop, ValueRef};
@@ -14,7 +14,8 @@ use std::alloc::{AllocError, Global};
 use std::marker::Model;
 use std::mem;
 
-/// Where the fields were counted, a loop up to `NF` may ask for each: then so many times as many are looked for at once.
+/// Where the fields were counted, a loop up to `NF` may ask for each: then `AHEAD` times as many are looked for at
+/// once.
 const AHEAD: usize = 4;
 
 /// The line: a text that is lent, or the record's own.
@@ -37,7 +38,7 @@ pub struct Record<'a> {
     is_own: bool,
     /// The line, where it is its own, and what was found of the fields.
     here: Layout,
-    /// Room for the line after an assignment.
+    /// Space for the line after an assignment.
     spare: Layout,
     /// Where the next field is looked for, if one may be left.
     next: Option<usize>,
@@ -129,7 +130,7 @@ impl<'a> Record<'a> {
         self.find(n)
     }
 
-    /// Looks for fields until there are so many, or none is left. The record stays.
+    /// Looks for fields until there are `count`, or none is left. The record stays.
     #[inline(always)]
     fn find(&mut self, count: usize) -> Result<(), AllocError>
         ensures same { self.new.record_now ≡ self.old.record_now }
@@ -211,8 +212,8 @@ impl<'a> Record<'a> {
         self.count_anew()
     }
 
-    /// The same, where they were neither counted nor all looked for: counts them by an FS of one byte where none was looked
-    /// for yet, and else looks for all.
+    /// How many fields there are, where they were neither counted nor all looked for: counts them by an FS of one byte
+    /// where none was looked for yet, and else looks for all.
     fn count_anew(&mut self) -> Result<usize, AllocError>
         ensures count { IfOk result (λ count. count ≡ length self.new.record_now.fields) }
         ensures same { self.new.record_now ≡ self.old.record_now }
@@ -275,7 +276,7 @@ impl<'a> Record<'a> {
         if self.here.is_joined_by(ofs) && n - 1 <= self.here.ranges.len() {
             self.here.is_joined = false;
             self.here
-                .assign(Assignment { n, value }, ofs, &mut self.spare.text)?;
+                .assign(FieldAssignment { n, value }, ofs, &mut self.spare.text)?;
             self.here.is_joined = true;
             return Ok(());
         }
@@ -284,7 +285,8 @@ impl<'a> Record<'a> {
             ranges: self.here.ranges.as_slice(),
             kinds: self.here.kinds.as_slice(),
         };
-        self.spare.lay_out(fields, Assignment { n, value }, ofs)?;
+        self.spare
+            .lay_out(fields, FieldAssignment { n, value }, ofs)?;
         mem::swap(&mut self.here, &mut self.spare);
         self.is_own = true;
         Ok(())

@@ -3,14 +3,15 @@
 ghost use Rattle.std.specs.Prelude.{◌≡◌, ◌≤◌, ◌<◌, ◌⊎◌, ◌++◌, true, length, map, Some, None, Ok, Err, IfErr, IfOk, IfSome, MatchOption, OnErr, OnOk};
 ghost use Rattle.std.specs.Option.{ForSome};
 ghost use Rattle.pawk_fields.specs.FieldSeparator.{range_of, ranges_from};
-ghost use Rattle.pawk_search.specs.FieldList.{fields_of};
-ghost use Rattle.pawk_split.specs.FieldsOf.{IfFault};
-ghost use Rattle.pawk_split.specs.FieldWalks.{most_left};
+ghost use Rattle.pawk_fields.specs.FieldList.{fields_of};
+ghost use Rattle.pawk_fields.specs.FieldsOf.{IfFault};
+ghost use Rattle.pawk_fields.specs.FieldWalks.{most_left};
 ghost use Rattle.pawk_record.specs.Splitting.{IsBy, IsSplitter, first_place, left, ranges_or_none};
 
 use pawk_ere::Matcher;
-use pawk_fields::{FieldSeparator, count_split, find_words};
-use pawk_split::{append_fields, byte_separator, expression_matcher};
+use pawk_fields::{
+    FieldSeparator, append_fields, byte_separator, count_split, expression_matcher, find_words,
+};
 use pawk_value::{Fault, Stop};
 use std::alloc::{AllocError, Global};
 use std::ops::Range;
@@ -73,7 +74,7 @@ fn find_field(
     Ok(step.next)
 }
 
-/// Looks for fields until there are so many, or none is left.
+/// Looks for fields until there are `count`, or none is left.
 #[inline(always)]
 fn find_until(
     separator: FieldSeparator,
@@ -98,7 +99,7 @@ fn find_until(
     Ok(())
 }
 
-/// Looks for fields until there are so many, or none is left. The place stands in a register meanwhile.
+/// Looks for fields until there are `count`, or none is left. The place is kept in a register meanwhile.
 #[inline(never)]
 fn find_each(
     separator: FieldSeparator,
@@ -120,7 +121,7 @@ fn find_each(
     answer
 }
 
-/// Looks for fields until there are so many, or none is left; between blanks for many at once.
+/// Looks for fields until there are `count`, or none is left; between blanks for many at once.
 #[inline(always)]
 fn find_fields(
     separator: FieldSeparator,
@@ -335,8 +336,8 @@ impl Splitter {
         }
     }
 
-    /// Looks for fields of a record from the next one on, until there are so many or none is left; by an expression for all.
-    /// What was found and what is left are together what they were, also where memory was refused.
+    /// Looks for fields of a record from the next one on, until there are `count` or none is left; by an expression for
+    /// all. What was found and what is left are together what they were, also where memory was refused.
     #[inline]
     pub(crate) fn find(
         &mut self,

@@ -68,7 +68,7 @@ rest_is s at b t left = sym (drop-drop 1 at s) ∙ ap (drop 1) left
 
 -- ---- as many as records
 
--- the places in bytes that stand from place `at` on; `fresh` tells whether one begins at the first
+-- the places in bytes that begin at place `at`; `fresh` says whether one begins at the first
 abbrev lines_along : ℕ → ℕ → Bool → List ℕ → List ℕ
 lines_along e at fresh [] = []
 lines_along e at fresh (b ∷ s) =

@@ -15,7 +15,7 @@ mask_l-drop (b ∷ ms) (suc k) =
     let one : 1 + k ≡ suc k = omega arith in
     mask_l-drop ms k ∙ ap (λ n. n / 2 ^ k) (sym (halved b (mask_l ms))) ∙ shr-shr (mask_l (b ∷ ms)) 1 k ∙ ap (λ j. mask_l (b ∷ ms) / 2 ^ j) one
 
--- tests behind others have the higher bits
+-- tests after others have the higher bits
 pub mask_l-append : (ms ns : List Bool) → mask_l (ms ++ ns) ≡ mask_l ms + mask_l ns * 2 ^ length ms
 mask_l-append [] ns = omega arith
 mask_l-append (b ∷ ms) ns =

@@ -64,7 +64,7 @@ module _ (size : ℕ) where
     rw (drop-append-le size l m h.0) (segments_before counts (drop size l) m h.2),
   )
 
-  -- segments behind others
+  -- segments after others
   pub segments_behind : (k : ℕ) (counts l : List ℕ) → CountsSegments size counts l → CountsSegments size (drop k counts) (drop (k * size) l)
   segments_behind zero counts l h = rw (ap (λ n. drop n l) nothing) h
   segments_behind (suc k) [] l h = tt

@@ -14,7 +14,7 @@ length_cond true x l = omega arith
 length_cond false x l = omega arith
 
 module _ (e : ℕ) (s : List ℕ) where
-  -- behind each separator a line begins
+  -- after each separator a line begins
   pub count_behind_bytes : (n i : ℕ) → i + n ≤ length s → length (places_where (is_after e s) (i + 1) n) ≡ count_by (is_byte e) (take n (drop i s))
   count_behind_bytes zero i le = refl
   count_behind_bytes (suc n) i le =
@@ -30,7 +30,7 @@ module _ (e : ℕ) (s : List ℕ) where
       ∙ ap (λ m. cond (eqb (get_or s i 0) e) 1 0 + m) later
       ∙ sym (ap (λ l. count_by (is_byte e) (take (suc n) l)) here ∙ counts)
 
--- the places from one on: it, and those behind it
+-- the places from one on: it, and those after it
 pub count_place : (test : ℕ → Bool) (end from : ℕ) → from < end → length (places_where test from (end - from)) ≡ cond (test from) 1 0 + length (places_where test (from + 1) (end - (from + 1)))
 count_place test end from lt =
     let n : end - from ≡ suc (end - (from + 1)) = omega arith in

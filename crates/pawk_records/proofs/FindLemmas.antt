@@ -13,7 +13,7 @@ passes_in_rest : (b : ℕ) (s : List ℕ) (p k : ℕ) → p ≤ k → get_or s k
 passes_in_rest b s p k le is = eq-eqb _ b (get_or-drop p s (k - p) 0 ∙ ap (λ i. get_or s i 0) (let e : p + (k - p) ≡ k = omega arith in e) ∙ is)
 
 module _ (e : ℕ) (rs s : List ℕ) (from : ℕ) (some : 0 < from) where
-  -- no line begins where no separator stands before one
+  -- no line begins where no separator is before one
   pub no_line : (n : ℕ) → n ≤ length s → Nowhere (Passes (is_byte e) (drop (from - 1) s)) 0 (n - (from - 1) - 1) → Nowhere (BeginsAt (e ∷ rs) s) from n
   no_line n le none k low high at =
       none (k - 1 - (from - 1)) (omega arith) (omega arith)
@@ -23,7 +23,7 @@ module _ (e : ℕ) (rs s : List ℕ) (from : ℕ) (some : 0 < from) where
   line_at i is =
       is_after-is e s (from + i) (λ later. ap (λ k. get_or s k 0) (let n : from + i - 1 ≡ from - 1 + i = omega arith in n) ∙ sym (get_or-drop (from - 1) s i 0) ∙ eqb-true _ e is)
 
--- a paragraph begins only behind a newline
+-- a paragraph begins only after a newline
 pub no_paragraph : (s : List ℕ) (place n : ℕ) → n ≤ length s → begins_at [] s place ≡ false → Nowhere (Passes (is_byte newline) (drop place s)) 0 (n - place - 1) → Nowhere (BeginsAt [] s) place n
 no_paragraph s place n le fails none k low high at = elim (leb_tells (place + 1) k) [
   | inl later ↦ none (k - 1 - place) (omega (arith, later.1)) (omega (arith, later.1))

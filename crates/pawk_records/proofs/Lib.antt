@@ -11,3 +11,5 @@ pub mod CensusLemmas
 pub mod BitLemmas
 pub mod LineEndsLemmas
 pub mod PairLemmas
+pub mod BlocksLemmas
+pub mod MendingLemmas

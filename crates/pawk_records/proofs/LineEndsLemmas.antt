@@ -20,7 +20,7 @@ use Rattle.pawk_records.proofs.RecordsLemmas.{is_other, records_of_some}
 abbrev pub lowest : ℕ → ℕ
 lowest n = count_trailing_zeros 64 n
 
--- bytes, and those behind them
+-- bytes, and those after them
 take_on : (m n : ℕ) (s : List ℕ) → take (m + n) s ≡ take m s ++ take n (drop m s)
 take_on m n s =
     sym (take-append-drop m (take (m + n) s)) ∙ ap₂ (λ a b. a ++ b) (take-take m (m + n) s (omega arith)) (drop-take m n s)
@@ -51,7 +51,7 @@ module _ (e : ℕ) where
       ∙ ap₂ (λ a b. a + b * 2 ^ length (map (is_byte e) s)) (sym (bits_mask s)) (sym (bits_mask t))
       ∙ ap (λ n. end_bits e s + end_bits e t * 2 ^ n) (length-map s (is_byte e))
 
-  -- the bits of bytes and of those behind them
+  -- the bits of bytes and of those after them
   pub bits_on : (m n p : ℕ) (s : List ℕ) → p + m ≤ length s → end_bits e (chunk p m s) + end_bits e (chunk (p + m) n s) * 2 ^ m ≡ end_bits e (chunk p (m + n) s)
   bits_on m n p s room =
       let here = chunk p m s in
@@ -122,7 +122,7 @@ module _ (e : ℕ) where
     pub line_cut : records e s ≡ take (from + lowest ends.bits) s ∷ records e (drop (from + lowest ends.bits + 1) s)
     line_cut = rw end_is at (records_of_some e s (omega (arith, end_within)))
 
-    -- and the other ends that were seen are those of the text behind it
+    -- and the other ends that were seen are those of the text after it
     pub ends_left : AreLineEnds e (record { bits = ends.bits / 2 ^ lowest ends.bits / 2; seen = ends.seen - (lowest ends.bits + 1) }) (drop (from + lowest ends.bits + 1) s)
     ends_left =
         let first = lowest ends.bits in

@@ -79,7 +79,7 @@ module _ (e : ℕ) where
 
   -- ---- bytes in which no line ends
 
-  -- the first line goes on behind them
+  -- the first line goes on after them
   pub past_none : (n : ℕ) (s : List ℕ) → n ≤ length s → NoSeparator e (take n s) → prefix_len (is_other e) s ≡ n + prefix_len (is_other e) (drop n s)
   past_none zero s le none = sym (zero-add _)
   past_none (suc n) [] le none = absurd (omega arith)

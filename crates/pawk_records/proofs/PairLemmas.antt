@@ -15,7 +15,7 @@ abbrev begins : List ℕ → Bool
 begins [] = false
 begins (b ∷ s) = eqb b newline
 
--- a bit for each byte; it is set where the byte and the one behind it are newlines
+-- a bit for each byte; it is set where the byte and the one after it are newlines
 abbrev pair_bits : List ℕ → ℕ
 pair_bits [] = 0
 pair_bits (b ∷ s) = cond (eqb b newline && begins s) 1 0 + 2 * pair_bits s

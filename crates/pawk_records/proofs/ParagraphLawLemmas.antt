@@ -18,7 +18,7 @@ of_newlines : (s : List ℕ) → AllNewlines s → paragraphs s ≡ []
 of_newlines [] h = refl
 of_newlines (b ∷ s) h = rw (eq-eqb b newline h.0) (of_newlines s h.1)
 
--- after a paragraph stands nothing, or a newline at the end or before another
+-- after a paragraph comes nothing, or a newline at the end or before another
 abbrev Follows : List ℕ → Type 0
 Follows [] = Unit {0}
 Follows (b ∷ s) = (b ≡ newline) × (ends_line s ≡ true)

@@ -18,7 +18,7 @@ paragraphs_past_newlines (b ∷ s) = elim (eqb_tells b newline) [
   | inr n ↦ rw n.0 (rw n.0 refl)
 ]
 
--- once they are passed, no newline stands in front
+-- once they are passed, no newline is at the front
 pub no_newlines_left : (s : List ℕ) → prefix_len (is_byte newline) (drop (prefix_len (is_byte newline) s) s) ≡ 0
 no_newlines_left [] = refl
 no_newlines_left (b ∷ s) = elim (eqb_tells b newline) [
@@ -61,7 +61,7 @@ length_to_newline (b ∷ s) (suc i) le none = elim (eqb_tells b newline) [
   | inr n ↦ (let later = length_to_newline s i (omega arith) (λ k lt. none (suc k) (omega arith)) in rw n.0 (omega arith))
 ]
 
--- at a newline all ends, or it goes on behind it
+-- at a newline all ends, or it goes on after it
 pub length_at_newline : (s : List ℕ) (i : ℕ) → i < length s → get_or s i 0 ≡ newline → paragraph_length (drop i s) ≡ cond (ends_line (drop (i + 1) s)) 0 (1 + paragraph_length (drop (i + 1) s))
 length_at_newline [] i lt is = absurd (omega arith)
 length_at_newline (b ∷ s) zero lt is = rw (eq-eqb b newline is) refl
@@ -84,7 +84,7 @@ length_without t none =
     let rest : paragraph_length (drop (length t) t) ≡ 0 = ap paragraph_length (drop_all (length t) t (omega arith)) in
     omega arith
 
--- up to the first newline, and behind it
+-- up to the first newline, and after it
 pub length_with : (t : List ℕ) (i : ℕ) → NoneBefore (Passes (is_byte newline) t) 0 (length t) i → Passes (is_byte newline) t i
     → paragraph_length t ≡ i + cond (ends_line (drop (i + 1) t)) 0 (1 + paragraph_length (drop (i + 1) t))
 length_with t i first is =
@@ -143,8 +143,8 @@ length-paragraphs_from false (b ∷ s) =
       | false ↦ omega arith
     ]
 
--- The places at which paragraphs begin in bytes that stand from place `at` on; `one` tells whether a
--- newline or nothing stands before them, `two` whether two do, or none but newlines.
+-- The places at which paragraphs begin in bytes that begin at place `at`; `one` says whether a
+-- newline or nothing is before them, `two` whether two newlines are, or none but newlines.
 abbrev pub begins_along : ℕ → Bool → Bool → List ℕ → List ℕ
 begins_along at one two [] = []
 begins_along at one two (b ∷ s) =
@@ -180,7 +180,7 @@ mutual
 
 -- ---- parted at a place
 
--- two newlines stand before place p, or nothing but newlines
+-- two newlines are before place p, or nothing but newlines
 abbrev pub IsGap : List ℕ → ℕ → Type 0
 IsGap s p = (0 < p → get_or s (p - 1) 0 ≡ newline) × (1 < p → get_or s (p - 2) 0 ≡ newline)
 

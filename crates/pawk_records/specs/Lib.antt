@@ -4,3 +4,7 @@ pub mod Separator
 pub mod Paragraph
 pub mod Census
 pub mod LineEnds
+pub mod Blocks
+pub mod Law
+pub mod Lent
+pub mod Mending

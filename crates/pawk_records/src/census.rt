@@ -54,7 +54,7 @@ impl Census {
         Ok(())
     }
 
-    /// Its counts, one for each segment.
+    /// The counts of the census, one for each segment.
     pub(crate) fn counts(&self) -> &[usize]
         ensures { result.now ≡ self.now }
     {

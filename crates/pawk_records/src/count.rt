@@ -69,7 +69,7 @@ pub(crate) fn count_paragraphs(bytes: &[u8]) -> usize
     count
 }
 
-/// How many lines begin from place `start` up to place `end`: one at the first byte, and one behind
+/// How many lines begin from place `start` up to place `end`: one at the first byte, and one after
 /// each separator.
 pub(crate) fn count_line_begins(bytes: &[u8], start: usize, end: usize, separator: u8) -> usize
     requires rising { start ≤ end }

@@ -57,7 +57,7 @@ impl<'a> CountedBytes<'a> {
         }
     }
 
-    /// The bytes.
+    /// The bytes, without what is counted of them.
     pub fn bytes(&self) -> &'a [u8]
         ensures { result.now ≡ self.now }
     {
@@ -84,7 +84,7 @@ impl<'a> CountedBytes<'a> {
         count_byte(head, NEWLINE) + count_newlines(rest, &self.counts[first..last])
     }
 
-    /// How many lines begin from place `start` up to place `end`: one at the first byte, and one behind each newline.
+    /// How many lines begin from place `start` up to place `end`: one at the first byte, and one after each newline.
     fn count_lines_within(&self, start: usize, end: usize) -> usize
         requires rising { start ≤ end }
         requires within { end ≤ length self.now }

@@ -11,13 +11,13 @@ use std::simd::prelude::*;
 /// How many bytes are looked at side by side.
 const LANES: usize = 16;
 
-/// The bit behind those of the lanes.
+/// The bit after those of the lanes.
 const BEHIND_LANES: u64 = 65_536;
 
 /// How many bytes two such looks take in.
 const PAIR: usize = 32;
 
-/// The bit behind those of two looks.
+/// The bit after those of two looks.
 const BEHIND_PAIR: u64 = 4_294_967_296;
 
 /// How many bytes four looks take in: as many as there are bits.
@@ -56,7 +56,7 @@ pub(crate) fn block_ends(text: &[u8], place: usize, separator: u8) -> u64
 }
 
 /// The first line of a text and what follows it, if there is one. None ends within the first `from`
-/// bytes, and few are left behind them.
+/// bytes, and few are left after them.
 #[inline(never)]
 fn late_line(text: &[u8], from: usize, separator: u8) -> Option<(&[u8], &[u8])>
     requires within { from ≤ length text.now }
@@ -113,7 +113,7 @@ impl LineEnds {
     }
 
     /// The first line of a text and what follows it, if there is one. None ends within the bytes
-    /// that were seen, so those behind them are looked at.
+    /// that were seen, so those after them are looked at.
     fn find_line<'a>(&mut self, text: &'a [u8], separator: u8) -> Option<(&'a [u8], &'a [u8])>
         requires ends { AreLineEnds separator self.old text.now }
         requires none { self.old.bits ≡ 0 }

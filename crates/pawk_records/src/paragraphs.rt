@@ -27,7 +27,7 @@ fn newline_length(text: &[u8]) -> usize
 }
 
 /// How many bytes of a text are before the newline that ends it: one at its end, or before
-/// another. It is not among the first `start` bytes, and few are left behind them.
+/// another. It is not among the first `start` bytes, and few are left after them.
 #[inline(never)]
 fn late_length(text: &[u8], start: usize) -> usize
     requires within { start ≤ length text.now }
@@ -61,12 +61,12 @@ fn paragraph_length(text: &[u8]) -> usize
     let mut from = 0;
     while BLOCK <= text.len() - from {
         let ends = block_ends(text, from, NEWLINE);
-        // A newline with another directly behind it.
+        // A newline with another directly after it.
         let pairs = ends & (ends >> 1);
         if pairs != 0 {
             return from + pairs.trailing_zeros() as usize;
         }
-        // The last byte is looked at again, as the one behind it was not seen.
+        // The last byte is looked at again, as the one after it was not seen.
         from += BLOCK - 1;
     }
     late_length(text, from)

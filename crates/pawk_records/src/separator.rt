@@ -32,24 +32,8 @@ impl Separator {
         }
     }
 
-    /// The first record of a text and what follows it, if there is one.
-    #[inline]
-    pub fn split_record(self, text: &[u8]) -> Option<(&[u8], &[u8])>
-        ensures cut { MatchOption result (records_by (rs_of self) text.now ≡ [])
-            (λ parts. records_by (rs_of self) text.now
-            ≡ parts.0.now ∷ records_by (rs_of self) parts.1.now) }
-        ensures short { IfSome result
-            (λ parts. length parts.0.now + length parts.1.now ≤ length text.now) }
-        ensures less { IfSome result (λ parts. length parts.1.now < length text.now) }
-    {
-        match self {
-            Separator::Byte(byte) => lines::split_line(text, 0, byte),
-            Separator::Paragraph => paragraphs::split_paragraph(text),
-        }
-    }
-
-    /// The same, with the ends of lines that were seen in the text; afterwards they are those of
-    /// what follows the record.
+    /// The first record of a text and what follows it, if there is one, by the ends of lines that were seen in the
+    /// text; afterwards they are those of what follows the record.
     #[inline(always)]
     pub fn split_record_with<'a>(
         self,

@@ -2,12 +2,12 @@
 use Rattle.pawk_syntax_tree.specs.Tree.{Tree, Trees}
 use Rattle.pawk_syntax_tree.specs.Tree as tree
 use Rattle.pawk_code.specs.Expressions.{Expr, Exprs, Arguments, leaf, number, text, test, read, to_element, member, choice, call, none, more, no_arguments, more_arguments}
-use Rattle.pawk_scope.specs.Slots.{slot}
-use Rattle.pawk_scope.specs.Scopes.{Scope, leaf_of, array_of}
+use Rattle.pawk_resolve.specs.Slots.{slot}
+use Rattle.pawk_resolve.specs.Scopes.{Scope, leaf_of, array_of}
 use Rattle.pawk_resolve.specs.Sorted.{nothing, numeral, unary_of, operation, binary_of, builtin_of, argument_of}
 
 module _ (s : Scope) where
-  -- an expression with no other inside; one between slashes that is no value stands in no checked program
+  -- an expression with no other inside; one between slashes that is no value occurs in no checked program
   abbrev pub resolved_small : Tree → Expr
   resolved_small (tree.number n) = leaf (number (numeral n))
   resolved_small (tree.string x) = leaf (text x)

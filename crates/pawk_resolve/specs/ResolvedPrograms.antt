@@ -1,20 +1,20 @@
 -- The code of a program (POSIX.1-2017, awk, "Overall Program Structure").
 use Rattle.std.specs.Prelude.{ℕ, suc, Bool, not, ◌&&◌, if◌then◌else◌, List, [], ◌∷◌, ◌++◌, map, filter}
 use Rattle.std.specs.List.{flat_map}
-use Rattle.pawk_token.specs.Bytes.{Text}
-use Rattle.pawk_token.specs.Vocabulary.{is_among, is_run_variable}
-use Rattle.pawk_syntax_program.specs.Item.{Part}
-use Rattle.pawk_syntax_program.specs.Item as item
-use Rattle.pawk_syntax_program.specs.Statement.{Stmts as TreeStmts}
-use Rattle.pawk_syntax_uses.specs.Mentions.{Mention, array, scalar, target, argument, of_part}
-use Rattle.pawk_syntax_kinds.specs.Demands.{Kinds}
-use Rattle.pawk_code.specs.declared.program.Kind.{Kind}
-use Rattle.pawk_code.specs.declared.program.Kind.TheVariants as kind
+use Rattle.pawk_lex.specs.Bytes.{Text}
+use Rattle.pawk_lex.specs.Vocabulary.{is_among, is_run_variable}
+use Rattle.pawk_syntax_tree.specs.Item.{Part}
+use Rattle.pawk_syntax_tree.specs.Item as item
+use Rattle.pawk_syntax_tree.specs.Statement.{Stmts as TreeStmts}
+use Rattle.pawk_syntax_check.specs.Mentions.{Mention, array, scalar, target, argument, of_part}
+use Rattle.pawk_syntax_check.specs.Demands.{Kinds}
+use Rattle.pawk_code.specs.declared.program.ParameterKind.{ParameterKind}
+use Rattle.pawk_code.specs.declared.program.ParameterKind.TheVariants as kind
 use Rattle.pawk_code.specs.FirstSlots.{first_scalars}
 use Rattle.pawk_code.specs.Statements.{Stmts}
 use Rattle.pawk_code.specs.Programs.{Selector, always, matching, between, Rule, Function, Code}
-use Rattle.pawk_scope.specs.Slots.{with_texts, distinct}
-use Rattle.pawk_scope.specs.Scopes.{Globals, Scope}
+use Rattle.pawk_resolve.specs.Slots.{with_texts, distinct}
+use Rattle.pawk_resolve.specs.Scopes.{Globals, Scope}
 use Rattle.pawk_resolve.specs.Resolved.{resolved}
 use Rattle.pawk_resolve.specs.ResolvedStatements.{resolved_body}
 
@@ -87,7 +87,7 @@ rule_of g (item.between e f a) =
     rule g (between (resolved (global_scope g) e) (resolved (global_scope g) f)) a ∷ []
 rule_of g _ = []
 
-abbrev pub kind_of : Bool → Kind
+abbrev pub kind_of : Bool → ParameterKind
 kind_of is_array = if is_array then kind.Array else kind.Scalar
 
 abbrev pub function : Globals → ℕ → List Text → TreeStmts → Function
@@ -114,6 +114,6 @@ resolved_items g ps = record {
   expressions = g.expressions;
 }
 
--- the code of a program whose names have these kinds, and between whose slashes these expressions stand
+-- the code of a program whose names have these kinds, with these expressions between its slashes
 abbrev pub resolved_program : Kinds → List Text → List Part → Code
 resolved_program k eres ps = resolved_items (globals_of k eres ps) ps

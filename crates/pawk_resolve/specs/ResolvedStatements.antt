@@ -4,15 +4,15 @@ use Rattle.std.specs.Option.{option_map}
 use Rattle.pawk_scalar.specs.declared.arithmetic.Op.TheVariants as op
 use Rattle.pawk_syntax_tree.specs.Tree.{Tree, Trees}
 use Rattle.pawk_syntax_tree.specs.Tree as tree
-use Rattle.pawk_syntax_program.specs.declared.statement.Leave.{Leave as Word}
-use Rattle.pawk_syntax_program.specs.declared.statement.Leave.TheVariants as word
-use Rattle.pawk_syntax_program.specs.Statement.{Stmt as TreeStmt, Stmts as TreeStmts}
-use Rattle.pawk_syntax_program.specs.Statement as stmt
+use Rattle.pawk_syntax_tree.specs.declared.statement.Jump.{Jump as Word}
+use Rattle.pawk_syntax_tree.specs.declared.statement.Jump.TheVariants as word
+use Rattle.pawk_syntax_tree.specs.Statement.{Stmt as TreeStmt, Stmts as TreeStmts}
+use Rattle.pawk_syntax_tree.specs.Statement as stmt
 use Rattle.pawk_code.specs.declared.word.Sign.TheVariants as sign
 use Rattle.pawk_code.specs.Expressions.{Expr, Exprs, Format, numeric, assign, change, step}
 use Rattle.pawk_code.specs.Calm.{are_calm}
 use Rattle.pawk_code.specs.Statements.{Simple, drop, set, add, count, print, printf, delete, clear, Leave, break, continue, next_record, next_file, exit, return, Head, Stmt, simple, leave, when, choose, repeat, do_while, loop, walk, Stmts, done, next}
-use Rattle.pawk_scope.specs.Scopes.{Scope, array_of, variable_of}
+use Rattle.pawk_resolve.specs.Scopes.{Scope, array_of, variable_of}
 use Rattle.pawk_resolve.specs.Sorted.{nothing, format_by}
 use Rattle.pawk_resolve.specs.Resolved.{resolved, resolved_all}
 
@@ -46,7 +46,7 @@ module _ (s : Scope) where
   abbrev pub simple_of : Tree → Simple
   simple_of t = dropped (resolved s t)
 
-  -- a statement that leaves what it stands in
+  -- a statement that leaves what surrounds it
   abbrev pub resolved_leave : TreeStmt → Stmt
   resolved_leave (stmt.go_out w) = leave (left_by w)
   resolved_leave (stmt.exit_with e) = leave (exit (option_map (resolved s) e))

@@ -1,7 +1,7 @@
 -- Expressions of code put together, each in the sort of what it gives.
 use Rattle.std.specs.Prelude.{ℕ, ℤ, pos, nat_lt, Bool, true, false, if◌then◌else◌}
-use Rattle.pawk_token.specs.declared.token.Builtin.{Builtin}
-use Rattle.pawk_token.specs.declared.token.Builtin.TheVariants as b
+use Rattle.pawk_lex.specs.declared.token.Builtin.{Builtin}
+use Rattle.pawk_lex.specs.declared.token.Builtin.TheVariants as b
 use Rattle.pawk_scalar.specs.Limits.{number_limit}
 use Rattle.pawk_scalar.specs.declared.arithmetic.Op.TheVariants as op
 use Rattle.pawk_syntax_tree.specs.declared.tree.Single.{Single}
@@ -15,15 +15,15 @@ use Rattle.pawk_code.specs.declared.name.Array.TheVariants as array
 use Rattle.pawk_code.specs.declared.word.Sign.TheVariants as sign
 use Rattle.pawk_code.specs.declared.word.Step.TheVariants as by
 use Rattle.pawk_code.specs.declared.word.Relation.TheVariants as relation
-use Rattle.pawk_code.specs.declared.word.Count.TheVariants as count
+use Rattle.pawk_code.specs.declared.word.ReplacedMatches.TheVariants as count
 use Rattle.pawk_code.specs.declared.word.Case.TheVariants as case
 use Rattle.pawk_code.specs.Expressions.{number, text, global, local, field, Expr, leaf, numeric, test, textual, read, assign, Exprs, none, more, Place, to_global, to_local, to_field, arithmetic, signed, change, step, function, split, replace, find, length_of, index_of, whole, compare, both, either, negation, matches, join, suffix, substring, letters, formatted, Pattern, fixed_pattern, spelled_by, FieldsBy, by_fs, by_fixed, by_value, Format, fixed_format, format_of, Argument, pass, pass_array}
 use Rattle.pawk_resolve.specs.declared.operation.Operation.{Operation}
 use Rattle.pawk_resolve.specs.declared.operation.Operation.TheVariants as does
-use Rattle.pawk_scope.specs.Slots.{slot}
-use Rattle.pawk_scope.specs.Scopes.{Scope, array_of, is_array}
+use Rattle.pawk_resolve.specs.Slots.{slot}
+use Rattle.pawk_resolve.specs.Scopes.{Scope, array_of, is_array}
 
--- what stands where a checked program has nothing
+-- what is used where a checked program has nothing
 abbrev pub nothing : Expr
 nothing = leaf (number (pos 0))
 
@@ -160,7 +160,7 @@ abbrev pub sprintf_of : Exprs → Expr
 sprintf_of none = nothing
 sprintf_of (more f es) = textual (formatted (format_by f) es)
 
--- of so many as stand there
+-- of as many as are there
 abbrev pub builtin_of_some : Scope → Builtin → Trees → Exprs → Expr
 builtin_of_some s f (tree.more t tree.none) (more a none) = builtin_of_one f a
 builtin_of_some s f (tree.more t (tree.more u tree.none)) (more a (more d none)) = builtin_of_two s f a u d

@@ -4,19 +4,19 @@ ghost use Rattle.std.specs.Prelude.{◌≡◌, IfOk};
 ghost use Rattle.pawk_code.specs.Expressions as code;
 ghost use Rattle.pawk_code.specs.ExpressionViews.{view, pattern_view, fields_view, argument_view};
 ghost use Rattle.pawk_syntax_tree.specs.Tree.{view as tree_view};
-ghost use Rattle.pawk_scope.specs.ScopeViews.{scope_view};
+ghost use Rattle.pawk_resolve.specs.ScopeViews.{scope_view};
 ghost use Rattle.pawk_resolve.specs.Sorted as spec;
 
 use crate::operation::Operation;
+use crate::scope::Scope;
 use crate::sorted::{join, nothing, place};
 use pawk_code::expression::{
     Argument, Expr, FieldsBy, Numeric, NumericFunction, Pattern, Test, Textual,
 };
 use pawk_code::name::Array;
-use pawk_code::word::{Case, Count};
-use pawk_scope::scope::Scope;
-use pawk_syntax_tree::tree::Expr as Tree;
-use pawk_token::token::Builtin;
+use pawk_code::word::{Case, ReplacedMatches};
+use pawk_lex::token::Builtin;
+use pawk_syntax_tree::tree::ExpressionTree as Tree;
 use std::alloc::{AllocError, Global};
 
 /// An operand: its tree and its code.
@@ -26,7 +26,7 @@ pub struct Operand<'a> {
     pub code: Box<Expr>,
 }
 
-/// A regular expression, which may stand between slashes.
+/// A regular expression, which may be written between slashes.
 fn pattern(scope: &Scope<'_, '_>, e: Operand<'_>) -> Pattern
     ensures { pattern_view result ≡ spec.pattern_of (scope_view scope.now)
         (tree_view e.entry.tree.now) (view e.entry.code.value) }
@@ -133,10 +133,10 @@ pub fn builtin_of_two(
     }
 }
 
-/// `sub` or `gsub`: the pattern, the replacement, and where the text stands.
+/// `sub` or `gsub`: the pattern, the replacement, and the place of the text.
 fn replacement(
     scope: &Scope<'_, '_>,
-    count: Count,
+    count: ReplacedMatches,
     first: Operand<'_>,
     text: Box<Expr>,
     to: Box<Expr>,
@@ -174,8 +174,14 @@ pub fn builtin_of_three(
             Expr::Textual(Textual::Substring(first.code, second.code, third.code))
         }
         Builtin::Split => { split_by(scope, first.code, array_named(scope, second.tree), third) }
-        Builtin::Sub => replacement(scope, Count::First, first, second.code, third.code),
-        Builtin::Gsub => replacement(scope, Count::All, first, second.code, third.code),
+        Builtin::Sub => replacement(
+            scope,
+            ReplacedMatches::First,
+            first,
+            second.code,
+            third.code,
+        ),
+        Builtin::Gsub => replacement(scope, ReplacedMatches::All, first, second.code, third.code),
         _ => nothing(),
     }
 }

@@ -4,14 +4,14 @@ ghost use Rattle.std.specs.Prelude.{◌≡◌};
 ghost use Rattle.pawk_code.specs.Expressions as code;
 ghost use Rattle.pawk_code.specs.ExpressionViews.{view, views, argument_views, format_view};
 
-use pawk_code::expression::{Argument, Expr, Format, Place, Test, Textual};
+use pawk_code::expression::{Argument, Expr, Format, Lvalue, Test, Textual};
 use pawk_code::name::Array;
 
 /// An element that is read.
 pub fn element(array: Array, keys: Vec<Expr>) -> Expr
     ensures { view result ≡ code.read (code.to_element array (code.exprs (views keys.items))) }
 {
-    Expr::Read(Place::Element(array, keys))
+    Expr::Read(Lvalue::Element(array, keys))
 }
 
 /// Whether an array has an element.

@@ -5,7 +5,7 @@ ghost use Rattle.pawk_code.specs.Expressions as code;
 ghost use Rattle.pawk_code.specs.ExpressionViews.{view, views, place_view, format_view, textual_view};
 ghost use Rattle.pawk_resolve.specs.Sorted as spec;
 
-use pawk_code::expression::{Expr, Format, Numeric, Place, Test, Textual};
+use pawk_code::expression::{Expr, Format, Lvalue, Numeric, Test, Textual};
 use pawk_code::format::FixedFormat;
 use pawk_code::leaf::Leaf;
 use pawk_code::word::{Sign, Step};
@@ -25,7 +25,7 @@ pub fn numeral(number: u64) -> i64
     }
 }
 
-/// What stands where a checked program has nothing.
+/// What is used where a checked program has nothing.
 pub fn nothing() -> Expr
     ensures { view result ≡ spec.nothing }
 {
@@ -38,23 +38,23 @@ fn field(e: Box<Expr>) -> Expr
 {
     match &*e {
         Expr::Leaf(Leaf::Number(n)) if *n >= 0 => Expr::Leaf(Leaf::Field(*n as usize)),
-        _ => Expr::Read(Place::Field(e)),
+        _ => Expr::Read(Lvalue::Field(e)),
     }
 }
 
 /// What is assigned: what was read there.
-pub fn place(mut e: Box<Expr>) -> Place
+pub fn place(mut e: Box<Expr>) -> Lvalue
     ensures { place_view result ≡ spec.place_of (view e.value) }
 {
     match replace(&mut *e, nothing()) {
         Expr::Read(place) => place,
-        Expr::Leaf(Leaf::Global(slot)) => Place::Global(slot),
-        Expr::Leaf(Leaf::Local(number)) => Place::Local(number),
+        Expr::Leaf(Leaf::Global(slot)) => Lvalue::Global(slot),
+        Expr::Leaf(Leaf::Local(number)) => Lvalue::Local(number),
         Expr::Leaf(Leaf::Field(number)) => {
             *e = Expr::Leaf(Leaf::Number(numeral(number as u64)));
-            Place::Field(e)
+            Lvalue::Field(e)
         }
-        _ => Place::Field(e),
+        _ => Lvalue::Field(e),
     }
 }
 
@@ -78,7 +78,7 @@ fn text_parts(alloc: Global, a: Textual) -> Result<Vec<Expr>, AllocError>
     }
 }
 
-/// The parts of what stands on the left of a concatenation.
+/// The parts of what is on the left of a concatenation.
 fn parts(alloc: Global, a: Expr) -> Result<Vec<Expr>, AllocError>
     ensures { IfOk result (λ parts. code.exprs (views parts.items) ≡ spec.parts_of (view a)) }
 {
@@ -88,7 +88,7 @@ fn parts(alloc: Global, a: Expr) -> Result<Vec<Expr>, AllocError>
     }
 }
 
-/// The concatenation of two.
+/// The concatenation of two expressions, of which the first may be one itself.
 pub fn join(alloc: Global, a: Expr, b: Expr) -> Result<Expr, AllocError>
     ensures { IfOk result (λ both. view both ≡ spec.join_of (view a) (view b)) }
 {

@@ -1,8 +1,8 @@
 -- Code in normal form is the code of the tree that it spells.
 use Rattle.std.proofs.Common.{◌≡◌, ◌<◌, ℕ, true, false, pos, negsuc, Some, None, refl, sym, ap, ap₂, ◌∙◌}
 use Rattle.std.specs.Prelude.{length}
-use Rattle.pawk_token.specs.Bytes.{Text}
-use Rattle.pawk_token.specs.declared.token.Builtin.TheVariants as b
+use Rattle.pawk_lex.specs.Bytes.{Text}
+use Rattle.pawk_lex.specs.declared.token.Builtin.TheVariants as b
 use Rattle.pawk_scalar.specs.declared.arithmetic.Op.{Op}
 use Rattle.pawk_scalar.specs.declared.arithmetic.Op.TheVariants as op
 use Rattle.pawk_syntax_tree.specs.declared.tree.Double.{Double}
@@ -16,13 +16,13 @@ use Rattle.pawk_code.specs.declared.word.Sign.TheVariants as sign
 use Rattle.pawk_code.specs.declared.word.Step.TheVariants as by
 use Rattle.pawk_code.specs.declared.word.Relation.{Relation}
 use Rattle.pawk_code.specs.declared.word.Relation.TheVariants as relation
-use Rattle.pawk_code.specs.declared.word.Count.{Count}
-use Rattle.pawk_code.specs.declared.word.Count.TheVariants as count
+use Rattle.pawk_code.specs.declared.word.ReplacedMatches.{ReplacedMatches}
+use Rattle.pawk_code.specs.declared.word.ReplacedMatches.TheVariants as count
 use Rattle.pawk_code.specs.declared.word.Case.TheVariants as case
 use Rattle.pawk_code.specs.Expressions.{Leaf, number, text, global, local, special, field, Expr, leaf, numeric, test, textual, read, choice, assign, call, Exprs, none, more, Place, to_global, to_local, to_element, to_field, Numeric, arithmetic, signed, change, step, function, split, replace, find, NumericFunction, length_of, index_of, whole, Test, compare, both, either, negation, matches, member, Textual, join, suffix, substring, letters, formatted, Pattern, fixed_pattern, spelled_by, FieldsBy, by_fs, by_fixed, by_value, Format, fixed_format, format_of, Argument, pass, pass_array, Arguments, no_arguments, more_arguments}
 use Rattle.pawk_resolve.specs.declared.operation.Operation.TheVariants as does
-use Rattle.pawk_scope.specs.Slots.{place, slot}
-use Rattle.pawk_scope.specs.Scopes.{Scope, is_array, special_of, leaf_at, leaf_of, array_at, array_of}
+use Rattle.pawk_resolve.specs.Slots.{place, slot}
+use Rattle.pawk_resolve.specs.Scopes.{Scope, is_array, special_of, leaf_at, leaf_of, array_at, array_of}
 use Rattle.pawk_resolve.specs.Sorted.{field_of, place_of, snoc, join_of, pattern_of, fields_of, argument_named, argument_of, format_by, operation, binary_of}
 use Rattle.pawk_resolve.specs.Resolved.{resolved, resolved_all, resolved_arguments}
 use Rattle.pawk_resolve_law.specs.Names.{name_at, special_name, array_name, AreTables}
@@ -162,7 +162,7 @@ is_whole s (choice c a d) i h = tt
 is_whole s (assign p e) i h = tt
 is_whole s (call f as') i h = tt
 
--- a whole tree has its value where others may stand beside it
+-- a whole tree has its value also where an expression between slashes is one
 pattern_whole : (s : Scope) (t : Tree) (e : Expr) → IsWhole t → pattern_of s t e ≡ spelled_by e
 unfolding IsWhole
 pattern_whole s (ere x) e h = absurd h
@@ -294,7 +294,7 @@ three_part a x d y e z p q r = ap₂ (λ u v. textual (u v)) (ap₂ (λ u v. sub
 three_split : (a x : Expr) (d y : Array) (e z : FieldsBy) → a ≡ x → d ≡ y → e ≡ z → numeric (split a d e) ≡ numeric (split x y z)
 three_split a x d y e z p q r = ap₂ (λ u v. numeric (u v)) (ap₂ (λ u v. split u v) p q) r
 
-three_replace : (c : Count) (a x : Pattern) (d y : Expr) (e z : Place) → a ≡ x → d ≡ y → e ≡ z → numeric (replace c a d e) ≡ numeric (replace c x y z)
+three_replace : (c : ReplacedMatches) (a x : Pattern) (d y : Expr) (e z : Place) → a ≡ x → d ≡ y → e ≡ z → numeric (replace c a d e) ≡ numeric (replace c x y z)
 three_replace c a x d y e z p q r = ap₂ (λ u v. numeric (u v)) (ap₂ (λ u v. replace c u v) p q) r
 
 -- ---- expressions

@@ -2,21 +2,21 @@
 use Rattle.std.proofs.Common.{◌≡◌, ℕ, true, false, ◌||◌, Option, Some, None, refl, sym, ap, ap₂, ◌∙◌, IfSome}
 use Rattle.std.specs.Prelude.{is_some, unwrap_or}
 use Rattle.std.specs.Option.{option_map}
-use Rattle.pawk_token.specs.Bytes.{Text}
+use Rattle.pawk_lex.specs.Bytes.{Text}
 use Rattle.pawk_scalar.specs.declared.arithmetic.Op.TheVariants as op
 use Rattle.pawk_syntax_tree.specs.Tree.{Tree, Trees, unary, binary}
 use Rattle.pawk_syntax_tree.specs.Tree as tree
-use Rattle.pawk_syntax_program.specs.declared.statement.Leave.TheVariants as word
-use Rattle.pawk_syntax_program.specs.Statement.{Stmt as TreeStmt, Stmts as TreeStmts}
-use Rattle.pawk_syntax_program.specs.Statement as stmt
+use Rattle.pawk_syntax_tree.specs.declared.statement.Jump.TheVariants as word
+use Rattle.pawk_syntax_tree.specs.Statement.{Stmt as TreeStmt, Stmts as TreeStmts}
+use Rattle.pawk_syntax_tree.specs.Statement as stmt
 use Rattle.pawk_code.specs.declared.name.Variable.{Variable}
 use Rattle.pawk_code.specs.declared.name.Variable.TheVariants as variable
 use Rattle.pawk_code.specs.declared.word.Sign.TheVariants as sign
 use Rattle.pawk_code.specs.declared.word.Step.TheVariants as by
 use Rattle.pawk_code.specs.Expressions.{Expr, numeric, assign, change, step}
 use Rattle.pawk_code.specs.Statements.{Simple, drop, set, add, count, print, printf, delete, clear, Leave, break, continue, next_record, next_file, exit, return, Head, Stmt, simple, leave, when, choose, repeat, do_while, loop, walk, Stmts, done, next}
-use Rattle.pawk_scope.specs.Slots.{place, slot}
-use Rattle.pawk_scope.specs.Scopes.{Scope, is_array, special_of, variable_at, variable_of}
+use Rattle.pawk_resolve.specs.Slots.{place, slot}
+use Rattle.pawk_resolve.specs.Scopes.{Scope, is_array, special_of, variable_at, variable_of}
 use Rattle.pawk_resolve.specs.Resolved.{resolved}
 use Rattle.pawk_resolve.specs.ResolvedStatements.{dropped, print_of, printf_by, simple_of, head_of, resolved_statement, resolved_body}
 use Rattle.pawk_resolve_law.specs.Names.{name_at, variable_name, AreTables}

@@ -1,25 +1,25 @@
 -- The code of a program that a text spells.
 use Rattle.std.proofs.Common.{◌≡◌, ℕ, suc, true, List, [], ◌∷◌, refl, sym, ap, subst, ◌∙◌, Option}
 use Rattle.std.specs.List.{list_all, flat_map}
-use Rattle.pawk_token.specs.Bytes.{Text}
+use Rattle.pawk_lex.specs.Bytes.{Text}
 use Rattle.pawk_lex.specs.Canonical.{AreBytes}
 use Rattle.pawk_lex.proofs.CutLaws.{cut_writable}
-use Rattle.pawk_syntax_program.specs.Item.{Part, define}
-use Rattle.pawk_syntax_program.specs.ItemCanonical.{AreSoundParts}
-use Rattle.pawk_syntax_program.proofs.ItemKept.{program_kept}
+use Rattle.pawk_syntax_tree.specs.Item.{Part, define}
+use Rattle.pawk_syntax_tree.specs.ItemCanonical.{AreSoundParts}
+use Rattle.pawk_syntax_tree.proofs.ItemKept.{program_kept}
 use Rattle.pawk_syntax_show.proofs.WritableProgram.{AreWritableParts, program_writable}
-use Rattle.pawk_syntax_uses.specs.Mentions.{of_part}
-use Rattle.pawk_syntax_uses.specs.Functions.{function_of}
-use Rattle.pawk_syntax_kinds.specs.Tables.{Name}
-use Rattle.pawk_syntax_kinds.specs.Demands.{Kinds, meets, demands_of, demands_from, AreKinds, AreKindsOf}
-use Rattle.pawk_syntax_kinds.proofs.Finding.{one_choice}
+use Rattle.pawk_syntax_check.specs.Mentions.{of_part}
+use Rattle.pawk_syntax_check.specs.Functions.{function_of}
+use Rattle.pawk_syntax_check.specs.Tables.{Name}
+use Rattle.pawk_syntax_check.specs.Demands.{Kinds, meets, demands_of, demands_from, AreKinds, AreKindsOf}
+use Rattle.pawk_syntax_check.proofs.Finding.{one_choice}
 use Rattle.pawk_syntax_check.specs.Targets.{is_assignable}
 use Rattle.pawk_syntax_check.specs.Calls.{is_call}
 use Rattle.pawk_syntax_check.specs.Fits.{every_mention}
-use Rattle.pawk_syntax_expressions.specs.Expressions.{eres_of_program}
+use Rattle.pawk_syntax_grammar.specs.Expressions.{eres_of_program}
 use Rattle.pawk_syntax.specs.Spells.{Spells}
 use Rattle.pawk_code.specs.Programs.{Code}
-use Rattle.pawk_scope.specs.Scopes.{Globals}
+use Rattle.pawk_resolve.specs.Scopes.{Globals}
 use Rattle.pawk_resolve.specs.ResolvedPrograms.{global_names, resolved_program}
 use Rattle.pawk_resolve_program.specs.Texts as slashed
 use Rattle.pawk_resolve_program.specs.Codes.{IsCodeOf}

@@ -2,13 +2,13 @@
 use Rattle.std.proofs.Common.{◌≡◌, Bool, true, false, ◌&&◌, ◌||◌, List, [], refl, sym, ◌∙◌, ◌⊎◌, inl, inr}
 use Rattle.std.specs.Prelude.{filter}
 use Rattle.std.specs.List.{flat_map}
-use Rattle.pawk_token.specs.Bytes.{Text}
-use Rattle.pawk_token.specs.Vocabulary.{is_among}
-use Rattle.pawk_syntax_program.specs.Item.{Part}
-use Rattle.pawk_syntax_kinds.specs.Demands.{Kinds}
-use Rattle.pawk_syntax_expressions.specs.Expressions.{eres_of_program}
+use Rattle.pawk_lex.specs.Bytes.{Text}
+use Rattle.pawk_lex.specs.Vocabulary.{is_among}
+use Rattle.pawk_syntax_tree.specs.Item.{Part}
+use Rattle.pawk_syntax_check.specs.Demands.{Kinds}
+use Rattle.pawk_syntax_grammar.specs.Expressions.{eres_of_program}
 use Rattle.pawk_code.specs.FirstSlots.{first_scalars}
-use Rattle.pawk_scope.specs.Slots.{with_texts}
+use Rattle.pawk_resolve.specs.Slots.{with_texts}
 use Rattle.pawk_resolve.specs.ResolvedPrograms.{global_names, is_global_array, is_global_scalar}
 use Rattle.pawk_resolve_law.specs.Programs.{names_of}
 use Rattle.pawk_resolve_law.proofs.Entries.{In, in_place, place_in, in_filter, filter_in, in_old, in_new, in_some, among_is}

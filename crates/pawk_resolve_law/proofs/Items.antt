@@ -2,15 +2,15 @@
 use Rattle.std.proofs.Common.{◌≡◌, ℕ, suc, List, [], ◌∷◌, map, refl, sym, ap, ap₂, ◌∙◌}
 use Rattle.std.specs.Prelude.{filter}
 use Rattle.std.specs.List.{flat_map}
-use Rattle.pawk_syntax_program.specs.Statement.{Stmts as TreeStmts}
-use Rattle.pawk_syntax_program.specs.Statement as stmt
-use Rattle.pawk_syntax_program.specs.Item.{Part, begin, end, define}
-use Rattle.pawk_syntax_program.specs.Item as item
+use Rattle.pawk_syntax_tree.specs.Statement.{Stmts as TreeStmts}
+use Rattle.pawk_syntax_tree.specs.Statement as stmt
+use Rattle.pawk_syntax_tree.specs.Item.{Part, begin, end, define}
+use Rattle.pawk_syntax_tree.specs.Item as item
 use Rattle.pawk_syntax_check.specs.Words.{is_rule, is_function}
 use Rattle.pawk_code.specs.Statements.{Stmts}
-use Rattle.pawk_code.specs.declared.program.Kind.{Kind}
+use Rattle.pawk_code.specs.declared.program.ParameterKind.{ParameterKind}
 use Rattle.pawk_code.specs.Programs.{Selector, always, matching, between, Rule, Function, Code}
-use Rattle.pawk_scope.specs.Scopes.{Globals, Scope}
+use Rattle.pawk_resolve.specs.Scopes.{Globals, Scope}
 use Rattle.pawk_resolve.specs.Resolved.{resolved}
 use Rattle.pawk_resolve.specs.ResolvedStatements.{resolved_body}
 use Rattle.pawk_resolve.specs.ResolvedPrograms.{global_scope, function_scope, begin_of, end_of, rule, rule_of, function, functions_from, resolved_items}
@@ -185,7 +185,7 @@ module _ (g : Globals) where
   rules_again t [] h = refl
   rules_again t (x ∷ xs) h = with_first _ _ _ _ (rule_again_of t x.selector x.body h.0.0 h.0.1) (rules_again t xs h.1)
 
-  function_same : (a d : List Kind) (x y : Stmts) → a ≡ d → x ≡ y → (let new : Function = record { kinds = a; body = x } in new) ≡ (let old : Function = record { kinds = d; body = y } in old)
+  function_same : (a d : List ParameterKind) (x y : Stmts) → a ≡ d → x ≡ y → (let new : Function = record { kinds = a; body = x } in new) ≡ (let old : Function = record { kinds = d; body = y } in old)
   function_same a d x y e f i = record { kinds = e i; body = f i }
 
   functions_again : (hs : List Head) (fs : List Function) → FitsFunctions g hs fs → functions_in hs (spelled_functions g hs fs) ≡ fs

@@ -1,9 +1,9 @@
 -- Expressions that are sound, and whose names are known, are proper.
 use Rattle.std.proofs.Common.{◌≡◌, ℕ, suc, Bool, true, false, ◌&&◌, ◌||◌, ◌==◌, List, [], ◌∷◌, ◌++◌, Option, Some, None, refl, arith, rules, ◌⊎◌, inl, inr}
 use Rattle.std.specs.Prelude.{nat_le}
-use Rattle.pawk_token.specs.Bytes.{Text}
-use Rattle.pawk_token.specs.declared.token.Builtin.{Builtin}
-use Rattle.pawk_token.specs.declared.token.Builtin.TheVariants as b
+use Rattle.pawk_lex.specs.Bytes.{Text}
+use Rattle.pawk_lex.specs.declared.token.Builtin.{Builtin}
+use Rattle.pawk_lex.specs.declared.token.Builtin.TheVariants as b
 use Rattle.pawk_syntax_tree.specs.declared.tree.Single.{Single}
 use Rattle.pawk_syntax_tree.specs.declared.tree.Single.TheVariants as single
 use Rattle.pawk_syntax_tree.specs.declared.tree.Double.{Double}
@@ -12,10 +12,10 @@ use Rattle.pawk_syntax_tree.specs.Tree.{Tree, number, string, ere, variable, ele
 use Rattle.pawk_syntax_tree.specs.Tree as tree
 use Rattle.pawk_syntax_tree.specs.Canonical.{IsLvalue, FitsSingle, FitsDouble, IsSound, AreSound}
 use Rattle.pawk_syntax_show.proofs.WritableTree.{IsWritableTree, AreWritableTrees}
-use Rattle.pawk_syntax_uses.specs.Mentions.{Mention, array, scalar, target, argument, call, builtin, Role, as_value, as_target, as_array, as_argument, role_under, role_left, Setting, plain, of_call, of_builtin, role_at, count, inside_all, mentions}
+use Rattle.pawk_syntax_check.specs.Mentions.{Mention, array, scalar, target, argument, call, builtin, Role, as_value, as_target, as_array, as_argument, role_under, role_left, Setting, plain, of_call, of_builtin, role_at, count, inside_all, mentions}
 use Rattle.pawk_syntax_check.specs.Calls.{is_lvalue, is_name, fits_builtin, has_targets, takes}
-use Rattle.pawk_scope.specs.Slots.{place}
-use Rattle.pawk_scope.specs.Scopes.{Scope, is_array, special_of}
+use Rattle.pawk_resolve.specs.Slots.{place}
+use Rattle.pawk_resolve.specs.Scopes.{Scope, is_array, special_of}
 use Rattle.pawk_resolve_program.specs.Texts.{of_tree, of_trees}
 use Rattle.pawk_resolve_law.specs.Proper.{IsExpression, IsFunction, IsScalar, IsArray, IsNamed, IsTarget, IsArrayName, Meets, IsPassed, IsPattern, IsRight, IsProper, AreProper, ArePassed, AreTaken}
 

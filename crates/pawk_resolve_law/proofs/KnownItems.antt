@@ -2,15 +2,15 @@
 use Rattle.std.proofs.Common.{Bool, true, false, ◌++◌, Option, Some, None, IfSome}
 use Rattle.pawk_syntax_tree.specs.Tree.{Tree, Trees, none, more}
 use Rattle.pawk_syntax_tree.specs.Canonical.{IsSome}
-use Rattle.pawk_syntax_program.specs.Statement.{Stmt, eval, print, printf, when, choose, repeat, do_while, loop, walk, go_out, exit_with, return_with, delete, clear, Stmts, done, next}
-use Rattle.pawk_syntax_program.specs.StatementCanonical.{Counts, MayCount, AreListed, IsSoundStmt, AreSoundStmts}
-use Rattle.pawk_syntax_program.specs.Item.{Part, begin, end, always, matching, between, define}
-use Rattle.pawk_syntax_program.specs.ItemCanonical.{IsSoundPart}
+use Rattle.pawk_syntax_tree.specs.Statement.{Stmt, eval, print, printf, when, choose, repeat, do_while, loop, walk, go_out, exit_with, return_with, delete, clear, Stmts, done, next}
+use Rattle.pawk_syntax_tree.specs.StatementCanonical.{Counts, MayCount, AreListed, IsSoundStmt, AreSoundStmts}
+use Rattle.pawk_syntax_tree.specs.Item.{Part, begin, end, always, matching, between, define}
+use Rattle.pawk_syntax_tree.specs.ItemCanonical.{IsSoundPart}
 use Rattle.pawk_syntax_show.proofs.WritableTree.{IsWritableTree, AreWritableTrees}
 use Rattle.pawk_syntax_show.proofs.WritableProgram.{MayWrite, IsWritableStmt, AreWritableStmts, IsWritablePart}
-use Rattle.pawk_syntax_uses.specs.Mentions.{Mention, as_value, of_value, of_values}
-use Rattle.pawk_syntax_uses.specs.Mentions as mention
-use Rattle.pawk_scope.specs.Scopes.{Scope}
+use Rattle.pawk_syntax_check.specs.Mentions.{Mention, as_value, of_value, of_values}
+use Rattle.pawk_syntax_check.specs.Mentions as mention
+use Rattle.pawk_resolve.specs.Scopes.{Scope}
 use Rattle.pawk_resolve_program.specs.Texts.{of_tree, of_trees}
 use Rattle.pawk_resolve_program.specs.Texts as slashed
 use Rattle.pawk_resolve_law.specs.Proper.{IsProper, AreProper}

@@ -5,17 +5,17 @@ use Rattle.std.specs.List.{list_all, flat_map}
 use Rattle.std.specs.Str.{bytes_eq}
 use Rattle.std.proofs.lemmas.Bool.{cases_Bool}
 use Rattle.std.proofs.lemmas.Slice.Eq.{bytes_eq-Decides}
-use Rattle.pawk_token.specs.Bytes.{Text}
-use Rattle.pawk_token.specs.Vocabulary.{is_among, is_run_variable}
-use Rattle.pawk_syntax_program.specs.Item.{Part, begin, end, always, matching, between, define}
-use Rattle.pawk_syntax_uses.specs.Mentions.{Mention, array, scalar, target, argument, value, call, builtin, leave, return, of_part}
-use Rattle.pawk_syntax_uses.specs.Functions.{or_else, function_at, function_from}
-use Rattle.pawk_syntax_kinds.specs.Demands.{meets, name_in, demands_of}
+use Rattle.pawk_lex.specs.Bytes.{Text}
+use Rattle.pawk_lex.specs.Vocabulary.{is_among, is_run_variable}
+use Rattle.pawk_syntax_tree.specs.Item.{Part, begin, end, always, matching, between, define}
+use Rattle.pawk_syntax_check.specs.Mentions.{Mention, array, scalar, target, argument, value, call, builtin, leave, return, of_part}
+use Rattle.pawk_syntax_check.specs.Functions.{or_else, function_at, function_from}
+use Rattle.pawk_syntax_check.specs.Demands.{meets, name_in, demands_of}
 use Rattle.pawk_syntax_check.specs.Targets.{is_assignable}
 use Rattle.pawk_syntax_check.specs.Calls.{is_call, takes_arguments}
 use Rattle.pawk_code.specs.declared.leaf.Special.{Special}
-use Rattle.pawk_scope.specs.Slots.{place}
-use Rattle.pawk_scope.specs.Scopes.{Globals, Scope, is_array, owner, special_in, specials, special_of}
+use Rattle.pawk_resolve.specs.Slots.{place}
+use Rattle.pawk_resolve.specs.Scopes.{Globals, Scope, is_array, owner, special_in, specials, special_of}
 use Rattle.pawk_resolve.specs.ResolvedPrograms.{mentioned, parameters, global_names, function_name, global_scope, function_scope}
 use Rattle.pawk_resolve_law.specs.Proper.{IsScalar, IsArray, IsNamed}
 use Rattle.pawk_resolve_law.proofs.Known.{IsKnown, AreKnown, AreExpressions}
@@ -81,7 +81,7 @@ takes_some (Some f) n h = refl
 
 -- ---- one item
 
--- where the global names that are mentioned stand
+-- the globals hold the names that are mentioned, and the functions that are defined
 pub record AreEntered (g : Globals) (functions : Text → Option (ℕ × List Text)) (names : List Text) : Type 0 where
   pub scalars : (x : Text) → In names x → g.kinds (0, x) ≡ false → is_run_variable x ≡ false → In g.scalars x
   pub arrays : (x : Text) → In names x → g.kinds (0, x) ≡ true → In g.arrays x

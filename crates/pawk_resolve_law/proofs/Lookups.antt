@@ -5,11 +5,11 @@ use Rattle.std.specs.Option.{option_map}
 use Rattle.std.specs.Str.{bytes_eq}
 use Rattle.std.proofs.lemmas.Bool.{cases_Bool}
 use Rattle.std.proofs.lemmas.Slice.Eq.{bytes_eq-Decides}
-use Rattle.pawk_token.specs.Bytes.{Text}
+use Rattle.pawk_lex.specs.Bytes.{Text}
 use Rattle.pawk_code.specs.declared.leaf.Special.{Special}
 use Rattle.pawk_code.specs.declared.leaf.Special.TheVariants as special
-use Rattle.pawk_scope.specs.Slots.{place, slot}
-use Rattle.pawk_scope.specs.Scopes.{special_in, specials, special_of}
+use Rattle.pawk_resolve.specs.Slots.{place, slot}
+use Rattle.pawk_resolve.specs.Scopes.{special_in, specials, special_of}
 use Rattle.pawk_resolve_law.specs.Names.{name_at, AreDifferent, special_name}
 
 one_more : (o : Option ℕ) (n : ℕ) → option_map suc o ≡ Some n → (m : ℕ) × (o ≡ Some m) × (n ≡ suc m)
@@ -33,7 +33,7 @@ place_name (y ∷ ys) x n h =
           subst P (sym found.2) (omega (arith, inside.0), inside.1)
     ]
 
--- the name in a place is found there, where each stands once
+-- the name in a place is found there, where each occurs once
 pub place_at : (xs : List Text) (n : ℕ) → AreDifferent xs → n < length xs → place xs (name_at xs n) ≡ Some n
 place_at [] n d below = absurd (omega (arith, below))
 place_at (x ∷ xs) zero d below = rw ((bytes_eq-Decides x x).1 refl) refl
@@ -49,7 +49,7 @@ place_at (x ∷ xs) (suc n) d below =
 pub slot_at : (xs : List Text) (n : ℕ) → AreDifferent xs → n < length xs → slot xs (name_at xs n) ≡ n
 slot_at xs n d below = ap (λ o. unwrap_or o 0) (place_at xs n d below)
 
--- a text that stands among others
+-- a text that is among others
 found : (o : Option ℕ) → is_some o ≡ true → o ≡ Some (unwrap_or o 0)
 found None h = let no : false ≡ true = h in cc
 found (Some n) h = refl

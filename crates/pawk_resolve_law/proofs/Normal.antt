@@ -1,8 +1,8 @@
 -- The code of an expression is in normal form.
 use Rattle.std.proofs.Common.{◌≡◌, ◌<◌, ℕ, Bool, true, false, pos, negsuc, ◌||◌, Option, Some, None, refl, sym, ap, subst, ◌∙◌, lt-ltb}
 use Rattle.std.specs.Prelude.{is_some, unwrap_or}
-use Rattle.pawk_token.specs.Bytes.{Text}
-use Rattle.pawk_token.specs.declared.token.Builtin.TheVariants as b
+use Rattle.pawk_lex.specs.Bytes.{Text}
+use Rattle.pawk_lex.specs.declared.token.Builtin.TheVariants as b
 use Rattle.pawk_scalar.specs.Limits.{number_limit}
 use Rattle.pawk_syntax_tree.specs.declared.tree.Single.{Single}
 use Rattle.pawk_syntax_tree.specs.declared.tree.Single.TheVariants as single
@@ -12,8 +12,8 @@ use Rattle.pawk_syntax_tree.specs.Tree.{Tree, Trees, string, ere, variable, elem
 use Rattle.pawk_syntax_tree.specs.Tree as tree
 use Rattle.pawk_code.specs.declared.leaf.Special.{Special}
 use Rattle.pawk_code.specs.Expressions.{number, text, global, local, field, Expr, leaf, textual, read, Exprs, none, more, Place, to_global, to_local, to_element, to_field, join}
-use Rattle.pawk_scope.specs.Slots.{place, slot}
-use Rattle.pawk_scope.specs.Scopes.{Scope, is_array, special_of, leaf_at, leaf_of, array_at, array_of}
+use Rattle.pawk_resolve.specs.Slots.{place, slot}
+use Rattle.pawk_resolve.specs.Scopes.{Scope, is_array, special_of, leaf_at, leaf_of, array_at, array_of}
 use Rattle.pawk_resolve.specs.Sorted.{numeral, field_of, place_of, snoc, join_of, pattern_of, fields_of, array_named, argument_named, argument_of, format_by}
 use Rattle.pawk_resolve.specs.Resolved.{resolved, resolved_all, resolved_arguments}
 use Rattle.pawk_resolve_law.specs.Fits.{IsConstant, AreParts, FitsLeaf, FitsArray, Fits, FitsAll, FitsArguments, FitsArgument, FitsPlace, FitsRead, FitsPattern, FitsFields, FitsFormat}

@@ -1,8 +1,8 @@
 -- What is in no normal form.
 use Rattle.std.proofs.Common.{◌≡◌, ◌≤◌, ℕ, length, Some, None, sym, ◌∙◌, arith}
 use Rattle.pawk_code.specs.Expressions.{leaf, global}
-use Rattle.pawk_scope.specs.Slots.{place}
-use Rattle.pawk_scope.specs.Scopes.{Scope}
+use Rattle.pawk_resolve.specs.Slots.{place}
+use Rattle.pawk_resolve.specs.Scopes.{Scope}
 use Rattle.pawk_resolve_law.specs.Names.{name_at}
 use Rattle.pawk_resolve_law.specs.Fits.{Fits}
 

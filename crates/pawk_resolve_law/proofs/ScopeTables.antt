@@ -2,18 +2,18 @@
 use Rattle.std.proofs.Common.{◌≡◌, ◌≤◌, ℕ, suc, true, false, not, ◌&&◌, ◌==◌, List, [], ◌∷◌, Option, Some, None, refl, sym, ap, subst, ◌∙◌, inl, inr, arith, rules, le_refl}
 use Rattle.std.specs.Prelude.{is_none, filter}
 use Rattle.std.specs.List.{flat_map}
-use Rattle.pawk_token.specs.Bytes.{Text}
-use Rattle.pawk_token.specs.Vocabulary.{is_among, is_variable, is_assignable_variable, is_run_variable}
-use Rattle.pawk_syntax_program.specs.Item.{Part, define}
-use Rattle.pawk_syntax_uses.specs.Functions.{function_of}
-use Rattle.pawk_syntax_kinds.specs.Demands.{Kinds, AreKinds}
+use Rattle.pawk_lex.specs.Bytes.{Text}
+use Rattle.pawk_lex.specs.Vocabulary.{is_among, is_variable, is_assignable_variable, is_run_variable}
+use Rattle.pawk_syntax_tree.specs.Item.{Part, define}
+use Rattle.pawk_syntax_check.specs.Functions.{function_of}
+use Rattle.pawk_syntax_check.specs.Demands.{Kinds, AreKinds}
 use Rattle.pawk_syntax_check.specs.Names.{is_item, fits_parameter, fit_parameters, head_fits, heads_fit}
-use Rattle.pawk_syntax_expressions.specs.Expressions.{eres_of_program}
+use Rattle.pawk_syntax_grammar.specs.Expressions.{eres_of_program}
 use Rattle.pawk_code.specs.declared.leaf.Special.{Special}
 use Rattle.pawk_code.specs.declared.leaf.Special.TheVariants as special
 use Rattle.pawk_code.specs.FirstSlots.{first_scalars}
-use Rattle.pawk_scope.specs.Slots.{place, with_texts}
-use Rattle.pawk_scope.specs.Scopes.{Globals, owner}
+use Rattle.pawk_resolve.specs.Slots.{place, with_texts}
+use Rattle.pawk_resolve.specs.Scopes.{Globals, owner}
 use Rattle.pawk_resolve.specs.ResolvedPrograms.{global_names, is_global_array, is_global_scalar, function_name, global_scope, function_scope}
 use Rattle.pawk_resolve_law.specs.Names.{AreDifferent, special_name, AreTables}
 use Rattle.pawk_resolve_law.specs.Programs.{names_of}

@@ -7,7 +7,7 @@ use Rattle.pawk_code.specs.declared.name.Variable.TheVariants as variable
 use Rattle.pawk_code.specs.Expressions.{Expr, numeric, assign, change, step}
 use Rattle.pawk_code.specs.Calm.{are_calm}
 use Rattle.pawk_code.specs.Statements.{Simple, drop, set, add, count, print, printf, delete, clear, Leave, exit, return, Head, Stmt, simple, leave, when, choose, repeat, do_while, loop, walk, Stmts, done, next}
-use Rattle.pawk_scope.specs.Scopes.{Scope}
+use Rattle.pawk_resolve.specs.Scopes.{Scope}
 use Rattle.pawk_resolve_law.specs.Fits.{FitsGlobal, FitsLocal, FitsArray, Fits, FitsAll, FitsPlace, FitsFormat}
 
 -- no other statement drops the value of this expression

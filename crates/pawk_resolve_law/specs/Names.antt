@@ -1,14 +1,14 @@
 -- The names that slots stand for.
 use Rattle.std.specs.Prelude.{◌≡◌, ℕ, zero, suc, List, [], ◌∷◌, None, false, codes}
-use Rattle.pawk_token.specs.Bytes.{Text}
+use Rattle.pawk_lex.specs.Bytes.{Text}
 use Rattle.pawk_code.specs.declared.name.Array.{Array}
 use Rattle.pawk_code.specs.declared.name.Array.TheVariants as array
 use Rattle.pawk_code.specs.declared.name.Variable.{Variable}
 use Rattle.pawk_code.specs.declared.name.Variable.TheVariants as variable
 use Rattle.pawk_code.specs.declared.leaf.Special.{Special}
 use Rattle.pawk_code.specs.declared.leaf.Special.TheVariants as special
-use Rattle.pawk_scope.specs.Slots.{place}
-use Rattle.pawk_scope.specs.Scopes.{Scope, is_array}
+use Rattle.pawk_resolve.specs.Slots.{place}
+use Rattle.pawk_resolve.specs.Scopes.{Scope, is_array}
 
 -- the text in this place, counted from 0
 abbrev pub name_at : List Text → ℕ → Text
@@ -16,7 +16,7 @@ name_at [] n = []
 name_at (x ∷ xs) zero = x
 name_at (x ∷ xs) (suc n) = name_at xs n
 
--- each stands once
+-- each occurs once
 abbrev pub AreDifferent : List Text → Type 0
 AreDifferent [] = Unit {0}
 AreDifferent (x ∷ xs) = (place xs x ≡ None) × AreDifferent xs

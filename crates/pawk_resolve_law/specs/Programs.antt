@@ -1,16 +1,16 @@
 -- Programs: their items by what they are, the items that code is another writing of, and code in normal form. The order between
 -- actions of BEGIN, rules, actions of END and functions does not matter (POSIX.1-2017, awk, "Overall Program Structure").
 use Rattle.std.specs.Prelude.{◌≡◌, ℕ, suc, Bool, true, false, List, [], ◌∷◌, ◌++◌, map, filter}
-use Rattle.pawk_token.specs.Bytes.{Text}
-use Rattle.pawk_syntax_program.specs.Statement.{Stmts as TreeStmts}
-use Rattle.pawk_syntax_program.specs.Item.{Part, begin, end, define}
-use Rattle.pawk_syntax_program.specs.Item as item
-use Rattle.pawk_syntax_kinds.specs.Demands.{Kinds}
+use Rattle.pawk_lex.specs.Bytes.{Text}
+use Rattle.pawk_syntax_tree.specs.Statement.{Stmts as TreeStmts}
+use Rattle.pawk_syntax_tree.specs.Item.{Part, begin, end, define}
+use Rattle.pawk_syntax_tree.specs.Item as item
+use Rattle.pawk_syntax_check.specs.Demands.{Kinds}
 use Rattle.pawk_syntax_check.specs.Words.{is_rule, is_function}
-use Rattle.pawk_syntax_expressions.specs.Expressions.{eres_of_program}
+use Rattle.pawk_syntax_grammar.specs.Expressions.{eres_of_program}
 use Rattle.pawk_code.specs.Statements.{Stmts}
 use Rattle.pawk_code.specs.Programs.{Selector, always, matching, between, Rule, Function, Code}
-use Rattle.pawk_scope.specs.Scopes.{Globals, Scope}
+use Rattle.pawk_resolve.specs.Scopes.{Globals, Scope}
 use Rattle.pawk_resolve.specs.ResolvedPrograms.{globals_of, global_scope, function_scope, kind_of}
 use Rattle.pawk_resolve_law.specs.Names.{AreTables}
 use Rattle.pawk_resolve_law.specs.Spelled.{spelled}

@@ -1,15 +1,16 @@
 -- Trees of a program that passed the checks: each name is one of the scope, of the kind that its use asks; only what may be
--- assigned is; an expression between slashes stands only where it may; calls of built-in functions have their arguments.
+-- assigned is; an expression between slashes occurs only where it may; calls of built-in functions have their
+-- arguments.
 use Rattle.std.specs.Prelude.{◌≡◌, ◌<◌, Bool, true, false, ◌||◌, None, is_some}
-use Rattle.pawk_token.specs.Bytes.{Text}
-use Rattle.pawk_token.specs.declared.token.Builtin.{Builtin}
-use Rattle.pawk_token.specs.declared.token.Builtin.TheVariants as b
+use Rattle.pawk_lex.specs.Bytes.{Text}
+use Rattle.pawk_lex.specs.declared.token.Builtin.{Builtin}
+use Rattle.pawk_lex.specs.declared.token.Builtin.TheVariants as b
 use Rattle.pawk_scalar.specs.Limits.{number_limit}
 use Rattle.pawk_syntax_tree.specs.declared.tree.Single.TheVariants as single
 use Rattle.pawk_syntax_tree.specs.Tree.{Tree, number, string, ere, variable, element, unary, binary, choice, member, call, builtin, Trees, none, more, takes_ere}
-use Rattle.pawk_syntax_uses.specs.Mentions.{Role, as_target, role_under, role_left}
-use Rattle.pawk_scope.specs.Slots.{place}
-use Rattle.pawk_scope.specs.Scopes.{Scope, is_array, special_of}
+use Rattle.pawk_syntax_check.specs.Mentions.{Role, as_target, role_under, role_left}
+use Rattle.pawk_resolve.specs.Slots.{place}
+use Rattle.pawk_resolve.specs.Scopes.{Scope, is_array, special_of}
 
 module _ (s : Scope) where
   abbrev pub IsExpression : Text → Type 0

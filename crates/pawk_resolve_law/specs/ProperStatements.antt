@@ -1,8 +1,8 @@
 -- Statements of a program that passed the checks.
 use Rattle.std.specs.Prelude.{◌≡◌, None, IfSome}
 use Rattle.pawk_syntax_tree.specs.Tree.{none, more}
-use Rattle.pawk_syntax_program.specs.Statement.{Stmt, eval, print, printf, when, choose, repeat, do_while, loop, walk, go_out, exit_with, return_with, delete, clear, Stmts, done, next}
-use Rattle.pawk_scope.specs.Scopes.{Scope, special_of}
+use Rattle.pawk_syntax_tree.specs.Statement.{Stmt, eval, print, printf, when, choose, repeat, do_while, loop, walk, go_out, exit_with, return_with, delete, clear, Stmts, done, next}
+use Rattle.pawk_resolve.specs.Scopes.{Scope, special_of}
 use Rattle.pawk_resolve_law.specs.Proper.{IsScalar, IsArray, IsProper, AreProper}
 
 module _ (s : Scope) where

@@ -1,12 +1,12 @@
 -- The tree that code is another writing of: names are read back from their slots, and nothing else is forgotten.
 use Rattle.std.specs.Prelude.{ℕ, ℤ, pos, negsuc, []}
-use Rattle.pawk_token.specs.declared.token.Builtin.TheVariants as b
+use Rattle.pawk_lex.specs.declared.token.Builtin.TheVariants as b
 use Rattle.pawk_syntax_tree.specs.declared.tree.Single.TheVariants as single
 use Rattle.pawk_syntax_tree.specs.declared.tree.Double.TheVariants as double
 use Rattle.pawk_syntax_tree.specs.Tree.{Tree, Trees, unary, binary, builtin}
 use Rattle.pawk_syntax_tree.specs.Tree as tree
 use Rattle.pawk_code.specs.Expressions.{Leaf, number, text, global, local, special, field, Expr, leaf, numeric, test, textual, read, choice, assign, call, Exprs, none, more, Place, to_global, to_local, to_element, to_field, Numeric, arithmetic, signed, change, step, function, split, replace, find, NumericFunction, length_of, index_of, whole, Test, compare, both, either, negation, matches, member, Textual, join, suffix, substring, letters, formatted, Pattern, fixed_pattern, spelled_by, FieldsBy, by_fs, by_fixed, by_value, Format, fixed_format, format_of, Argument, pass, pass_array, Arguments, no_arguments, more_arguments}
-use Rattle.pawk_scope.specs.Scopes.{Scope}
+use Rattle.pawk_resolve.specs.Scopes.{Scope}
 use Rattle.pawk_resolve_law.specs.Names.{name_at, special_name, array_name}
 use Rattle.pawk_resolve_law.specs.Words.{sign_word, step_word, arithmetic_word, change_word, relation_word, match_word, count_word, case_word}
 

@@ -4,11 +4,11 @@ use Rattle.std.specs.Option.{option_map}
 use Rattle.pawk_syntax_tree.specs.declared.tree.Double.TheVariants as double
 use Rattle.pawk_syntax_tree.specs.Tree.{Tree, Trees, unary, binary}
 use Rattle.pawk_syntax_tree.specs.Tree as tree
-use Rattle.pawk_syntax_program.specs.declared.statement.Leave.TheVariants as word
-use Rattle.pawk_syntax_program.specs.Statement.{Stmt as TreeStmt, Stmts as TreeStmts}
-use Rattle.pawk_syntax_program.specs.Statement as stmt
+use Rattle.pawk_syntax_tree.specs.declared.statement.Jump.TheVariants as word
+use Rattle.pawk_syntax_tree.specs.Statement.{Stmt as TreeStmt, Stmts as TreeStmts}
+use Rattle.pawk_syntax_tree.specs.Statement as stmt
 use Rattle.pawk_code.specs.Statements.{Simple, drop, set, add, count, print, printf, delete, clear, Leave, break, continue, next_record, next_file, exit, return, Head, Stmt, simple, leave, when, choose, repeat, do_while, loop, walk, Stmts, done, next}
-use Rattle.pawk_scope.specs.Scopes.{Scope}
+use Rattle.pawk_resolve.specs.Scopes.{Scope}
 use Rattle.pawk_resolve_law.specs.Names.{array_name, variable_name}
 use Rattle.pawk_resolve_law.specs.Words.{step_word, add_word}
 use Rattle.pawk_resolve_law.specs.Spelled.{spelled, spelled_all, spelled_place, spelled_format}

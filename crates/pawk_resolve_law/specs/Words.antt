@@ -1,7 +1,7 @@
 -- The operators and functions that words of code stand for.
 use Rattle.std.specs.Prelude.{Bool, true, false}
-use Rattle.pawk_token.specs.declared.token.Builtin.{Builtin}
-use Rattle.pawk_token.specs.declared.token.Builtin.TheVariants as b
+use Rattle.pawk_lex.specs.declared.token.Builtin.{Builtin}
+use Rattle.pawk_lex.specs.declared.token.Builtin.TheVariants as b
 use Rattle.pawk_scalar.specs.declared.arithmetic.Op.{Op}
 use Rattle.pawk_scalar.specs.declared.arithmetic.Op.TheVariants as op
 use Rattle.pawk_syntax_tree.specs.declared.tree.Single.{Single}
@@ -14,8 +14,8 @@ use Rattle.pawk_code.specs.declared.word.Step.{Step}
 use Rattle.pawk_code.specs.declared.word.Step.TheVariants as by
 use Rattle.pawk_code.specs.declared.word.Relation.{Relation}
 use Rattle.pawk_code.specs.declared.word.Relation.TheVariants as relation
-use Rattle.pawk_code.specs.declared.word.Count.{Count}
-use Rattle.pawk_code.specs.declared.word.Count.TheVariants as count
+use Rattle.pawk_code.specs.declared.word.ReplacedMatches.{ReplacedMatches}
+use Rattle.pawk_code.specs.declared.word.ReplacedMatches.TheVariants as count
 use Rattle.pawk_code.specs.declared.word.Case.{Case}
 use Rattle.pawk_code.specs.declared.word.Case.TheVariants as case
 
@@ -62,7 +62,7 @@ abbrev pub match_word : Bool → Double
 match_word true = double.Match
 match_word false = double.NotMatch
 
-abbrev pub count_word : Count → Builtin
+abbrev pub count_word : ReplacedMatches → Builtin
 count_word count.First = b.Sub
 count_word count.All = b.Gsub
 

@@ -3,7 +3,7 @@
 ghost use Rattle.std.specs.Prelude.{◌≡◌};
 ghost use Rattle.pawk_syntax_tree.specs.Tree.{Tree};
 ghost use Rattle.pawk_code.specs.Expressions.{Expr};
-ghost use Rattle.pawk_scope.specs.Scopes.{Scope};
+ghost use Rattle.pawk_resolve.specs.Scopes.{Scope};
 ghost use Rattle.pawk_resolve.specs.Resolved.{resolved};
 ghost use Rattle.pawk_resolve_law.specs.Names.{AreTables};
 ghost use Rattle.pawk_resolve_law.specs.Spelled.{spelled};

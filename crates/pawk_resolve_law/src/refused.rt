@@ -4,8 +4,8 @@ ghost use Rattle.std.specs.Prelude.{◌≡◌, ◌≤◌, ℕ, length, Some};
 ghost use Rattle.pawk_scalar.specs.declared.arithmetic.Op.TheVariants as op;
 ghost use Rattle.pawk_code.specs.Expressions.{Expr, Place, leaf, global, numeric, change};
 ghost use Rattle.pawk_code.specs.Statements.{simple, drop};
-ghost use Rattle.pawk_scope.specs.Slots.{place};
-ghost use Rattle.pawk_scope.specs.Scopes.{Scope};
+ghost use Rattle.pawk_resolve.specs.Slots.{place};
+ghost use Rattle.pawk_resolve.specs.Scopes.{Scope};
 ghost use Rattle.pawk_resolve_law.specs.Names.{name_at};
 ghost use Rattle.pawk_resolve_law.specs.Fits.{Fits};
 ghost use Rattle.pawk_resolve_law.specs.FitsStatements.{FitsStatement};
@@ -16,7 +16,7 @@ pub fn hidden_scalar()
         Fits s (leaf (global n)) → ⊥ }
 {}
 
-/// A slot behind the end of its table.
+/// A slot past the end of its table.
 pub fn slot_past_its_table()
     ensures { (s : Scope) (n : ℕ) → length s.globals.scalars ≤ n → Fits s (leaf (global n)) → ⊥ }
 {}

@@ -2,9 +2,9 @@
 //! nothing.
 
 ghost use Rattle.std.specs.Prelude.{◌≡◌};
-ghost use Rattle.pawk_syntax_program.specs.Statement.{Stmts as TreeStmts};
+ghost use Rattle.pawk_syntax_tree.specs.Statement.{Stmts as TreeStmts};
 ghost use Rattle.pawk_code.specs.Statements.{Stmts};
-ghost use Rattle.pawk_scope.specs.Scopes.{Scope};
+ghost use Rattle.pawk_resolve.specs.Scopes.{Scope};
 ghost use Rattle.pawk_resolve.specs.ResolvedStatements.{resolved_body};
 ghost use Rattle.pawk_resolve_law.specs.Names.{AreTables};
 ghost use Rattle.pawk_resolve_law.specs.SpelledStatements.{spelled_body};

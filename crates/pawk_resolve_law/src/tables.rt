@@ -2,11 +2,11 @@
 
 ghost use Rattle.std.specs.Prelude.{◌≡◌, ◌&&◌, ◌||◌, List};
 ghost use Rattle.std.specs.List.{flat_map};
-ghost use Rattle.pawk_token.specs.Bytes.{Text};
-ghost use Rattle.pawk_token.specs.Vocabulary.{is_among};
-ghost use Rattle.pawk_syntax_program.specs.Item.{Part};
-ghost use Rattle.pawk_syntax_kinds.specs.Demands.{Kinds};
-ghost use Rattle.pawk_syntax_expressions.specs.Expressions.{eres_of_program};
+ghost use Rattle.pawk_lex.specs.Bytes.{Text};
+ghost use Rattle.pawk_lex.specs.Vocabulary.{is_among};
+ghost use Rattle.pawk_syntax_tree.specs.Item.{Part};
+ghost use Rattle.pawk_syntax_check.specs.Demands.{Kinds};
+ghost use Rattle.pawk_syntax_grammar.specs.Expressions.{eres_of_program};
 ghost use Rattle.pawk_code.specs.FirstSlots.{first_scalars};
 ghost use Rattle.pawk_resolve.specs.ResolvedPrograms.{global_names, is_global_array, is_global_scalar};
 ghost use Rattle.pawk_resolve_law.specs.Programs.{names_of};

@@ -6,10 +6,10 @@ use Rattle.std.specs.Str.{bytes_eq}
 use Rattle.std.proofs.lemmas.List.{map-append}
 use Rattle.std.proofs.lemmas.Bool.{cases_Bool}
 use Rattle.std.proofs.lemmas.Slice.Eq.{bytes_eq-Decides}
-use Rattle.pawk_token.specs.Bytes.{Text}
-use Rattle.pawk_token.specs.Vocabulary.{is_among}
-use Rattle.pawk_scope.specs.Slots.{place}
-use Rattle.pawk_scope.specs.Tables.{texts}
+use Rattle.pawk_lex.specs.Bytes.{Text}
+use Rattle.pawk_lex.specs.Vocabulary.{is_among}
+use Rattle.pawk_resolve.specs.Slots.{place}
+use Rattle.pawk_resolve.specs.Tables.{texts}
 
 either_way : (x y : Text) → bytes_eq x y ≡ bytes_eq y x
 either_way x y = elim (cases_Bool (bytes_eq x y)) [

@@ -1,10 +1,10 @@
 -- The expressions between slashes are those of the program.
 use Rattle.std.proofs.Common.{◌≡◌, List, [], ◌∷◌, ◌++◌, refl, ap, ◌∙◌, sym, append_assoc, Option, Some, None}
-use Rattle.pawk_token.specs.Bytes.{Text}
+use Rattle.pawk_lex.specs.Bytes.{Text}
 use Rattle.pawk_syntax_tree.specs.Tree.{Tree, number, string, ere, variable, element, unary, binary, choice, member, call, builtin, Trees, none, more}
-use Rattle.pawk_syntax_program.specs.Statement.{Stmt, eval, print, printf, when, choose, repeat, do_while, loop, walk, go_out, exit_with, return_with, delete, clear, Stmts, done, next}
-use Rattle.pawk_syntax_program.specs.Item.{Part, begin, end, always, matching, between, define}
-use Rattle.pawk_syntax_expressions.specs.Expressions.{in_tree, in_trees, in_option, in_stmt, in_stmts, in_part, eres_of_program}
+use Rattle.pawk_syntax_tree.specs.Statement.{Stmt, eval, print, printf, when, choose, repeat, do_while, loop, walk, go_out, exit_with, return_with, delete, clear, Stmts, done, next}
+use Rattle.pawk_syntax_tree.specs.Item.{Part, begin, end, always, matching, between, define}
+use Rattle.pawk_syntax_grammar.specs.Expressions.{in_tree, in_trees, in_option, in_stmt, in_stmts, in_part, eres_of_program}
 use Rattle.pawk_resolve_program.specs.Texts.{of_tree, of_trees, of_option, of_statement, of_body, of_part, of_parts}
 
 mutual

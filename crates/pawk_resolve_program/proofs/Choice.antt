@@ -1,17 +1,17 @@
 -- The code that kinds give, whichever kinds a program is said to have.
 use Rattle.std.proofs.Common.{◌≡◌, List, [], ◌∷◌, map, Result, Ok, Err, refl, ap, ◌∙◌}
 use Rattle.std.specs.Prelude.{IfOk}
-use Rattle.pawk_token.specs.Bytes.{Text}
+use Rattle.pawk_lex.specs.Bytes.{Text}
 use Rattle.pawk_syntax_tree.specs.declared.tree.Name.{Name as CodeName}
-use Rattle.pawk_syntax_program.specs.Item.{Part, texts as name_texts}
-use Rattle.pawk_syntax_kinds.specs.Tables.{Name}
-use Rattle.pawk_syntax_kinds.specs.Demands.{Kinds, KindsFit, AreKindsOf}
-use Rattle.pawk_syntax_kinds.proofs.Finding.{one_choice}
-use Rattle.pawk_syntax_expressions.specs.Expressions.{eres_of_program}
+use Rattle.pawk_syntax_tree.specs.Item.{Part, texts as name_texts}
+use Rattle.pawk_syntax_check.specs.Tables.{Name}
+use Rattle.pawk_syntax_check.specs.Demands.{Kinds, KindsFit, AreKindsOf}
+use Rattle.pawk_syntax_check.proofs.Finding.{one_choice}
+use Rattle.pawk_syntax_grammar.specs.Expressions.{eres_of_program}
 use Rattle.pawk_code.specs.declared.program.Code.{Code as Answer}
 use Rattle.pawk_code.specs.Programs.{Code}
 use Rattle.pawk_code.specs.ProgramViews.{code_view}
-use Rattle.pawk_scope.specs.Scopes.{Globals}
+use Rattle.pawk_resolve.specs.Scopes.{Globals}
 use Rattle.pawk_resolve.specs.ResolvedPrograms.{globals_of, resolved_items}
 use Rattle.pawk_resolve_program.specs.Texts.{of_parts}
 use Rattle.pawk_resolve_program.specs.Codes.{IsCodeOf}

@@ -5,10 +5,10 @@ use Rattle.std.specs.List.{flat_map}
 use Rattle.std.specs.Option.{option_map}
 use Rattle.std.specs.Str.{bytes_eq}
 use Rattle.std.proofs.lemmas.Bool.{cases_Bool}
-use Rattle.pawk_token.specs.Bytes.{Text}
-use Rattle.pawk_syntax_program.specs.Item.{Part}
-use Rattle.pawk_syntax_kinds.specs.Demands.{Kinds}
-use Rattle.pawk_scope.specs.Slots.{place, slot, with_text, with_texts}
+use Rattle.pawk_lex.specs.Bytes.{Text}
+use Rattle.pawk_syntax_tree.specs.Item.{Part}
+use Rattle.pawk_syntax_check.specs.Demands.{Kinds}
+use Rattle.pawk_resolve.specs.Slots.{place, slot, with_text, with_texts}
 use Rattle.pawk_code.specs.FirstSlots.{first_scalars}
 use Rattle.pawk_resolve.specs.ResolvedPrograms.{is_global_scalar, global_names, scalar_names}
 use Rattle.pawk_resolve_program.specs.FirstSlots.{AreFirst}

@@ -1,3 +1,6 @@
+mod Counts
+mod Walks
+mod Shapes
 pub mod Between
 mod Among
 mod Choice

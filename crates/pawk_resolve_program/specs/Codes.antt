@@ -1,8 +1,8 @@
 -- The code of a program: the one that its kinds give it, of which there is one choice.
 use Rattle.std.specs.Prelude.{◌≡◌, List}
-use Rattle.pawk_syntax_program.specs.Item.{Part}
-use Rattle.pawk_syntax_kinds.specs.Demands.{Kinds, AreKindsOf}
-use Rattle.pawk_syntax_expressions.specs.Expressions.{eres_of_program}
+use Rattle.pawk_syntax_tree.specs.Item.{Part}
+use Rattle.pawk_syntax_check.specs.Demands.{Kinds, AreKindsOf}
+use Rattle.pawk_syntax_grammar.specs.Expressions.{eres_of_program}
 use Rattle.pawk_code.specs.Programs.{Code}
 use Rattle.pawk_resolve.specs.ResolvedPrograms.{resolved_program}
 

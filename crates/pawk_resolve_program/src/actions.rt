@@ -2,17 +2,17 @@
 
 ghost use Rattle.std.specs.Prelude.{◌≡◌, IfOk, map};
 ghost use Rattle.std.specs.List.{flat_map};
-ghost use Rattle.pawk_syntax_program.specs.Item.{part};
+ghost use Rattle.pawk_syntax_tree.specs.Item.{part};
 ghost use Rattle.pawk_code.specs.ProgramViews.{body_view, rule_view, function_view};
-ghost use Rattle.pawk_scope.specs.ScopeViews.{globals_view};
+ghost use Rattle.pawk_resolve.specs.ScopeViews.{globals_view};
 ghost use Rattle.pawk_resolve.specs.ResolvedPrograms as spec;
 
 use crate::items::{begin_of, end_of, function_of, rule_of};
 use crate::vectors::add;
 use pawk_code::program::{Function, Rule};
 use pawk_code::statement::Statement;
-use pawk_scope::scope::Globals;
-use pawk_syntax_program::item::Item;
+use pawk_resolve::scope::GlobalNames;
+use pawk_syntax_tree::item::ProgramItem;
 use std::alloc::{AllocError, Global};
 
 /// What runs before, on and after the records.
@@ -25,9 +25,9 @@ pub struct Actions {
 
 /// The actions of `BEGIN`.
 fn begins<'t>(
-    globals: &Globals<'t>,
+    globals: &GlobalNames<'t>,
     alloc: Global,
-    items: &'t [Item],
+    items: &'t [ProgramItem],
 ) -> Result<Vec<Vec<Statement>>, AllocError>
     ensures { IfOk result (λ v. map body_view v.items ≡
         flat_map (spec.begin_of (globals_view globals.now)) (map part items.now)) }
@@ -42,9 +42,9 @@ fn begins<'t>(
 
 /// The rules.
 fn rules<'t>(
-    globals: &Globals<'t>,
+    globals: &GlobalNames<'t>,
     alloc: Global,
-    items: &'t [Item],
+    items: &'t [ProgramItem],
 ) -> Result<Vec<Rule>, AllocError>
     ensures { IfOk result (λ v. map rule_view v.items ≡
         flat_map (spec.rule_of (globals_view globals.now)) (map part items.now)) }
@@ -59,9 +59,9 @@ fn rules<'t>(
 
 /// The actions of `END`.
 fn ends<'t>(
-    globals: &Globals<'t>,
+    globals: &GlobalNames<'t>,
     alloc: Global,
-    items: &'t [Item],
+    items: &'t [ProgramItem],
 ) -> Result<Vec<Vec<Statement>>, AllocError>
     ensures { IfOk result (λ v. map body_view v.items ≡
         flat_map (spec.end_of (globals_view globals.now)) (map part items.now)) }
@@ -74,11 +74,11 @@ fn ends<'t>(
     Ok(all)
 }
 
-/// The functions.
+/// The code of the functions of a program, in the order of its items.
 pub fn functions<'t>(
-    globals: &Globals<'t>,
+    globals: &GlobalNames<'t>,
     alloc: Global,
-    items: &'t [Item],
+    items: &'t [ProgramItem],
 ) -> Result<Vec<Function>, AllocError>
     ensures { IfOk result (λ v. map function_view v.items ≡
         spec.functions_from (globals_view globals.now) 1 (map part items.now)) }
@@ -93,9 +93,9 @@ pub fn functions<'t>(
 
 /// What runs before, on and after the records.
 pub fn actions_of<'t>(
-    globals: &Globals<'t>,
+    globals: &GlobalNames<'t>,
     alloc: Global,
-    items: &'t [Item],
+    items: &'t [ProgramItem],
 ) -> Result<Actions, AllocError>
     ensures begins { IfOk result (λ a. map body_view a.begins.items ≡
         flat_map (spec.begin_of (globals_view globals.now)) (map part items.now)) }

@@ -2,29 +2,29 @@
 
 ghost use Rattle.std.specs.Prelude.{◌≡◌, ◌++◌, OnOk, IfOk, map, filter};
 ghost use Rattle.std.specs.List.{flat_map};
-ghost use Rattle.pawk_syntax_program.specs.Item.{part};
-ghost use Rattle.pawk_syntax_kinds.specs.Demands.{KindsFit, AreKindsOf};
-ghost use Rattle.pawk_syntax_kinds.specs.KindViews.{kinds_in};
+ghost use Rattle.pawk_syntax_tree.specs.Item.{part};
+ghost use Rattle.pawk_syntax_check.specs.Demands.{KindsFit, AreKindsOf};
+ghost use Rattle.pawk_syntax_check.specs.KindViews.{kinds_in};
 ghost use Rattle.pawk_code.specs.FirstSlots.{first_scalars};
-ghost use Rattle.pawk_scope.specs.Slots.{with_texts, distinct};
-ghost use Rattle.pawk_scope.specs.Tables.{texts as seen_texts};
-ghost use Rattle.pawk_scope.specs.ScopeViews.{table_names, globals_view};
+ghost use Rattle.pawk_resolve.specs.Slots.{with_texts, distinct};
+ghost use Rattle.pawk_resolve.specs.Tables.{texts as seen_texts};
+ghost use Rattle.pawk_resolve.specs.ScopeViews.{table_names, globals_view};
 ghost use Rattle.pawk_resolve.specs.ResolvedPrograms as spec;
 
 use crate::names::global_names;
-use pawk_scope::scope::Globals;
-use pawk_scope::table::Table;
-use pawk_syntax_kinds::kinds::Kinds;
-use pawk_syntax_program::item::Item;
-use pawk_syntax_uses::functions::Functions;
-use pawk_token::vocabulary::is_run_variable;
+use pawk_lex::vocabulary::is_run_variable;
+use pawk_resolve::scope::GlobalNames;
+use pawk_resolve::table::NameTable;
+use pawk_syntax_check::functions::Functions;
+use pawk_syntax_check::kinds::Kinds;
+use pawk_syntax_tree::item::ProgramItem;
 use std::alloc::{AllocError, Global};
 
 /// The scalars of the language that a program may assign.
-fn fixed_scalars<'t>(alloc: Global) -> Result<Table<'t>, AllocError>
+fn fixed_scalars<'t>(alloc: Global) -> Result<NameTable<'t>, AllocError>
     ensures { IfOk result (λ t. table_names t ≡ first_scalars) }
 {
-    let mut table = Table::new(alloc);
+    let mut table = NameTable::new(alloc);
     table.push(b"FS")?;
     table.push(b"OFS")?;
     table.push(b"ORS")?;
@@ -40,7 +40,7 @@ fn scalars<'t>(
     alloc: Global,
     kinds: &Kinds<'t>,
     names: &[&'t [u8]],
-) -> Result<Table<'t>, AllocError>
+) -> Result<NameTable<'t>, AllocError>
     ensures { IfOk result (λ t. table_names t ≡ with_texts first_scalars
         (filter (spec.is_global_scalar (kinds_in kinds.now)) (seen_texts names.now))) }
 {
@@ -54,11 +54,15 @@ fn scalars<'t>(
 }
 
 /// The global arrays among these names.
-fn arrays<'t>(alloc: Global, kinds: &Kinds<'t>, names: &[&'t [u8]]) -> Result<Table<'t>, AllocError>
+fn arrays<'t>(
+    alloc: Global,
+    kinds: &Kinds<'t>,
+    names: &[&'t [u8]],
+) -> Result<NameTable<'t>, AllocError>
     ensures { IfOk result (λ t. table_names t ≡ distinct
         (filter (spec.is_global_array (kinds_in kinds.now)) (seen_texts names.now))) }
 {
-    let mut table = Table::new(alloc);
+    let mut table = NameTable::new(alloc);
     for name in names {
         if kinds.is_array(0, name) {
             table.add(name)?;
@@ -68,12 +72,12 @@ fn arrays<'t>(alloc: Global, kinds: &Kinds<'t>, names: &[&'t [u8]]) -> Result<Ta
 }
 
 /// The functions of a program.
-fn functions<'t>(alloc: Global, items: &'t [Item]) -> Result<Table<'t>, AllocError>
+fn functions<'t>(alloc: Global, items: &'t [ProgramItem]) -> Result<NameTable<'t>, AllocError>
     ensures { IfOk result (λ t. table_names t ≡ flat_map spec.function_name (map part items.now)) }
 {
-    let mut table = Table::new(alloc);
+    let mut table = NameTable::new(alloc);
     for item in items {
-        if let Item::Function(name, _, _) = item {
+        if let ProgramItem::Function(name, _, _) = item {
             table.push(name.text.as_slice())?;
         }
     }
@@ -81,10 +85,10 @@ fn functions<'t>(alloc: Global, items: &'t [Item]) -> Result<Table<'t>, AllocErr
 }
 
 /// Different texts.
-fn different<'t>(alloc: Global, texts: &[&'t [u8]]) -> Result<Table<'t>, AllocError>
+fn different<'t>(alloc: Global, texts: &[&'t [u8]]) -> Result<NameTable<'t>, AllocError>
     ensures { IfOk result (λ t. table_names t ≡ distinct (seen_texts texts.now)) }
 {
-    let mut table = Table::new(alloc);
+    let mut table = NameTable::new(alloc);
     for text in texts {
         table.add(text)?;
     }
@@ -95,8 +99,8 @@ fn different<'t>(alloc: Global, texts: &[&'t [u8]]) -> Result<Table<'t>, AllocEr
 fn variables<'t>(
     alloc: Global,
     kinds: &Kinds<'t>,
-    items: &'t [Item],
-) -> Result<(Table<'t>, Table<'t>), AllocError>
+    items: &'t [ProgramItem],
+) -> Result<(NameTable<'t>, NameTable<'t>), AllocError>
     ensures scalars { IfOk result (λ both. table_names both.0 ≡
         spec.scalar_names (kinds_in kinds.now) (map part items.now)) }
     ensures arrays { IfOk result (λ both. table_names both.1 ≡
@@ -109,7 +113,7 @@ fn variables<'t>(
 }
 
 /// The kinds of the names of a program.
-fn kinds<'t>(alloc: Global, items: &'t [Item]) -> Result<Kinds<'t>, AllocError>
+fn kinds<'t>(alloc: Global, items: &'t [ProgramItem]) -> Result<Kinds<'t>, AllocError>
     ensures { IfOk result (λ k.
         KindsFit (map part items.now) → AreKindsOf (map part items.now) (kinds_in k)) }
 {
@@ -117,12 +121,12 @@ fn kinds<'t>(alloc: Global, items: &'t [Item]) -> Result<Kinds<'t>, AllocError>
     Kinds::new(alloc, &functions, items)
 }
 
-/// The names of a program between whose slashes these texts stand.
+/// The names of a program with these texts between its slashes.
 pub fn globals_of<'t>(
     alloc: Global,
-    items: &'t [Item],
+    items: &'t [ProgramItem],
     texts: &[&'t [u8]],
-) -> Result<Globals<'t>, AllocError>
+) -> Result<GlobalNames<'t>, AllocError>
     ensures kinds { IfOk result (λ g.
         KindsFit (map part items.now) → AreKindsOf (map part items.now) (kinds_in g.kinds)) }
     ensures names { IfOk result (λ g. globals_view g ≡
@@ -132,7 +136,7 @@ pub fn globals_of<'t>(
     let expressions = different(alloc, texts)?;
     let kinds = kinds(alloc, items)?;
     let (scalars, arrays) = variables(alloc, &kinds, items)?;
-    Ok(Globals {
+    Ok(GlobalNames {
         kinds,
         scalars,
         arrays,

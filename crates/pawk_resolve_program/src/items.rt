@@ -3,39 +3,39 @@
 ghost use Rattle.std.specs.Prelude.{◌≡◌, ◌∷◌, [], IfOk, map};
 ghost use Rattle.std.specs.Option.{option_to_list};
 ghost use Rattle.pawk_syntax_tree.specs.Tree.{view as tree_view};
-ghost use Rattle.pawk_syntax_program.specs.Item.{part, seen as tree_seen, texts as name_texts};
+ghost use Rattle.pawk_syntax_tree.specs.Item.{part, seen as tree_seen, texts as name_texts};
 ghost use Rattle.pawk_code.specs.ExpressionViews.{view};
 ghost use Rattle.pawk_code.specs.StatementViews.{seen};
 ghost use Rattle.pawk_code.specs.Programs as code;
 ghost use Rattle.pawk_code.specs.ProgramViews.{body_view, rule_view, selector_view, function_view};
-ghost use Rattle.pawk_scope.specs.ScopeViews.{scope_view, table_names, globals_view};
+ghost use Rattle.pawk_resolve.specs.ScopeViews.{scope_view, table_names, globals_view};
 ghost use Rattle.pawk_resolve.specs.Resolved.{resolved};
 ghost use Rattle.pawk_resolve.specs.ResolvedStatements.{resolved_body};
 ghost use Rattle.pawk_resolve.specs.ResolvedPrograms as spec;
 
+use crate::expression::expression;
 use crate::names::table_of;
+use crate::statement::body;
 use pawk_code::expression::Expr;
-use pawk_code::program::{Function, Kind, Rule, Selector};
+use pawk_code::program::{Function, ParameterKind, Rule, Selector};
 use pawk_code::statement::Statement;
-use pawk_resolve_walk::expression::expression;
-use pawk_resolve_walk::statement::body;
-use pawk_scope::scope::{Globals, Scope};
-use pawk_scope::table::Table;
-use pawk_syntax_program::item::Item;
-use pawk_syntax_program::statement::Statement as TreeStatement;
-use pawk_syntax_tree::tree::{Expr as Tree, Name};
+use pawk_resolve::scope::{GlobalNames, Scope};
+use pawk_resolve::table::NameTable;
+use pawk_syntax_tree::item::ProgramItem;
+use pawk_syntax_tree::statement::StatementTree as TreeStatement;
+use pawk_syntax_tree::tree::{ExpressionTree as Tree, Name};
 use std::alloc::{AllocError, Global};
 
 /// The code of a body outside of functions.
 fn global_body<'t>(
-    globals: &Globals<'t>,
+    globals: &GlobalNames<'t>,
     alloc: Global,
     a: &'t [TreeStatement],
 ) -> Result<Vec<Statement>, AllocError>
     ensures { IfOk result (λ v. seen v.items ≡
         resolved_body (spec.global_scope (globals_view globals.now)) (tree_seen a.now)) }
 {
-    let parameters = Table::new(alloc);
+    let parameters = NameTable::new(alloc);
     let scope = Scope {
         globals,
         item: 0,
@@ -46,14 +46,14 @@ fn global_body<'t>(
 
 /// The code of an expression outside of functions.
 fn global_expression<'t>(
-    globals: &Globals<'t>,
+    globals: &GlobalNames<'t>,
     alloc: Global,
     e: &'t Tree,
 ) -> Result<Expr, AllocError>
     ensures { IfOk result (λ x. view x ≡
         resolved (spec.global_scope (globals_view globals.now)) (tree_view e.now)) }
 {
-    let parameters = Table::new(alloc);
+    let parameters = NameTable::new(alloc);
     let scope = Scope {
         globals,
         item: 0,
@@ -64,36 +64,40 @@ fn global_expression<'t>(
 
 /// The action of `BEGIN`, if the item is one.
 pub fn begin_of<'t>(
-    globals: &Globals<'t>,
+    globals: &GlobalNames<'t>,
     alloc: Global,
-    item: &'t Item,
+    item: &'t ProgramItem,
 ) -> Result<Option<Vec<Statement>>, AllocError>
     ensures { IfOk result (λ o. map body_view (option_to_list o) ≡
         spec.begin_of (globals_view globals.now) (part item.now)) }
 {
     match item {
-        Item::Begin(a) => Ok(Some(global_body(globals, alloc, a)?)),
+        ProgramItem::Begin(a) => Ok(Some(global_body(globals, alloc, a)?)),
         _ => Ok(None),
     }
 }
 
 /// The action of `END`, if the item is one.
 pub fn end_of<'t>(
-    globals: &Globals<'t>,
+    globals: &GlobalNames<'t>,
     alloc: Global,
-    item: &'t Item,
+    item: &'t ProgramItem,
 ) -> Result<Option<Vec<Statement>>, AllocError>
     ensures { IfOk result (λ o. map body_view (option_to_list o) ≡
         spec.end_of (globals_view globals.now) (part item.now)) }
 {
     match item {
-        Item::End(a) => Ok(Some(global_body(globals, alloc, a)?)),
+        ProgramItem::End(a) => Ok(Some(global_body(globals, alloc, a)?)),
         _ => Ok(None),
     }
 }
 
-/// The records for which an expression holds, in a box: where memory is refused behind it, one thing is dropped.
-fn when<'t>(globals: &Globals<'t>, alloc: Global, e: &'t Tree) -> Result<Box<Selector>, AllocError>
+/// The records for which an expression holds, in a box: where memory is refused after it, one thing is dropped.
+fn when<'t>(
+    globals: &GlobalNames<'t>,
+    alloc: Global,
+    e: &'t Tree,
+) -> Result<Box<Selector>, AllocError>
     ensures { IfOk result (λ s. selector_view s.value ≡ code.matching
         (resolved (spec.global_scope (globals_view globals.now)) (tree_view e.now))) }
 {
@@ -103,7 +107,7 @@ fn when<'t>(globals: &Globals<'t>, alloc: Global, e: &'t Tree) -> Result<Box<Sel
 
 /// An expression outside of functions, in a box.
 fn boxed_expression<'t>(
-    globals: &Globals<'t>,
+    globals: &GlobalNames<'t>,
     alloc: Global,
     e: &'t Tree,
 ) -> Result<Box<Expr>, AllocError>
@@ -116,7 +120,7 @@ fn boxed_expression<'t>(
 
 /// A range of records, in a box.
 fn range<'t>(
-    globals: &Globals<'t>,
+    globals: &GlobalNames<'t>,
     alloc: Global,
     e: &'t Tree,
     f: &'t Tree,
@@ -133,7 +137,7 @@ fn range<'t>(
 
 /// A rule on the records that are selected.
 fn rule<'t>(
-    globals: &Globals<'t>,
+    globals: &GlobalNames<'t>,
     alloc: Global,
     selector: Box<Selector>,
     a: &'t [TreeStatement],
@@ -148,40 +152,40 @@ fn rule<'t>(
 
 /// The rule, if the item is one.
 pub fn rule_of<'t>(
-    globals: &Globals<'t>,
+    globals: &GlobalNames<'t>,
     alloc: Global,
-    item: &'t Item,
+    item: &'t ProgramItem,
 ) -> Result<Option<Rule>, AllocError>
     ensures { IfOk result (λ o. map rule_view (option_to_list o) ≡
         spec.rule_of (globals_view globals.now) (part item.now)) }
 {
     match item {
-        Item::Always(a) => rule(globals, alloc, Box::new(alloc, Selector::Always)?, a),
-        Item::When(e, a) => rule(globals, alloc, when(globals, alloc, e)?, a),
-        Item::Range(e, f, a) => rule(globals, alloc, range(globals, alloc, e, f)?, a),
-        Item::Begin(_) | Item::End(_) | Item::Function(_, _, _) => Ok(None),
+        ProgramItem::Always(a) => rule(globals, alloc, Box::new(alloc, Selector::Always)?, a),
+        ProgramItem::When(e, a) => rule(globals, alloc, when(globals, alloc, e)?, a),
+        ProgramItem::Range(e, f, a) => rule(globals, alloc, range(globals, alloc, e, f)?, a),
+        ProgramItem::Begin(_) | ProgramItem::End(_) | ProgramItem::Function(_, _, _) => Ok(None),
     }
 }
 
 /// What a parameter is.
-fn kind_of<'t>(globals: &Globals<'t>, number: usize, name: &'t Name) -> Kind
+fn kind_of<'t>(globals: &GlobalNames<'t>, number: usize, name: &'t Name) -> ParameterKind
     ensures { result ≡ spec.kind_of
         ((globals_view globals.now).kinds (number, name.now.text.items)) }
 {
     if globals.kinds.is_array(number, name.text.as_slice()) {
-        Kind::Array
+        ParameterKind::Array
     } else {
-        Kind::Scalar
+        ParameterKind::Scalar
     }
 }
 
 /// The kinds of the parameters of the item of this number.
 fn kinds_of<'t>(
-    globals: &Globals<'t>,
+    globals: &GlobalNames<'t>,
     alloc: Global,
     number: usize,
     names: &'t [Name],
-) -> Result<Vec<Kind>, AllocError>
+) -> Result<Vec<ParameterKind>, AllocError>
     ensures { IfOk result (λ v. v.items ≡
         map (λ x. spec.kind_of ((globals_view globals.now).kinds (number, x.text.items))) names.now) }
 {
@@ -194,7 +198,7 @@ fn kinds_of<'t>(
 
 /// The code of the body of the item of this number, whose parameters are given.
 fn function_body<'t>(
-    globals: &Globals<'t>,
+    globals: &GlobalNames<'t>,
     alloc: Global,
     number: usize,
     names: &'t [Name],
@@ -215,7 +219,7 @@ fn function_body<'t>(
 
 /// The function in the item of this number, whose parameters are given.
 fn function<'t>(
-    globals: &Globals<'t>,
+    globals: &GlobalNames<'t>,
     alloc: Global,
     number: usize,
     names: &'t [Name],
@@ -231,16 +235,16 @@ fn function<'t>(
 
 /// The function, if the item of this number is one.
 pub fn function_of<'t>(
-    globals: &Globals<'t>,
+    globals: &GlobalNames<'t>,
     alloc: Global,
     number: usize,
-    item: &'t Item,
+    item: &'t ProgramItem,
 ) -> Result<Option<Function>, AllocError>
     ensures { IfOk result (λ o. map function_view (option_to_list o) ≡
         spec.function_at (globals_view globals.now) number (part item.now)) }
 {
     match item {
-        Item::Function(_, names, a) => Ok(Some(function(globals, alloc, number, names, a)?)),
+        ProgramItem::Function(_, names, a) => Ok(Some(function(globals, alloc, number, names, a)?)),
         _ => Ok(None),
     }
 }

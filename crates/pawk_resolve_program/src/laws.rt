@@ -1,8 +1,8 @@
 //! The laws of resolved programs. Each is the contract of a function that does nothing.
 
 ghost use Rattle.std.specs.Prelude.{List};
-ghost use Rattle.pawk_syntax_program.specs.Item.{Part};
-ghost use Rattle.pawk_syntax_kinds.specs.Demands.{Kinds};
+ghost use Rattle.pawk_syntax_tree.specs.Item.{Part};
+ghost use Rattle.pawk_syntax_check.specs.Demands.{Kinds};
 ghost use Rattle.pawk_resolve.specs.ResolvedPrograms.{scalar_names};
 ghost use Rattle.pawk_resolve_program.specs.FirstSlots.{AreFirst};
 

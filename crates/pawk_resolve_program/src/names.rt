@@ -2,25 +2,25 @@
 
 ghost use Rattle.std.specs.Prelude.{◌≡◌, ◌++◌, ◌∷◌, [], OnOk, IfOk, MatchOption, map, filter, not};
 ghost use Rattle.std.specs.List.{flat_map};
-ghost use Rattle.pawk_token.specs.Vocabulary.{is_among};
-ghost use Rattle.pawk_syntax_program.specs.Item.{part, texts as name_texts};
-ghost use Rattle.pawk_syntax_uses.specs.Views.{mention_view};
-ghost use Rattle.pawk_scope.specs.Tables.{texts};
-ghost use Rattle.pawk_scope.specs.ScopeViews.{table_names};
+ghost use Rattle.pawk_lex.specs.Vocabulary.{is_among};
+ghost use Rattle.pawk_syntax_tree.specs.Item.{part, texts as name_texts};
+ghost use Rattle.pawk_syntax_check.specs.Views.{mention_view};
+ghost use Rattle.pawk_resolve.specs.Tables.{texts};
+ghost use Rattle.pawk_resolve.specs.ScopeViews.{table_names};
 ghost use Rattle.pawk_resolve.specs.ResolvedPrograms as spec;
 
-use pawk_scope::table::Table;
-use pawk_syntax_program::item::Item;
+use pawk_resolve::table::NameTable;
+use pawk_syntax_check::item::mentions;
+use pawk_syntax_check::mention::Mention;
+use pawk_syntax_tree::item::ProgramItem;
 use pawk_syntax_tree::tree::Name;
-use pawk_syntax_uses::item::mentions;
-use pawk_syntax_uses::mention::Mention;
 use std::alloc::{AllocError, Global};
 
-/// These names, each with the place where it first stands.
-pub fn table_of<'t>(alloc: Global, names: &'t [Name]) -> Result<Table<'t>, AllocError>
+/// These names, each with the place where it first occurs.
+pub fn table_of<'t>(alloc: Global, names: &'t [Name]) -> Result<NameTable<'t>, AllocError>
     ensures { IfOk result (λ t. table_names t ≡ name_texts names.now) }
 {
-    let mut table = Table::new(alloc);
+    let mut table = NameTable::new(alloc);
     for name in names {
         table.push(name.text.as_slice())?;
     }
@@ -28,12 +28,12 @@ pub fn table_of<'t>(alloc: Global, names: &'t [Name]) -> Result<Table<'t>, Alloc
 }
 
 /// The parameters of an item.
-pub fn parameters<'t>(alloc: Global, item: &'t Item) -> Result<Table<'t>, AllocError>
+pub fn parameters<'t>(alloc: Global, item: &'t ProgramItem) -> Result<NameTable<'t>, AllocError>
     ensures { IfOk result (λ t. table_names t ≡ spec.parameters (part item.now)) }
 {
     match item {
-        Item::Function(_, names, _) => table_of(alloc, names),
-        _ => Ok(Table::new(alloc)),
+        ProgramItem::Function(_, names, _) => table_of(alloc, names),
+        _ => Ok(NameTable::new(alloc)),
     }
 }
 
@@ -52,7 +52,7 @@ fn mentioned<'t>(mention: Mention<'t>) -> Option<&'t Name>
 /// Adds the name that is mentioned as a variable, unless it is a parameter.
 fn add_mention<'t>(
     names: &mut Vec<&'t [u8]>,
-    parameters: &Table<'t>,
+    parameters: &NameTable<'t>,
     mention: Mention<'t>,
 ) -> Result<(), AllocError>
     ensures { OnOk result (texts names.new.items ≡ texts names.old.items ++
@@ -68,7 +68,11 @@ fn add_mention<'t>(
 }
 
 /// Adds the global names of an item.
-fn add_item<'t>(names: &mut Vec<&'t [u8]>, alloc: Global, item: &'t Item) -> Result<(), AllocError>
+fn add_item<'t>(
+    names: &mut Vec<&'t [u8]>,
+    alloc: Global,
+    item: &'t ProgramItem,
+) -> Result<(), AllocError>
     ensures { OnOk result (texts names.new.items ≡
         texts names.old.items ++ spec.global_names (part item.now)) }
 {
@@ -81,7 +85,10 @@ fn add_item<'t>(names: &mut Vec<&'t [u8]>, alloc: Global, item: &'t Item) -> Res
 }
 
 /// The global names of these items.
-pub fn global_names<'t>(alloc: Global, items: &'t [Item]) -> Result<Vec<&'t [u8]>, AllocError>
+pub fn global_names<'t>(
+    alloc: Global,
+    items: &'t [ProgramItem],
+) -> Result<Vec<&'t [u8]>, AllocError>
     ensures { IfOk result (λ v. texts v.items ≡ flat_map spec.global_names (map part items.now)) }
 {
     let mut names = Vec::new(alloc);

@@ -1,11 +1,11 @@
 //! The code of programs.
 
 ghost use Rattle.std.specs.Prelude.{◌≡◌, IfOk, map};
-ghost use Rattle.pawk_syntax_program.specs.Item.{part};
+ghost use Rattle.pawk_syntax_tree.specs.Item.{part};
 ghost use Rattle.pawk_syntax.specs.Programs.{parts};
 ghost use Rattle.pawk_code.specs.ProgramViews.{code_view};
-ghost use Rattle.pawk_scope.specs.Tables.{texts as seen_texts};
-ghost use Rattle.pawk_scope.specs.ScopeViews.{globals_view};
+ghost use Rattle.pawk_resolve.specs.Tables.{texts as seen_texts};
+ghost use Rattle.pawk_resolve.specs.ScopeViews.{globals_view};
 ghost use Rattle.pawk_resolve.specs.ResolvedPrograms as spec;
 ghost use Rattle.pawk_resolve_program.specs.Codes.{IsCodeOf};
 
@@ -13,9 +13,9 @@ use crate::actions::{actions_of, functions};
 use crate::globals::globals_of;
 use crate::texts::texts_of;
 use pawk_code::program::Code;
-use pawk_scope::scope::Globals;
+use pawk_resolve::scope::GlobalNames;
 use pawk_syntax::Program;
-use pawk_syntax_program::item::Item;
+use pawk_syntax_tree::item::ProgramItem;
 use std::alloc::{AllocError, Global};
 
 /// The texts of a table, copied.
@@ -30,7 +30,10 @@ fn copied(alloc: Global, texts: &[&[u8]]) -> Result<Vec<Vec<u8>>, AllocError>
 }
 
 /// The names of the global scalars and arrays.
-fn names(alloc: Global, globals: &Globals<'_>) -> Result<(Vec<Vec<u8>>, Vec<Vec<u8>>), AllocError>
+fn names(
+    alloc: Global,
+    globals: &GlobalNames<'_>,
+) -> Result<(Vec<Vec<u8>>, Vec<Vec<u8>>), AllocError>
     ensures scalars { IfOk result (λ both. map (λ x. x.items) both.0.items ≡
         (globals_view globals.now).scalars) }
     ensures arrays { IfOk result (λ both. map (λ x. x.items) both.1.items ≡
@@ -42,7 +45,11 @@ fn names(alloc: Global, globals: &Globals<'_>) -> Result<(Vec<Vec<u8>>, Vec<Vec<
 }
 
 /// The code of items whose names are given.
-fn code<'t>(alloc: Global, globals: &Globals<'t>, items: &'t [Item]) -> Result<Code, AllocError>
+fn code<'t>(
+    alloc: Global,
+    globals: &GlobalNames<'t>,
+    items: &'t [ProgramItem],
+) -> Result<Code, AllocError>
     ensures { IfOk result (λ c. code_view c ≡
         spec.resolved_items (globals_view globals.now) (map part items.now)) }
 {
@@ -62,7 +69,7 @@ fn code<'t>(alloc: Global, globals: &Globals<'t>, items: &'t [Item]) -> Result<C
 }
 
 /// The code of the items of a program.
-pub fn resolve_items(alloc: Global, items: &[Item]) -> Result<Code, AllocError>
+pub fn resolve_items(alloc: Global, items: &[ProgramItem]) -> Result<Code, AllocError>
     ensures { IfOk result (λ c. IsCodeOf (map part items.now) (code_view c)) }
 {
     let texts = texts_of(alloc, items)?;
@@ -70,7 +77,7 @@ pub fn resolve_items(alloc: Global, items: &[Item]) -> Result<Code, AllocError>
     code(alloc, &globals, items)
 }
 
-/// The code of a program. It is refused for want of memory alone.
+/// The code of a program. It is refused only where an allocation is refused.
 pub fn resolve(alloc: Global, program: &Program) -> Result<Code, AllocError>
     ensures { IfOk result (λ c. IsCodeOf (parts program.now) (code_view c)) }
 {

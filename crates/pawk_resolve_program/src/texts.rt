@@ -2,17 +2,17 @@
 
 ghost use Rattle.std.specs.Prelude.{◌≡◌, ◌++◌, ◌∷◌, [], OnOk, IfOk, map};
 ghost use Rattle.pawk_syntax_tree.specs.Tree.{trees, view, views};
-ghost use Rattle.pawk_syntax_program.specs.Statement.{stmt_view, option_view};
-ghost use Rattle.pawk_syntax_program.specs.Item.{part, seen};
-ghost use Rattle.pawk_scope.specs.Tables.{texts as seen_texts};
+ghost use Rattle.pawk_syntax_tree.specs.Statement.{stmt_view, option_view};
+ghost use Rattle.pawk_syntax_tree.specs.Item.{part, seen};
+ghost use Rattle.pawk_resolve.specs.Tables.{texts as seen_texts};
 ghost use Rattle.pawk_resolve_program.specs.Texts as spec;
 
-use pawk_syntax_program::item::Item;
-use pawk_syntax_program::statement::Statement;
-use pawk_syntax_tree::tree::Expr;
+use pawk_syntax_tree::item::ProgramItem;
+use pawk_syntax_tree::statement::StatementTree;
+use pawk_syntax_tree::tree::ExpressionTree;
 use std::alloc::{AllocError, Global};
 
-/// One more text.
+/// Adds a text at the end of the list.
 fn text<'t>(texts: &mut Vec<&'t [u8]>, new: &'t [u8]) -> Result<(), AllocError>
     ensures { OnOk result (seen_texts texts.new.items ≡ seen_texts texts.old.items ++ new.now ∷ []) }
 {
@@ -22,32 +22,34 @@ fn text<'t>(texts: &mut Vec<&'t [u8]>, new: &'t [u8]) -> Result<(), AllocError>
 
 /// Adds those of an expression.
 #[cycle(expression)]
-fn expression<'t>(texts: &mut Vec<&'t [u8]>, e: &'t Expr) -> Result<(), AllocError>
+fn expression<'t>(texts: &mut Vec<&'t [u8]>, e: &'t ExpressionTree) -> Result<(), AllocError>
     ensures { OnOk result (seen_texts texts.new.items ≡
         seen_texts texts.old.items ++ spec.of_tree (view e.now)) }
 {
     match e {
-        Expr::Number(_) | Expr::String(_) | Expr::Variable(_) => Ok(()),
-        Expr::Ere(bytes) => text(texts, bytes.as_slice()),
-        Expr::Unary(_, a) => expression(texts, a),
-        Expr::Binary(_, a, b) => {
+        ExpressionTree::Number(_) | ExpressionTree::String(_) | ExpressionTree::Variable(_) => Ok(
+            (),
+        ),
+        ExpressionTree::Ere(bytes) => text(texts, bytes.as_slice()),
+        ExpressionTree::Unary(_, a) => expression(texts, a),
+        ExpressionTree::Binary(_, a, b) => {
             expression(texts, a)?;
             expression(texts, b)
         }
-        Expr::Choice(a, b, c) => {
+        ExpressionTree::Choice(a, b, c) => {
             expression(texts, a)?;
             expression(texts, b)?;
             expression(texts, c)
         }
-        Expr::Element(_, es) | Expr::Member(es, _) => list(texts, es),
-        Expr::Call(_, es) => list(texts, es),
-        Expr::Builtin(_, _, es) => list(texts, es),
+        ExpressionTree::Element(_, es) | ExpressionTree::Member(es, _) => list(texts, es),
+        ExpressionTree::Call(_, es) => list(texts, es),
+        ExpressionTree::Builtin(_, _, es) => list(texts, es),
     }
 }
 
 /// Adds those of a list of expressions.
 #[cycle(expression)]
-fn list<'t>(texts: &mut Vec<&'t [u8]>, es: &'t [Expr]) -> Result<(), AllocError>
+fn list<'t>(texts: &mut Vec<&'t [u8]>, es: &'t [ExpressionTree]) -> Result<(), AllocError>
     ensures { OnOk result (seen_texts texts.new.items ≡
         seen_texts texts.old.items ++ spec.of_trees (trees (views es.now))) }
 {
@@ -58,7 +60,7 @@ fn list<'t>(texts: &mut Vec<&'t [u8]>, es: &'t [Expr]) -> Result<(), AllocError>
 }
 
 /// Adds those of an expression that may be missing.
-fn option<'t>(texts: &mut Vec<&'t [u8]>, e: &'t Option<Expr>) -> Result<(), AllocError>
+fn option<'t>(texts: &mut Vec<&'t [u8]>, e: &'t Option<ExpressionTree>) -> Result<(), AllocError>
     ensures { OnOk result (seen_texts texts.new.items ≡
         seen_texts texts.old.items ++ spec.of_option (option_view e.now)) }
 {
@@ -71,9 +73,9 @@ fn option<'t>(texts: &mut Vec<&'t [u8]>, e: &'t Option<Expr>) -> Result<(), Allo
 /// Adds those of the head of `for (a; b; c)`.
 fn head<'t>(
     texts: &mut Vec<&'t [u8]>,
-    a: &'t Option<Expr>,
-    b: &'t Option<Expr>,
-    c: &'t Option<Expr>,
+    a: &'t Option<ExpressionTree>,
+    b: &'t Option<ExpressionTree>,
+    c: &'t Option<ExpressionTree>,
 ) -> Result<(), AllocError>
     ensures { OnOk result (seen_texts texts.new.items ≡ seen_texts texts.old.items ++
         (spec.of_option (option_view a.now) ++ spec.of_option (option_view b.now) ++
@@ -88,8 +90,8 @@ fn head<'t>(
 #[cycle(statement)]
 fn guarded<'t>(
     texts: &mut Vec<&'t [u8]>,
-    statements: &'t [Statement],
-    e: &'t Expr,
+    statements: &'t [StatementTree],
+    e: &'t ExpressionTree,
 ) -> Result<(), AllocError>
     ensures { OnOk result (seen_texts texts.new.items ≡ seen_texts texts.old.items ++
         (spec.of_tree (view e.now) ++ spec.of_body (seen statements.now))) }
@@ -100,35 +102,37 @@ fn guarded<'t>(
 
 /// Adds those of a statement.
 #[cycle(statement)]
-fn statement<'t>(texts: &mut Vec<&'t [u8]>, x: &'t Statement) -> Result<(), AllocError>
+fn statement<'t>(texts: &mut Vec<&'t [u8]>, x: &'t StatementTree) -> Result<(), AllocError>
     ensures { OnOk result (seen_texts texts.new.items ≡
         seen_texts texts.old.items ++ spec.of_statement (stmt_view x.now)) }
 {
     match x {
-        Statement::Leave(_, _) | Statement::DeleteArray(_) => Ok(()),
-        Statement::Expression(e) => expression(texts, e),
-        Statement::Print(es) | Statement::Printf(es) | Statement::Delete(_, es) => list(texts, es),
-        Statement::If(e, a) | Statement::While(e, a) => guarded(texts, a, e),
-        Statement::IfElse(e, a, b) => {
+        StatementTree::Leave(_, _) | StatementTree::DeleteArray(_) => Ok(()),
+        StatementTree::Expression(e) => expression(texts, e),
+        StatementTree::Print(es) | StatementTree::Printf(es) | StatementTree::Delete(_, es) => list(
+            texts, es,
+        ),
+        StatementTree::If(e, a) | StatementTree::While(e, a) => guarded(texts, a, e),
+        StatementTree::IfElse(e, a, b) => {
             guarded(texts, a, e)?;
             body(texts, b)
         }
-        Statement::DoWhile(a, e) => {
+        StatementTree::DoWhile(a, e) => {
             body(texts, a)?;
             expression(texts, e)
         }
-        Statement::For(a, b, c, turn) => {
+        StatementTree::For(a, b, c, turn) => {
             head(texts, a, b, c)?;
             body(texts, turn)
         }
-        Statement::ForIn(_, _, turn) => body(texts, turn),
-        Statement::Exit(e) | Statement::Return(e, _) => option(texts, e),
+        StatementTree::ForIn(_, _, turn) => body(texts, turn),
+        StatementTree::Exit(e) | StatementTree::Return(e, _) => option(texts, e),
     }
 }
 
 /// Adds those of a body.
 #[cycle(statement)]
-fn body<'t>(texts: &mut Vec<&'t [u8]>, statements: &'t [Statement]) -> Result<(), AllocError>
+fn body<'t>(texts: &mut Vec<&'t [u8]>, statements: &'t [StatementTree]) -> Result<(), AllocError>
     ensures { OnOk result (seen_texts texts.new.items ≡
         seen_texts texts.old.items ++ spec.of_body (seen statements.now)) }
 {
@@ -139,14 +143,17 @@ fn body<'t>(texts: &mut Vec<&'t [u8]>, statements: &'t [Statement]) -> Result<()
 }
 
 /// Adds those of an item.
-fn item<'t>(texts: &mut Vec<&'t [u8]>, item: &'t Item) -> Result<(), AllocError>
+fn item<'t>(texts: &mut Vec<&'t [u8]>, item: &'t ProgramItem) -> Result<(), AllocError>
     ensures { OnOk result (seen_texts texts.new.items ≡
         seen_texts texts.old.items ++ spec.of_part (part item.now)) }
 {
     match item {
-        Item::Begin(a) | Item::End(a) | Item::Always(a) | Item::Function(_, _, a) => body(texts, a),
-        Item::When(e, a) => guarded(texts, a, e),
-        Item::Range(e, f, a) => {
+        ProgramItem::Begin(a)
+        | ProgramItem::End(a)
+        | ProgramItem::Always(a)
+        | ProgramItem::Function(_, _, a) => body(texts, a),
+        ProgramItem::When(e, a) => guarded(texts, a, e),
+        ProgramItem::Range(e, f, a) => {
             expression(texts, e)?;
             guarded(texts, a, f)
         }
@@ -154,7 +161,7 @@ fn item<'t>(texts: &mut Vec<&'t [u8]>, item: &'t Item) -> Result<(), AllocError>
 }
 
 /// The texts of the expressions between the slashes of a program, in the order of its text.
-pub fn texts_of<'t>(alloc: Global, items: &'t [Item]) -> Result<Vec<&'t [u8]>, AllocError>
+pub fn texts_of<'t>(alloc: Global, items: &'t [ProgramItem]) -> Result<Vec<&'t [u8]>, AllocError>
     ensures { IfOk result (λ v. seen_texts v.items ≡ spec.of_parts (map part items.now)) }
 {
     let mut texts = Vec::new(alloc);

@@ -119,7 +119,7 @@ tail_spelled whole (Some ds) (Some e) rest w f h =
     let none : prefix_len is_digit (exponent_text (Some e) ++ rest) ≡ 0 = rw (e_no_digit e.letter h.letter) refl in
     rw (whole_tail whole (46 ∷ (ds ++ (exponent_text (Some e) ++ rest))) w, point_tail ds (exponent_text (Some e) ++ rest) f, none, (e_len e rest h).1) (omega arith)
 
--- a digit stands before or after the point
+-- a digit is before or after the point
 pub digit_spelled : (whole : List ℕ) (fr : Option (List ℕ)) (x : List ℕ) → AreDigits whole → AreDigits (fraction_digits fr) → 0 < length whole + length (fraction_digits fr) → has_digit (whole ++ (fraction_text fr ++ x)) ≡ true
 digit_spelled (d ∷ whole) fr x w f h = rw w.0 refl
 digit_spelled [] None x w f h = absurd (omega arith)

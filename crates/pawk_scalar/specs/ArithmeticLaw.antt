@@ -16,7 +16,7 @@ pub record IsRemainder (x y z : ℤ) : Type 0 where
   pub sign : (z ≡ pos 0) ⊎ (is_below_zero z ≡ is_below_zero x)
 
 pub record ArithmeticLaw (x y : ℤ) : Type 0 where
-  -- the quotient is the number that times y is x, and there is none exactly where the fault is told
+  -- the quotient is the number that times y is x, and there is none exactly where the fault is reported
   pub exact_quotient : is_zero y ≡ false → (z : ℤ) → (quotient x y ≡ Ok z) ↔ (z *ℤ y ≡ x)
   pub no_quotient : is_zero y ≡ false → (quotient x y ≡ Err Inexact) ↔ ((z : ℤ) → z *ℤ y ≡ x → ⊥)
   -- the remainder is one, and the only one

@@ -38,7 +38,7 @@ abbrev pub fraction_digits : Option (List ℕ) → List ℕ
 fraction_digits None = []
 fraction_digits (Some ds) = ds
 
--- each part is what it is to be, and a digit stands before or after the point
+-- each part is what it is to be, and a digit is before or after the point
 pub record IsProper (p : Parts) : Type 0 where
   pub sign : IfSome p.sign IsSign
   pub whole : AreDigits p.whole
@@ -123,7 +123,7 @@ has_fraction s = begins is_point s && begins is_digit (drop 1 s)
 abbrev pub has_exponent : List ℕ → Bool
 has_exponent s = begins is_e s && begins is_digit (without_sign (drop 1 s))
 
--- the number of a numeral that begins with digits, so many that write this value, and goes on so
+-- the number of a numeral that begins with `count` digits that write this value, and goes on so
 abbrev pub number_of_digits : Bool → ℕ → ℕ → List ℕ → Result ℤ Fault
 number_of_digits negative count value rest =
     if has_fraction rest then Err Numeral else

@@ -6,7 +6,7 @@ ghost use Rattle.pawk_scalar.specs.Conversion.{num_of, text_of, truth_of, truth_
 ghost use Rattle.pawk_scalar.specs.Conversion as spec;
 
 use crate::faults::Fault;
-use crate::look::{candidate_number, looks};
+use crate::look::candidate_number;
 use crate::numeral::{number_of, short_number};
 use crate::values::{Value, ValueRef, lend};
 use itoa::Buffer;
@@ -31,18 +31,6 @@ pub fn to_num_lent(value: ValueRef<'_>) -> Result<i64, Fault>
             Some(number) => Ok(number),
             None => number_of(text),
         },
-    }
-}
-
-/// Whether a lent value is numeric: a number, an uninitialised value, or a candidate all of which is
-/// a numeral, blanks at both ends aside. It takes no memory.
-pub fn is_numeric(value: ValueRef<'_>) -> bool
-    ensures { result ≡ spec.is_numeric (lent_value value.entry) }
-{
-    match value {
-        ValueRef::Uninit | ValueRef::Num(_) => true,
-        ValueRef::Text(_) => false,
-        ValueRef::Maybe(text) => looks(text),
     }
 }
 

@@ -12,7 +12,7 @@ use crate::bytes::{is_blank_byte, is_digit_byte};
 use crate::faults::Fault;
 use crate::limits::NUMBER_LIMIT;
 
-/// It stands for all sizes above the size of the least number.
+/// The value that stands for all sizes above the size of the least number.
 const PAST_LIMIT: u64 = NUMBER_LIMIT + 1;
 
 /// The digits in front of a text.

@@ -1,15 +1,15 @@
 -- Answers for settings.
 use Rattle.std.proofs.Common.{◌≡◌, ℕ, Bool, true, false, List, Option, Some, None, refl, sym, ◌∙◌, ap, subst}
 use Rattle.std.specs.Prelude.{◌||◌, ◌&&◌, nat_le, is_some, Result}
-use Rattle.pawk_token.specs.Bytes.{Text}
-use Rattle.pawk_token.specs.Vocabulary.{is_run_variable}
-use Rattle.pawk_syntax_program.specs.Item.{Part}
-use Rattle.pawk_syntax_uses.specs.Functions.{function_of, or_else}
-use Rattle.pawk_syntax_uses.specs.FunctionViews.{function_under}
-use Rattle.pawk_syntax_uses.specs.declared.functions.Functions.{Functions}
-use Rattle.pawk_syntax_kinds.specs.declared.kinds.Kinds.{Kinds as CodeKinds}
-use Rattle.pawk_syntax_kinds.specs.Demands.{Kinds, KindsFit, AreKindsOf}
-use Rattle.pawk_syntax_kinds.specs.KindViews.{kinds_in}
+use Rattle.pawk_lex.specs.Bytes.{Text}
+use Rattle.pawk_lex.specs.Vocabulary.{is_run_variable}
+use Rattle.pawk_syntax_tree.specs.Item.{Part}
+use Rattle.pawk_syntax_check.specs.Functions.{function_of, or_else}
+use Rattle.pawk_syntax_check.specs.FunctionViews.{function_under}
+use Rattle.pawk_syntax_check.specs.declared.functions.Functions.{Functions}
+use Rattle.pawk_syntax_check.specs.declared.kinds.Kinds.{Kinds as CodeKinds}
+use Rattle.pawk_syntax_check.specs.Demands.{Kinds, KindsFit, AreKindsOf}
+use Rattle.pawk_syntax_check.specs.KindViews.{kinds_in}
 use Rattle.pawk_settings.specs.declared.refusal.SettingsRefusal.{SettingsRefusal}
 use Rattle.pawk_settings.specs.declared.refusal.SettingsRefusal.TheVariants.{Budget}
 use Rattle.pawk_settings.specs.declared.settings.Settings.{Settings}

@@ -1,7 +1,7 @@
 -- What a value stands for, byte by byte.
 use Rattle.std.proofs.Common.{◌≡◌, ℕ, zero, suc, ◌-◌, ◌≤◌, [], ◌∷◌, ◌++◌, drop, Option, Some, None, refl, sym, ◌∙◌, ap, arith, append_assoc, append-nil}
 use Rattle.std.specs.Option.{option_map}
-use Rattle.pawk_token.specs.Bytes.{Text}
+use Rattle.pawk_lex.specs.Bytes.{Text}
 use Rattle.pawk_settings.specs.Escapes.{value_byte, value_from, value_text, before_rest}
 
 behind : (n : ℕ) (z : Text) → value_from n z ≡ value_text (drop n z)

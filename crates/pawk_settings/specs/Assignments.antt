@@ -4,11 +4,11 @@ use Rattle.std.specs.Option.{is_none}
 use Rattle.std.specs.List.{list_all}
 use Rattle.std.specs.Str.{bytes_eq}
 use Rattle.std.specs.Char.{is_ascii_alphabetic}
-use Rattle.pawk_token.specs.Bytes.{Text, is_name_byte}
-use Rattle.pawk_token.specs.Vocabulary.{reserved_word, builtin, is_left_out, getline, is_run_variable}
-use Rattle.pawk_syntax_program.specs.Item.{Part}
-use Rattle.pawk_syntax_uses.specs.Functions.{function_of, or_else}
-use Rattle.pawk_syntax_kinds.specs.Demands.{Kinds}
+use Rattle.pawk_lex.specs.Bytes.{Text, is_name_byte}
+use Rattle.pawk_lex.specs.Vocabulary.{reserved_word, builtin, is_left_out, getline, is_run_variable}
+use Rattle.pawk_syntax_tree.specs.Item.{Part}
+use Rattle.pawk_syntax_check.specs.Functions.{function_of, or_else}
+use Rattle.pawk_syntax_check.specs.Demands.{Kinds}
 use Rattle.pawk_settings.specs.declared.refusal.SettingsRefusal.{SettingsRefusal}
 use Rattle.pawk_settings.specs.declared.refusal.SettingsRefusal.TheVariants.{Name, Target, Escape, Budget}
 use Rattle.pawk_settings.specs.Escapes.{value_text}
@@ -36,8 +36,8 @@ is_function ps x = is_some (function_of ps x)
 abbrev pub is_no_target : Kinds → List Part → Text → Bool
 is_no_target k ps x = is_run_variable x || is_word x || k (0, x) || is_function ps x
 
--- why an assignment is refused, a name and what it is given, where a test tells what may not be assigned: the first of these
--- that holds
+-- why an assignment is refused, a name and what it is given, where a test says what may not be assigned: the first of
+-- these that holds
 abbrev pub assignment_fault : (Text → Bool) → Text × Text → Option SettingsRefusal
 assignment_fault is_refused a =
     if not (is_name a.0) then Some Name

@@ -2,7 +2,7 @@
 -- Sequences in awk"). A quote and a newline stand for themselves.
 use Rattle.std.specs.Prelude.{ℕ, zero, suc, ◌-◌, ◌==◌, ◌||◌, if◌then◌else◌, [], ◌∷◌, Option, Some, None}
 use Rattle.std.specs.Option.{option_map}
-use Rattle.pawk_token.specs.Bytes.{Text}
+use Rattle.pawk_lex.specs.Bytes.{Text}
 use Rattle.pawk_lex.specs.Strings.{string_byte}
 
 -- the byte that the front of a value stands for, and how many bytes write it; none where a backslash begins no escape
@@ -15,7 +15,7 @@ abbrev pub before_rest : (ℕ → Option Text) → Option (ℕ × ℕ) → Optio
 before_rest rest None = None
 before_rest rest (Some p) = option_map (λ z. p.0 ∷ z) (rest (p.1 - 1))
 
--- what a value stands for behind so many bytes
+-- what a value stands for after n bytes
 abbrev pub value_from : ℕ → Text → Option Text
 value_from left [] = Some []
 value_from (suc left) (b ∷ z) = value_from left z

@@ -1,14 +1,14 @@
 -- Settings of the code.
 use Rattle.std.specs.Prelude.{◌≡◌, ◌≢◌, ℕ, List, map, Option, Some, None, Result, MatchResult, Vec, Bool, ◌||◌, is_some}
 use Rattle.std.proofs.Common.{Global}
-use Rattle.pawk_token.specs.Bytes.{Text}
-use Rattle.pawk_syntax_program.specs.Item.{Part}
-use Rattle.pawk_token.specs.Vocabulary.{is_run_variable}
-use Rattle.pawk_syntax_uses.specs.declared.functions.Functions.{Functions}
-use Rattle.pawk_syntax_uses.specs.FunctionViews.{function_under}
-use Rattle.pawk_syntax_kinds.specs.declared.kinds.Kinds.{Kinds as CodeKinds}
-use Rattle.pawk_syntax_kinds.specs.Demands.{Kinds, AreKindsOf}
-use Rattle.pawk_syntax_kinds.specs.KindViews.{kinds_in}
+use Rattle.pawk_lex.specs.Bytes.{Text}
+use Rattle.pawk_syntax_tree.specs.Item.{Part}
+use Rattle.pawk_lex.specs.Vocabulary.{is_run_variable}
+use Rattle.pawk_syntax_check.specs.declared.functions.Functions.{Functions}
+use Rattle.pawk_syntax_check.specs.FunctionViews.{function_under}
+use Rattle.pawk_syntax_check.specs.declared.kinds.Kinds.{Kinds as CodeKinds}
+use Rattle.pawk_syntax_check.specs.Demands.{Kinds, AreKindsOf}
+use Rattle.pawk_syntax_check.specs.KindViews.{kinds_in}
 use Rattle.pawk_settings.specs.declared.refusal.SettingsRefusal.{SettingsRefusal}
 use Rattle.pawk_settings.specs.declared.refusal.SettingsRefusal.TheVariants.{Memory}
 use Rattle.pawk_settings.specs.declared.assignment.Assignment.{Assignment}
@@ -32,8 +32,8 @@ pub record AreAsked (assigned : List (Text × Text)) (n : ℕ) (s : Settings) : 
   pub assignments : accepted_texts s.assignments.items ≡ asked_texts assigned
   pub budget : s.budget ≡ n
 
--- settings are accepted exactly where nothing refuses them, and then are what is asked for; otherwise the first fault is told,
--- or want of memory
+-- settings are accepted exactly where nothing refuses them, and then are what is asked for; otherwise the first fault
+-- is reported, or out of memory
 abbrev pub IsAnswerBy : (Text → Bool) → List (Text × Text) → ℕ → Result Settings SettingsRefusal → Type 0
 IsAnswerBy is_refused assigned n r =
     MatchResult r (λ s. (settings_fault is_refused assigned n ≡ None) × AreAsked assigned n s)

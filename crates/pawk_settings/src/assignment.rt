@@ -3,16 +3,16 @@
 ghost use Rattle.std.specs.Prelude.{◌≡◌, ◌≢◌, ◌≤◌, ◌||◌, length, IfOk, IfSome, MatchResult, OnErr, is_some, Some, None};
 ghost use Rattle.std.specs.Option.{is_none};
 ghost use Rattle.std.specs.List.{list_all};
-ghost use Rattle.pawk_token.specs.Bytes as bytes;
+ghost use Rattle.pawk_lex.specs.Bytes as bytes;
 ghost use Rattle.pawk_settings.specs.Escapes as escapes;
 ghost use Rattle.pawk_settings.specs.SettingsViews.{is_refused_under, IsReading};
 ghost use Rattle.pawk_settings.specs.Assignments as spec;
 
 use crate::refusal::SettingsRefusal;
 use pawk_lex::strings::string_byte;
-use pawk_syntax_kinds::kinds::Kinds;
-use pawk_syntax_uses::functions::Functions;
-use pawk_token::vocabulary::{builtin, is_left_out, is_run_variable, reserved_word};
+use pawk_lex::vocabulary::{builtin, is_left_out, is_run_variable, reserved_word};
+use pawk_syntax_check::functions::Functions;
+use pawk_syntax_check::kinds::Kinds;
 use std::alloc::{AllocError, Global};
 
 /// A variable that is assigned before the program runs, and its value, a candidate.
@@ -29,14 +29,14 @@ fn is_first_name_byte(byte: u8) -> bool
     byte.is_ascii_alphabetic() || byte == b'_'
 }
 
-/// Whether a byte may stand in a name.
+/// Whether a byte may occur in a name.
 fn is_name_byte(byte: u8) -> bool
     ensures { result ≡ bytes.is_name_byte byte }
 {
     byte.is_ascii_alphanumeric() || byte == b'_'
 }
 
-/// Whether all bytes may stand in a name.
+/// Whether all bytes may occur in a name.
 fn are_name_bytes(text: &[u8]) -> bool
     ensures { result ≡ list_all bytes.is_name_byte text.now }
 {

@@ -1,15 +1,15 @@
 //! Settings.
 
 ghost use Rattle.std.specs.Prelude.{◌≡◌, ◌&&◌, nat_le, map};
-ghost use Rattle.pawk_syntax_program.specs.Item.{part};
+ghost use Rattle.pawk_syntax_tree.specs.Item.{part};
 ghost use Rattle.pawk_settings.specs.Limits.{budget_limit};
 ghost use Rattle.pawk_settings.specs.SettingsViews.{asked, is_refused_under, IsAnswer, AreReadings};
 
 use crate::assignment::Assignment;
 use crate::refusal::SettingsRefusal;
-use pawk_syntax_kinds::kinds::Kinds;
-use pawk_syntax_program::item::Item;
-use pawk_syntax_uses::functions::Functions;
+use pawk_syntax_check::functions::Functions;
+use pawk_syntax_check::kinds::Kinds;
+use pawk_syntax_tree::item::ProgramItem;
 use std::alloc::Global;
 
 /// The greatest budget.
@@ -23,7 +23,7 @@ pub struct Settings {
     budget: u64,
 }
 
-/// The assignments, where all of them may be; of several faults the first is told.
+/// The assignments, where all of them may be; of several faults the first is reported.
 fn read_assignments<'t>(
     alloc: Global,
     kinds: &Kinds<'t>,
@@ -51,11 +51,11 @@ fn is_budget(budget: u64) -> bool
 impl Settings {
     /// The settings of a run of a program with these items: assignments of values to names, as `-v`
     /// and `-F` give them, and a budget. The assignments are looked at in their order, and the first
-    /// that is at fault is told, by the first of its faults: `Name`, `Target`, `Escape`; `Budget` where
+    /// that is at fault is reported, by the first of its faults: `Name`, `Target`, `Escape`; `Budget` where
     /// no assignment is at fault, and `Memory` where memory was refused.
     pub fn new<'t>(
         alloc: Global,
-        items: &'t [Item],
+        items: &'t [ProgramItem],
         assigned: &'t [(Vec<u8>, Vec<u8>)],
         budget: u64,
     ) -> Result<Settings, SettingsRefusal>
@@ -80,7 +80,7 @@ impl Settings {
         self.assignments.as_slice()
     }
 
-    /// The budget.
+    /// The budget of steps that the settings give a run.
     pub fn budget(&self) -> u64
         ensures { result ≡ self.now.budget }
     {

@@ -10,7 +10,7 @@ use Rattle.std.proofs.lemmas.Map.Keys.{IsDistinct-head, IsDistinct-tail}
 use lib.Dec.{T}
 use Rattle.pawk_array.specs.Entries.{order}
 use Rattle.pawk_array.proofs.EntriesLemmas.{total, holds}
-use Rattle.pawk_token.specs.Vocabulary.{is_among}
+use Rattle.pawk_lex.specs.Vocabulary.{is_among}
 use Rattle.pawk_store.specs.Listings.{Named, Content, with_all, all_globals}
 use Rattle.pawk_store.specs.ListingLaw.{IsInOrder, ListingLaw, names_of}
 

@@ -3,7 +3,7 @@ use Rattle.std.proofs.Common.{◌≡◌, ℕ, Bool, true, false, List, [], ◌�
 use Rattle.std.specs.Prelude.{◌||◌, Vec}
 use Rattle.std.specs.declared.alloc.Global.{Global}
 use Rattle.std.specs.Str.{bytes_eq}
-use Rattle.pawk_token.specs.Vocabulary.{is_among}
+use Rattle.pawk_lex.specs.Vocabulary.{is_among}
 use Rattle.pawk_store.specs.Openings.{texts_of, stands_in, with_name}
 
 among_more : (w : List ℕ) (es : List (Vec ℕ Global)) → is_among (texts_of es) w ≡ stands_in w es

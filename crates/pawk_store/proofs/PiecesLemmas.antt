@@ -8,7 +8,7 @@ use Rattle.pawk_value.specs.Value.{Val, Maybe}
 use Rattle.pawk_array.specs.Entries.{Entries, put, with_pieces}
 use Rattle.pawk_array.specs.Texts.{texts_in}
 use Rattle.pawk_world.specs.Worlds.{gives}
-use Rattle.pawk_world.specs.Writings.{fill_behind}
+use Rattle.pawk_world.specs.Writings.{fill_after}
 use Rattle.pawk_store.specs.Globals.{Globals, array_at, with_array, calls}
 
 -- an element that was set is changed
@@ -25,7 +25,7 @@ changed f n es g = ap (λ xs. record g { arrays = xs }) (set_changed f g.arrays 
 
 -- the pieces of a text that are put in an array one by one
 pub filled : (n k : ℕ) (text : List ℕ) (rs : List (Range ℕ)) (g : Globals) →
-    fill_behind calls n k (texts_in text rs) g ≡ gives tt (with_array n (with_pieces k text rs (array_at g n)) g)
+    fill_after calls n k (texts_in text rs) g ≡ gives tt (with_array n (with_pieces k text rs (array_at g n)) g)
 filled n k text [] g = ap (gives tt) (sym (again n g))
 filled n k text (r ∷ rs) g =
     let es = put (decimal (k + 1)) (Maybe (slice_range text r.start r.end)) (array_at g n) in
@@ -35,14 +35,14 @@ filled n k text (r ∷ rs) g =
 -- the same for the lists of the code
 pub filled_at : (scalars : List Val) (arrays : List Entries) (g : Globals) (n : ℕ) (text : List ℕ) (rs : List (Range ℕ)) (old new : Entries) →
     record { scalars = scalars; arrays = arrays } ≡ g → n < length arrays → old ≡ get_or arrays n old → new ≡ with_pieces 0 text rs old →
-    fill_behind calls n 0 (texts_in text rs) g ≡ gives tt (record { scalars = scalars; arrays = slice_set arrays n new })
+    fill_after calls n 0 (texts_in text rs) g ≡ gives tt (record { scalars = scalars; arrays = slice_set arrays n new })
 filled_at scalars arrays g n text rs old new is below at e =
-    ap (fill_behind calls n 0 (texts_in text rs)) (sym is)
+    ap (fill_after calls n 0 (texts_in text rs)) (sym is)
     ∙ filled n 0 text rs (record { scalars = scalars; arrays = arrays })
     ∙ ap (λ es. gives tt (record { scalars = scalars; arrays = slice_set arrays n (with_pieces 0 text rs es) })) (sym (get_or_read arrays n old below at []))
     ∙ ap (λ es. gives tt (record { scalars = scalars; arrays = slice_set arrays n es })) (sym e)
 
 -- past the last array they are lost
-pub filled_past : (g : Globals) (n : ℕ) (text : List ℕ) (rs : List (Range ℕ)) → length g.arrays ≤ n → fill_behind calls n 0 (texts_in text rs) g ≡ gives tt g
+pub filled_past : (g : Globals) (n : ℕ) (text : List ℕ) (rs : List (Range ℕ)) → length g.arrays ≤ n → fill_after calls n 0 (texts_in text rs) g ≡ gives tt g
 filled_past g n text rs past =
     filled n 0 text rs g ∙ ap (λ xs. gives tt (record g { arrays = xs })) (set_past g.arrays n (with_pieces 0 text rs (array_at g n)) past)

@@ -6,7 +6,7 @@ use Rattle.std.specs.FinMap.Entries.{find, is_sorted}
 use Rattle.pawk_value.specs.Value.{Val}
 use Rattle.pawk_array.specs.Entries.{order}
 use Rattle.pawk_code.specs.declared.leaf.Special.{Special}
-use Rattle.pawk_token.specs.Vocabulary.{is_among}
+use Rattle.pawk_lex.specs.Vocabulary.{is_among}
 use Rattle.pawk_store.specs.Globals.{Globals}
 use Rattle.pawk_store.specs.Listings.{Named, all_globals, listing}
 

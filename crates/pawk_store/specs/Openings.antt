@@ -5,7 +5,7 @@ use Rattle.std.specs.declared.alloc.Global.{Global}
 use Rattle.std.specs.List.{list_any}
 use Rattle.std.specs.Str.{bytes_eq}
 use Rattle.pawk_value.specs.Value.{Val, Uninit, Text, Maybe}
-use Rattle.pawk_token.specs.Vocabulary.{is_among}
+use Rattle.pawk_lex.specs.Vocabulary.{is_among}
 use Rattle.pawk_settings.specs.declared.assignment.Assignment.{Assignment}
 use Rattle.pawk_store.specs.Globals.{Globals}
 
@@ -50,7 +50,7 @@ names_with names (a ∷ rest) = names_with (with_name names a.0) rest
 abbrev pub opening_value : List (List ℕ × List ℕ) → List ℕ → Val
 opening_value assignments name = value_after assignments name (first_value name)
 
--- the globals of a program with scalars of these names and so many arrays, where these names are assigned texts
+-- the globals of a program with scalars of these names and this number of arrays, where these names are assigned texts
 abbrev pub opened : List (List ℕ) → ℕ → List (List ℕ × List ℕ) → Globals
 opened names arrays assignments = record {
   scalars = map (opening_value assignments) (names_with names assignments);

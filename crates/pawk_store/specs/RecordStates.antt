@@ -28,7 +28,7 @@ is_empty (Some (b ∷ rs)) = false
 abbrev pub is_paragraph : RecordState → Bool
 is_paragraph s = is_empty s.taken
 
--- the state in which a program of so many rules begins
+-- the state in which a program with this number of rules begins
 abbrev pub opening : ℕ → RecordState
 opening rules = record {
   line = record { text = []; fields = [] };

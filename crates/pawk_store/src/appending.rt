@@ -1,4 +1,4 @@
-//! Texts that are put behind those of values.
+//! Texts that are put after those of values.
 
 ghost use Rattle.std.specs.Prelude.{◌≡◌, ◌++◌, OnOk, is_ok, if◌then◌else◌};
 ghost use Rattle.std.specs.Prelude.{map, slice_index_or, slice_set};
@@ -9,7 +9,7 @@ use pawk_value::{Value, to_text};
 use std::alloc::{AllocError, Global};
 use std::mem::replace;
 
-/// Puts a text behind that of a value, which is a text then, in the room that it has for its text.
+/// Puts a text after that of a value, which is a text then, in the space that it has for its text.
 /// After a refusal of memory the value is as it was.
 fn append(alloc: Global, value: &mut Value, more: &[u8]) -> Result<(), AllocError>
     ensures { shown value.new ≡ (if is_ok result
@@ -31,7 +31,7 @@ fn append(alloc: Global, value: &mut Value, more: &[u8]) -> Result<(), AllocErro
     Ok(())
 }
 
-/// Puts a text behind that of the value in a slot; past the last slot it is lost.
+/// Puts a text after that of the value in a slot; past the last slot it is lost.
 pub(crate) fn append_in(
     alloc: Global,
     values: &mut Vec<Value>,

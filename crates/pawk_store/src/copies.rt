@@ -3,7 +3,7 @@
 ghost use Rattle.std.specs.Prelude.{◌≡◌, map, IfOk};
 ghost use Rattle.pawk_value.specs.Value.{shown};
 
-use pawk_array::Array;
+use pawk_array::AssociativeArray;
 use pawk_value::{Value, copy_value};
 use std::alloc::{AllocError, Global};
 
@@ -19,7 +19,10 @@ pub(crate) fn copy_scalars(alloc: Global, scalars: &[Value]) -> Result<Vec<Value
 }
 
 /// Copies of arrays that hold their own bytes.
-pub(crate) fn copy_arrays(alloc: Global, arrays: &[Array]) -> Result<Vec<Array>, AllocError>
+pub(crate) fn copy_arrays(
+    alloc: Global,
+    arrays: &[AssociativeArray],
+) -> Result<Vec<AssociativeArray>, AllocError>
     ensures { IfOk result (λ copy. copy.items ≡ arrays.now) }
 {
     let mut copy = Vec::with_capacity(alloc, arrays.len())?;

@@ -9,7 +9,7 @@ ghost use Rattle.pawk_store.specs.Openings.{texts_of, pairs_of, opened};
 use crate::appending::append_in;
 use crate::copies::{copy_arrays, copy_scalars};
 use crate::openings::{empty_arrays, extra_names, push_opening_values};
-use pawk_array::{Array, Element, Texts};
+use pawk_array::{AssociativeArray, Element, Texts};
 use pawk_code::word::Sign;
 use pawk_settings::Assignment;
 use pawk_value::{Fault, Held, Value, ValueRef, assign, hold, lend, to_num, to_num_lent};
@@ -24,7 +24,7 @@ use std::ops::Range;
 pub struct Globals {
     pub(crate) alloc: Global,
     pub(crate) scalars: Vec<Value>,
-    pub(crate) arrays: Vec<Array>,
+    pub(crate) arrays: Vec<AssociativeArray>,
 }
 
 impl Model for Globals {
@@ -69,7 +69,7 @@ fn put_number(values: &mut Vec<Value>, slot: usize, number: i64)
 
 impl Globals {
     /// The globals with which a run begins, for a program with scalars of these names, by their slots,
-    /// and so many arrays: the variables of the language have their values, then the assignments are
+    /// and this number of arrays: the variables of the language have their values, then the assignments are
     /// made in their order (POSIX.1-2017, awk, "Variables and Special Variables"). A name that is
     /// assigned and is not of the program has a slot after those of the program.
     pub fn open(
@@ -225,7 +225,7 @@ impl World for Globals {
     fn keys(&mut self, array: usize) -> Result<Texts, Halt> {
         match self.arrays.get(array) {
             Some(elements) => Ok(elements.keys(self.alloc)?),
-            None => Ok(Array::new(self.alloc).keys(self.alloc)?),
+            None => Ok(AssociativeArray::new(self.alloc).keys(self.alloc)?),
         }
     }
 }

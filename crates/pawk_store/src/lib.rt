@@ -1,4 +1,6 @@
 //! The globals of a run of one thread, and what it keeps beside them.
+//!
+//! `inline(always)` and `inline` mark what every record or number that is assigned passes through (counted by bench/).
 #![tactic(auto)]
 
 mod appending;

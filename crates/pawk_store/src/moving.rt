@@ -6,7 +6,7 @@ ghost use Rattle.pawk_world.specs.Worlds.{scalar};
 ghost use Rattle.pawk_store.specs.Globals.{array_at, value_at, with_array, with_value};
 
 use crate::globals::Globals;
-use pawk_array::Array;
+use pawk_array::AssociativeArray;
 use pawk_value::Value;
 use std::mem::replace;
 
@@ -38,11 +38,11 @@ impl Globals {
     }
 
     /// Takes out an array, which is empty then.
-    pub fn take_array(&mut self, slot: usize) -> Array
+    pub fn take_array(&mut self, slot: usize) -> AssociativeArray
         ensures elements { result ≡ array_at self.old slot }
         ensures globals { self.new ≡ with_array slot [] self.old }
     {
-        let empty = Array::new(self.alloc);
+        let empty = AssociativeArray::new(self.alloc);
         match self.arrays.get_mut(slot) {
             Some(elements) => replace(elements, empty),
             None => empty,
@@ -50,7 +50,7 @@ impl Globals {
     }
 
     /// Puts an array in the place of one; past the last slot it is lost.
-    pub fn put_array(&mut self, slot: usize, elements: Array)
+    pub fn put_array(&mut self, slot: usize, elements: AssociativeArray)
         ensures { self.new ≡ with_array slot elements self.old }
     {
         if slot < self.arrays.len() {

@@ -7,12 +7,12 @@ ghost use Rattle.pawk_array.specs.Entries.{found, keys, Rise};
 ghost use Rattle.pawk_store.specs.Globals.{array_at};
 
 use crate::globals::Globals;
-use pawk_array::{Array, Texts};
+use pawk_array::{AssociativeArray, Texts};
 use pawk_value::ValueRef;
 use std::alloc::AllocError;
 
 /// In each array the keys rise.
-fn order_of_arrays(arrays: &[Array])
+fn order_of_arrays(arrays: &[AssociativeArray])
     ensures { All Rise arrays.now }
 {
     for elements in arrays {
@@ -35,7 +35,7 @@ impl Globals {
         self.arrays.len()
     }
 
-    /// In each array the keys rise: each stands once, in the order of the bytes. It changes nothing.
+    /// In each array the keys rise: each occurs once, in the order of the bytes. It changes nothing.
     pub fn order_law(&self)
         ensures { All Rise self.now.arrays }
     {
@@ -55,7 +55,7 @@ impl Globals {
     {
         match self.arrays.get(array) {
             Some(elements) => elements.keys(self.alloc),
-            None => Array::new(self.alloc).keys(self.alloc),
+            None => AssociativeArray::new(self.alloc).keys(self.alloc),
         }
     }
 }

@@ -1,7 +1,7 @@
 //! What a run keeps beside the globals.
 
 ghost use Rattle.std.specs.Prelude.{◌≡◌, ◌<◌, ◌≤◌, ◌+◌, ◌^◌, IfOk, IfErr, OnOk, Some, None};
-ghost use Rattle.pawk_split.specs.FieldsOf.{IfFault};
+ghost use Rattle.pawk_fields.specs.FieldsOf.{IfFault};
 ghost use Rattle.pawk_input.specs.Input.{item_of};
 ghost use Rattle.pawk_record.specs.Records.{read};
 ghost use Rattle.pawk_value.specs.Value.{lent_value};
@@ -55,7 +55,7 @@ pub struct RecordState<'a> {
 }
 
 impl<'a> RecordState<'a> {
-    /// The state in which a program of so many rules begins.
+    /// The state in which a program with this number of rules begins.
     pub fn new(alloc: Global, rules: usize) -> Result<RecordState<'a>, AllocError>
         ensures { IfOk result (λ s. state_of s ≡ spec.opening rules) }
     {

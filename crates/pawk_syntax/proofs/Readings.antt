@@ -1,25 +1,25 @@
 -- What the reading of a program text needs.
 use Rattle.std.proofs.Common.{◌≡◌, ◌≢◌, rules, List, [], ◌∷◌, Option, Some, None, refl, sym, ap, subst, ◌∙◌}
 use Rattle.pawk_syntax_check.specs.Fits.{Fits}
-use Rattle.pawk_token.specs.declared.refusal.SyntaxRefusal.{SyntaxRefusal}
-use Rattle.pawk_token.specs.declared.refusal.SyntaxRefusal.TheVariants as refusal
-use Rattle.pawk_token.specs.Bytes.{Text}
-use Rattle.pawk_token.specs.Tokens.{Tok}
+use Rattle.pawk_lex.specs.declared.refusal.SyntaxRefusal.{SyntaxRefusal}
+use Rattle.pawk_lex.specs.declared.refusal.SyntaxRefusal.TheVariants as refusal
+use Rattle.pawk_lex.specs.Bytes.{Text}
+use Rattle.pawk_lex.specs.Tokens.{Tok}
 use Rattle.pawk_lex.specs.TokenLists.{EndsBy}
-use Rattle.pawk_pattern.specs.Pattern.{Pattern}
-use Rattle.pawk_syntax_program.specs.Item.{Part}
-use Rattle.pawk_syntax_program.specs.ItemCanonical.{canon_program}
-use Rattle.pawk_syntax_program.specs.ItemParse.{program}
-use Rattle.pawk_syntax_program.proofs.ProgramLaws.{read_is_derived, derived_is_read}
-use Rattle.pawk_syntax_program.proofs.ItemLow.{read_is_low}
-use Rattle.pawk_syntax_brackets.proofs.ProgramBrackets.{few_program}
-use Rattle.pawk_syntax_expressions.specs.Expressions.{eres, eres_of_program}
-use Rattle.pawk_syntax_expressions.specs.Reads.{AreSpelled, AreExpressions, Denies}
-use Rattle.pawk_syntax_expressions.proofs.DerivedPrograms.{derived_program}
-use Rattle.pawk_syntax_expressions.proofs.CanonicalTokens.{of_program}
+use Rattle.pawk_ere_syntax.specs.Pattern.{Pattern}
+use Rattle.pawk_syntax_tree.specs.Item.{Part}
+use Rattle.pawk_syntax_tree.specs.ItemCanonical.{canon_program}
+use Rattle.pawk_syntax_tree.specs.ItemParse.{program}
+use Rattle.pawk_syntax_tree.proofs.ProgramLaws.{read_is_derived, derived_is_read}
+use Rattle.pawk_syntax_tree.proofs.ItemLow.{read_is_low}
+use Rattle.pawk_syntax_grammar.proofs.ProgramBrackets.{few_program}
+use Rattle.pawk_syntax_grammar.specs.Expressions.{eres, eres_of_program}
+use Rattle.pawk_syntax_grammar.specs.ExpressionReads.{AreSpelled, AreExpressions, Denies}
+use Rattle.pawk_syntax_grammar.proofs.DerivedPrograms.{derived_program}
+use Rattle.pawk_syntax_grammar.proofs.CanonicalTokens.{of_program}
 use Rattle.pawk_lex.specs.Canonical.{AreBytes}
 use Rattle.pawk_lex.proofs.CutLaws.{cut_writable}
-use Rattle.pawk_syntax_program.proofs.ItemKept.{program_kept}
+use Rattle.pawk_syntax_tree.proofs.ItemKept.{program_kept}
 use Rattle.pawk_syntax_show.specs.ProgramText.{program_text}
 use Rattle.pawk_syntax_show.proofs.WritableProgram.{program_writable}
 use Rattle.pawk_syntax_show.proofs.ProgramCut.{program_cut}
@@ -61,7 +61,7 @@ read_again other xs ts r s e = record {
   items = rw (e.0) (derived_is_read s.tokens xs s.derived s.low);
 }
 
--- and what stands between slashes are expressions
+-- and what is between slashes are expressions
 pub expressions_again : (other : Text) (xs : List Part) (ts : List Tok) (r : Option SyntaxRefusal) → Spells other xs →
     (ts ≡ canon_program xs) × (r ≡ None) → AreExpressions (eres ts)
 expressions_again other xs ts r s e = rw (e.0, of_program xs) s.expressions
@@ -92,7 +92,7 @@ spells_again text xs bytes s = record {
   few = few_program xs s.low;
 }
 
--- what a check tells of what holds is memory alone
+-- of what holds, a check reports nothing but refused memory
 pub no_fault : (why : SyntaxRefusal) (P : Type 0) → (why ≢ refusal.Memory → P → ⊥) → P → why ≡ refusal.Memory
 no_fault (refusal.At cause place) P h p = absurd (h (λ e. search rules) p)
 no_fault refusal.Memory P h p = refl

@@ -1,8 +1,8 @@
 -- What reading answers.
 use Rattle.std.specs.Prelude.{◌≡◌, List, Result, Ok, Err}
-use Rattle.pawk_token.specs.declared.refusal.SyntaxRefusal.{SyntaxRefusal}
-use Rattle.pawk_token.specs.declared.refusal.SyntaxRefusal.TheVariants.{Memory}
-use Rattle.pawk_syntax_program.specs.Item.{Part}
+use Rattle.pawk_lex.specs.declared.refusal.SyntaxRefusal.{SyntaxRefusal}
+use Rattle.pawk_lex.specs.declared.refusal.SyntaxRefusal.TheVariants.{Memory}
+use Rattle.pawk_syntax_tree.specs.Item.{Part}
 use Rattle.pawk_syntax.specs.declared.program.Program.{Program}
 use Rattle.pawk_syntax.specs.Programs.{parts}
 

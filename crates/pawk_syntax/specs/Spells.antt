@@ -1,16 +1,16 @@
 -- What an awk program's text means (POSIX.1-2017, awk, "Grammar" and "Lexical Conventions").
 use Rattle.std.specs.Prelude.{◌≡◌, List, true}
-use Rattle.pawk_token.specs.Bytes.{Text}
-use Rattle.pawk_token.specs.Tokens.{Tok}
+use Rattle.pawk_lex.specs.Bytes.{Text}
+use Rattle.pawk_lex.specs.Tokens.{Tok}
 use Rattle.pawk_lex.specs.Cut.{Cut}
-use Rattle.pawk_syntax_program.specs.Item.{Part, AreLow}
-use Rattle.pawk_syntax_program.specs.ItemGrammar.{Programs}
+use Rattle.pawk_syntax_tree.specs.Item.{Part, AreLow}
+use Rattle.pawk_syntax_tree.specs.ItemGrammar.{Programs}
 use Rattle.pawk_syntax_check.specs.Fits.{Fits}
-use Rattle.pawk_syntax_brackets.specs.Brackets.{are_few}
-use Rattle.pawk_syntax_expressions.specs.Expressions.{eres_of_program}
-use Rattle.pawk_syntax_expressions.specs.Reads.{AreExpressions}
+use Rattle.pawk_syntax_grammar.specs.Brackets.{are_few}
+use Rattle.pawk_syntax_grammar.specs.Expressions.{eres_of_program}
+use Rattle.pawk_syntax_grammar.specs.ExpressionReads.{AreExpressions}
 
--- The text is cut into tokens, which derive the program; what stands between slashes are regular
+-- The text is cut into tokens, which derive the program; what is between slashes are regular
 -- expressions; the names, calls and words of the program fit; no item is too high, and never are too
 -- many brackets open.
 pub record Spells (text : Text) (xs : List Part) : Type 0 where

@@ -9,6 +9,6 @@ mod reading;
 mod text;
 
 pub use canonical::show;
-pub use pawk_token::refusal::{Cause, SyntaxRefusal};
+pub use pawk_lex::refusal::{Cause, SyntaxRefusal};
 pub use program::Program;
 pub use text::parse;

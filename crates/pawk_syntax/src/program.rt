@@ -1,19 +1,19 @@
 //! Programs that were read.
 
 ghost use Rattle.std.specs.Prelude.{◌≡◌, map};
-ghost use Rattle.pawk_pattern.specs.Spelled.{expression};
-ghost use Rattle.pawk_syntax_program.specs.Item.{part};
-ghost use Rattle.pawk_syntax_expressions.specs.Expressions.{eres_of_program};
-ghost use Rattle.pawk_syntax_expressions.specs.Reads.{patterns, AreSpelled};
+ghost use Rattle.pawk_ere_syntax.specs.Spelled.{expression};
+ghost use Rattle.pawk_syntax_tree.specs.Item.{part};
+ghost use Rattle.pawk_syntax_grammar.specs.Expressions.{eres_of_program};
+ghost use Rattle.pawk_syntax_grammar.specs.ExpressionReads.{patterns, AreSpelled};
 ghost use Rattle.pawk_syntax.specs.Spells.{IsSpelled};
 
-use pawk_pattern::Ere;
-use pawk_syntax_program::item::Item;
+use pawk_ere_syntax::Ere;
+use pawk_syntax_tree::item::ProgramItem;
 
 /// A program that a text spells, with its regular expressions. Only `parse` makes one.
 #[derive(Drop)]
 pub struct Program {
-    pub(crate) items: Vec<Item>,
+    pub(crate) items: Vec<ProgramItem>,
     pub(crate) expressions: Vec<Ere>,
     ghost spelled: { ∥ IsSpelled (map part items.items) ∥₁ },
     ghost expressed: { ∥ AreSpelled (eres_of_program (map part items.items)) (patterns expressions) ∥₁ },
@@ -23,7 +23,7 @@ impl Program {
     ghost use Rattle.pawk_syntax.specs.Programs.{parts};
 
     /// The items of the program, in the order of its text.
-    pub fn tree(&self) -> &[Item]
+    pub fn tree(&self) -> &[ProgramItem]
         ensures items { map part result.now ≡ parts self.now }
         ensures spelled { ∥ IsSpelled (map part result.now) ∥₁ }
     {

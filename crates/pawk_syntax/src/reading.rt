@@ -1,21 +1,21 @@
 //! Reads the tokens of a text as the items of a program.
 
 ghost use Rattle.std.specs.Prelude.{◌≡◌, ◌≤◌, List, IfOk, IfErr, length, map, true};
-ghost use Rattle.pawk_token.specs.declared.refusal.SyntaxRefusal.TheVariants as refusal;
+ghost use Rattle.pawk_lex.specs.declared.refusal.SyntaxRefusal.TheVariants as refusal;
 ghost use Rattle.pawk_lex.specs.TokenLists.{values};
-ghost use Rattle.pawk_syntax_program.specs.Item.{Part, part};
-ghost use Rattle.pawk_syntax_expressions.specs.Reads.{Denies};
-ghost use Rattle.pawk_syntax_brackets.specs.Brackets.{are_few};
+ghost use Rattle.pawk_syntax_tree.specs.Item.{Part, part};
+ghost use Rattle.pawk_syntax_grammar.specs.ExpressionReads.{Denies};
+ghost use Rattle.pawk_syntax_grammar.specs.Brackets.{are_few};
 ghost use Rattle.pawk_syntax.specs.Items.{AreRead};
 
+use pawk_lex::refusal::{Cause, SyntaxRefusal};
+use pawk_lex::token::Token;
 use pawk_lex::token_list::TokenList;
-use pawk_syntax_brackets::brackets::excess;
-use pawk_syntax_expressions::expressions::read_expressions;
-use pawk_syntax_item::item::program;
+use pawk_syntax_grammar::brackets::excess;
+use pawk_syntax_grammar::expressions::read_expressions;
+use pawk_syntax_grammar::item::program;
 use pawk_syntax_parse::cursor::Cursor;
-use pawk_syntax_program::item::Item;
-use pawk_token::refusal::{Cause, SyntaxRefusal};
-use pawk_token::token::Token;
+use pawk_syntax_tree::item::ProgramItem;
 use std::alloc::Global;
 
 /// Why a text of `size` bytes is refused of which these tokens come before a bracket too many.
@@ -43,7 +43,7 @@ fn too_many_brackets(alloc: Global, tokens: &[Token], size: usize) -> SyntaxRefu
 
 /// Reads the tokens of a text of `size` bytes, of which few brackets are open at once.
 #[tactic(auto, using(crate::proofs::Readings::whole_program))]
-fn read_few(alloc: Global, list: &TokenList, size: usize) -> Result<Vec<Item>, SyntaxRefusal>
+fn read_few(alloc: Global, list: &TokenList, size: usize) -> Result<Vec<ProgramItem>, SyntaxRefusal>
     requires { are_few 0 (values list.now.tokens.items) ≡ true }
     ensures found { IfOk result (λ v.
         AreRead (values list.now.tokens.items) list.now.refusal (map part v.items)) }
@@ -64,7 +64,11 @@ fn read_few(alloc: Global, list: &TokenList, size: usize) -> Result<Vec<Item>, S
 }
 
 /// Reads the tokens of a text of `size` bytes as the items of a program.
-pub fn read_items(alloc: Global, list: &TokenList, size: usize) -> Result<Vec<Item>, SyntaxRefusal>
+pub fn read_items(
+    alloc: Global,
+    list: &TokenList,
+    size: usize,
+) -> Result<Vec<ProgramItem>, SyntaxRefusal>
     ensures found { IfOk result (λ v.
         AreRead (values list.now.tokens.items) list.now.refusal (map part v.items)) }
     ensures refused { IfErr result (λ why. (xs : List Part) →

@@ -1,3 +1,11 @@
+pub mod Lists
+pub mod Shapes
+pub mod Tables
+pub mod Numbering
+pub mod KindLists
+pub mod Marking
+pub mod Agreement
+pub mod Finding
 pub mod Arguments
 pub mod Parameters
 pub mod Mentions

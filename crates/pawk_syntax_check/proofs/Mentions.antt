@@ -2,15 +2,15 @@
 use Rattle.std.proofs.Common.{◌≡◌, ℕ, suc, true, false, Bool, List, [], ◌∷◌, refl, sym, ◌∙◌, Option}
 use Rattle.std.specs.Prelude.{◌&&◌}
 use Rattle.std.specs.List.{list_all}
-use Rattle.pawk_token.specs.Bytes.{Text}
-use Rattle.pawk_syntax_program.specs.Item.{Part}
-use Rattle.pawk_syntax_uses.specs.Mentions.{Mention, of_part}
-use Rattle.pawk_syntax_uses.specs.Functions.{function_of}
+use Rattle.pawk_lex.specs.Bytes.{Text}
+use Rattle.pawk_syntax_tree.specs.Item.{Part}
+use Rattle.pawk_syntax_check.specs.Mentions.{Mention, of_part}
+use Rattle.pawk_syntax_check.specs.Functions.{function_of}
 use Rattle.pawk_syntax_check.specs.Targets.{is_assignable}
 use Rattle.pawk_syntax_check.specs.Calls.{is_call}
 use Rattle.pawk_syntax_check.specs.Words.{is_placed}
 use Rattle.pawk_syntax_check.specs.Names.{head_fits, heads_fit, is_free}
-use Rattle.pawk_syntax_kinds.specs.Demands.{KindsFit}
+use Rattle.pawk_syntax_check.specs.Demands.{KindsFit}
 use Rattle.pawk_syntax_check.specs.Fits.{every_mention, fits, items_fit, Fits}
 
 and-and : (a b d e : Bool) → ((a && b) && (d && e)) ≡ ((a && d) && (b && e))

@@ -1,12 +1,12 @@
 -- Which calls fit what they call (POSIX.1-2017, awk, "User-Defined Functions", "Arithmetic Functions" and "String
 -- Functions").
 use Rattle.std.specs.Prelude.{ℕ, Bool, true, false, ◌==◌, ◌&&◌, ◌||◌, nat_le, List, length, Option, Some, None}
-use Rattle.pawk_token.specs.Bytes.{Text}
-use Rattle.pawk_token.specs.declared.token.Builtin.{Builtin}
-use Rattle.pawk_token.specs.declared.token.Builtin.TheVariants as b
+use Rattle.pawk_lex.specs.Bytes.{Text}
+use Rattle.pawk_lex.specs.declared.token.Builtin.{Builtin}
+use Rattle.pawk_lex.specs.declared.token.Builtin.TheVariants as b
 use Rattle.pawk_syntax_tree.specs.declared.tree.Single.TheVariants as single
 use Rattle.pawk_syntax_tree.specs.Tree.{Tree, variable, element, unary, Trees, more}
-use Rattle.pawk_syntax_uses.specs.Mentions.{Mention, call, builtin, count}
+use Rattle.pawk_syntax_check.specs.Mentions.{Mention, call, builtin, count}
 
 -- what may be assigned
 abbrev pub is_lvalue : Tree → Bool

@@ -1,11 +1,11 @@
 -- What a program has to meet beside the grammar.
 use Rattle.std.specs.Prelude.{◌≡◌, ℕ, suc, Bool, true, ◌&&◌, List, [], ◌∷◌, Option}
 use Rattle.std.specs.List.{list_all}
-use Rattle.pawk_token.specs.Bytes.{Text}
-use Rattle.pawk_syntax_program.specs.Item.{Part}
-use Rattle.pawk_syntax_uses.specs.Mentions.{Mention, of_part}
-use Rattle.pawk_syntax_uses.specs.Functions.{function_of}
-use Rattle.pawk_syntax_kinds.specs.Demands.{KindsFit}
+use Rattle.pawk_lex.specs.Bytes.{Text}
+use Rattle.pawk_syntax_tree.specs.Item.{Part}
+use Rattle.pawk_syntax_check.specs.Mentions.{Mention, of_part}
+use Rattle.pawk_syntax_check.specs.Functions.{function_of}
+use Rattle.pawk_syntax_check.specs.Demands.{KindsFit}
 use Rattle.pawk_syntax_check.specs.Targets.{is_assignable}
 use Rattle.pawk_syntax_check.specs.Calls.{is_call}
 use Rattle.pawk_syntax_check.specs.Words.{is_placed}
@@ -23,7 +23,7 @@ TargetsFit ps = every_mention (λ p m. is_assignable m) ps ≡ true
 abbrev pub CallsFit : List Part → Type 0
 CallsFit ps = every_mention (λ p m. is_call (function_of ps) m) ps ≡ true
 
--- every word that leaves stands where it may
+-- every word that leaves is where it may be
 abbrev pub WordsFit : List Part → Type 0
 WordsFit ps = every_mention is_placed ps ≡ true
 

@@ -1,3 +1,13 @@
+pub mod Mentions
+pub mod Views
+pub mod Functions
+pub mod FunctionViews
+pub mod Tables
+pub mod Demands
+pub mod DemandViews
+pub mod Marks
+pub mod Found
+pub mod KindViews
 pub mod Targets
 pub mod Calls
 pub mod Words

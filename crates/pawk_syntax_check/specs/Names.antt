@@ -2,10 +2,10 @@
 -- other name of the program and of no special variable, and the same holds for a parameter).
 use Rattle.std.specs.Prelude.{ℕ, suc, Bool, true, false, not, ◌==◌, ◌&&◌, List, [], ◌∷◌, Option, Some, None}
 use Rattle.std.specs.Option.{is_none}
-use Rattle.pawk_token.specs.Bytes.{Text}
-use Rattle.pawk_token.specs.Vocabulary.{is_among, is_variable}
-use Rattle.pawk_syntax_program.specs.Item.{Part, define}
-use Rattle.pawk_syntax_uses.specs.Mentions.{Mention, array, scalar, target, argument}
+use Rattle.pawk_lex.specs.Bytes.{Text}
+use Rattle.pawk_lex.specs.Vocabulary.{is_among, is_variable}
+use Rattle.pawk_syntax_tree.specs.Item.{Part, define}
+use Rattle.pawk_syntax_check.specs.Mentions.{Mention, array, scalar, target, argument}
 
 -- the function that is found is the one of this item
 abbrev pub is_item : ℕ → Option (ℕ × List Text) → Bool
@@ -30,7 +30,7 @@ abbrev pub heads_fit : (Text → Option (ℕ × List Text)) → ℕ → List Par
 heads_fit functions n [] = true
 heads_fit functions n (p ∷ ps) = head_fits functions n p && heads_fit functions (suc n) ps
 
--- a function's name stands nowhere else but where it is called
+-- a function's name occurs nowhere else but where it is called
 abbrev pub is_free : (Text → Option (ℕ × List Text)) → Mention → Bool
 is_free functions (array x) = is_none (functions x)
 is_free functions (scalar x) = is_none (functions x)

@@ -1,11 +1,11 @@
--- Where words that leave may stand (POSIX.1-2017, awk, "Actions" and "User-Defined Functions"; that `next` stands in the text
+-- Where words that leave may be (POSIX.1-2017, awk, "Actions" and "User-Defined Functions"; that `next` is in the text
 -- of a rule's action itself is this language's own rule).
 use Rattle.std.specs.Prelude.{Bool, true, false}
-use Rattle.pawk_syntax_program.specs.declared.statement.Leave.{Leave}
-use Rattle.pawk_syntax_program.specs.declared.statement.Leave.TheVariants as leave
-use Rattle.pawk_syntax_program.specs.Item.{Part, always, matching, between, define}
-use Rattle.pawk_syntax_uses.specs.Mentions.{Mention, return}
-use Rattle.pawk_syntax_uses.specs.Mentions as mention
+use Rattle.pawk_syntax_tree.specs.declared.statement.Jump.{Jump}
+use Rattle.pawk_syntax_tree.specs.declared.statement.Jump.TheVariants as leave
+use Rattle.pawk_syntax_tree.specs.Item.{Part, always, matching, between, define}
+use Rattle.pawk_syntax_check.specs.Mentions.{Mention, return}
+use Rattle.pawk_syntax_check.specs.Mentions as mention
 
 abbrev pub is_rule : Part → Bool
 is_rule (always a) = true
@@ -18,7 +18,7 @@ is_function (define f ps a) = true
 is_function _ = false
 
 -- next and nextfile in the action of a rule, break and continue in a loop
-abbrev pub may_leave : Part → Leave → Bool → Bool
+abbrev pub may_leave : Part → Jump → Bool → Bool
 may_leave p leave.Next in_loop = is_rule p
 may_leave p leave.NextFile in_loop = is_rule p
 may_leave p leave.Break in_loop = in_loop

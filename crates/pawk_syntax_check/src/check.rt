@@ -3,29 +3,33 @@
 ghost use Rattle.std.specs.Prelude.{◌≡◌, ◌≢◌, IfOk, OnOk, IfErr, map, true, false};
 ghost use Rattle.std.specs.Option.{is_none};
 ghost use Rattle.std.specs.List.{list_all};
-ghost use Rattle.pawk_token.specs.Bytes.{Text};
-ghost use Rattle.pawk_token.specs.declared.refusal.SyntaxRefusal.TheVariants as refusal;
-ghost use Rattle.pawk_syntax_program.specs.Item.{part};
-ghost use Rattle.pawk_syntax_uses.specs.Functions.{function_of};
-ghost use Rattle.pawk_syntax_uses.specs.Views.{mention_view};
-ghost use Rattle.pawk_syntax_uses.specs.FunctionViews.{function_under};
-ghost use Rattle.pawk_syntax_kinds.specs.Demands.{KindsFit};
+ghost use Rattle.pawk_lex.specs.Bytes.{Text};
+ghost use Rattle.pawk_lex.specs.declared.refusal.SyntaxRefusal.TheVariants as refusal;
+ghost use Rattle.pawk_syntax_tree.specs.Item.{part};
+ghost use Rattle.pawk_syntax_check.specs.Functions.{function_of};
+ghost use Rattle.pawk_syntax_check.specs.Views.{mention_view};
+ghost use Rattle.pawk_syntax_check.specs.FunctionViews.{function_under};
+ghost use Rattle.pawk_syntax_check.specs.Demands.{KindsFit};
 ghost use Rattle.pawk_syntax_check.specs.Fits.{fits, item_fits, items_fit, Fits};
 
-use crate::fault::{Fault, first_of};
+use crate::fault::{CheckFault, first_of};
+use crate::functions::Functions;
 use crate::heads::head_fault;
+use crate::item::mentions;
+use crate::kinds::clash;
+use crate::mention::Mention;
 use crate::names::fault_of_names;
 use crate::rules::fault;
-use pawk_syntax_kinds::kinds::clash;
-use pawk_syntax_program::item::Item;
-use pawk_syntax_uses::functions::Functions;
-use pawk_syntax_uses::item::mentions;
-use pawk_syntax_uses::mention::Mention;
-use pawk_token::refusal::{Cause, SyntaxRefusal};
+use pawk_lex::refusal::{Cause, SyntaxRefusal};
+use pawk_syntax_tree::item::ProgramItem;
 use std::alloc::{AllocError, Global};
 
 /// The first fault among mentions of an item.
-fn fault_among(functions: &Functions<'_>, item: &Item, mentions: &[Mention<'_>]) -> Option<Fault>
+fn fault_among(
+    functions: &Functions<'_>,
+    item: &ProgramItem,
+    mentions: &[Mention<'_>],
+) -> Option<CheckFault>
     ensures { is_none result ≡
         list_all (fits (function_under functions.now) (part item.now))
         (map mention_view mentions.now) }
@@ -42,8 +46,8 @@ fn fault_of(
     alloc: Global,
     functions: &Functions<'_>,
     number: usize,
-    item: &Item,
-) -> Result<Option<Fault>, AllocError>
+    item: &ProgramItem,
+) -> Result<Option<CheckFault>, AllocError>
     ensures { IfOk result (λ o. is_none o ≡
         item_fits (function_under functions.now) number (part item.now)) }
 {
@@ -57,8 +61,8 @@ fn fault_of(
 fn fault_in(
     alloc: Global,
     functions: &Functions<'_>,
-    items: &[Item],
-) -> Result<Option<Fault>, AllocError>
+    items: &[ProgramItem],
+) -> Result<Option<CheckFault>, AllocError>
     ensures { IfOk result (λ o. is_none o ≡
         items_fit (function_under functions.now) 1 (map part items.now)) }
 {
@@ -74,28 +78,28 @@ fn fault_in(
 fn fault_of_kinds<'t>(
     alloc: Global,
     functions: &Functions<'t>,
-    items: &'t [Item],
-) -> Result<Option<Fault>, AllocError>
+    items: &'t [ProgramItem],
+) -> Result<Option<CheckFault>, AllocError>
     requires { (x : Text) → function_under functions.now x ≡ function_of (map part items.now) x }
     ensures fit { IfOk result (λ o. is_none o ≡ true → KindsFit (map part items.now)) }
     ensures unfit { IfOk result (λ o. is_none o ≡ false → KindsFit (map part items.now) → ⊥) }
 {
     match clash(alloc, functions, items)? {
         None => Ok(None),
-        Some(start) => Ok(Some(Fault {
+        Some(start) => Ok(Some(CheckFault {
             cause: Cause::Uses,
             start,
         })),
     }
 }
 
-/// The fault that is told where there is this one: the first, with those of names at their first
+/// The fault that is reported where there is this one: the first, with those of names at their first
 /// places.
 fn first_fault<'t>(
     alloc: Global,
     functions: &Functions<'t>,
-    items: &'t [Item],
-    fault: Fault,
+    items: &'t [ProgramItem],
+    fault: CheckFault,
 ) -> Result<SyntaxRefusal, AllocError>
     ensures { IfOk result (λ e. e ≢ refusal.Memory) }
 {
@@ -104,12 +108,12 @@ fn first_fault<'t>(
     Ok(first.refusal())
 }
 
-/// Checks a program that was read. Of several faults the first in the text is told, at one place
+/// Checks a program that was read. Of several faults the first in the text is reported, at one place
 /// the one with the lower number:
 /// - `Assigned` (4), at the name: a variable that the run sets is assigned.
 /// - `Uses` (5), at the first place of the names that have to be of one kind: one of them is an
-///   array, and one a scalar. At the first place of a function's name: it stands elsewhere than in
-///   calls, is defined twice, or is a variable of the language. At the parameter: it stands twice,
+///   array, and one a scalar. At the first place of a function's name: it is elsewhere than in
+///   calls, is defined twice, or is a variable of the language. At the parameter: it occurs twice,
 ///   or is a function or a variable of the language.
 /// - `Call` (6), at the name: a function that is not defined, too many arguments, a wrong count of
 ///   arguments for a built-in function, or an argument that can be neither assigned nor filled
@@ -117,7 +121,7 @@ fn first_fault<'t>(
 /// - `Misplaced` (7), at the word: `next` or `nextfile` outside the action of a rule, `return`
 ///   outside a function, `break` or `continue` outside a loop.
 /// Answers `Memory` where memory was refused. The items stay as they are.
-pub fn check(alloc: Global, items: &[Item]) -> Result<(), SyntaxRefusal>
+pub fn check(alloc: Global, items: &[ProgramItem]) -> Result<(), SyntaxRefusal>
     ensures fit { OnOk result (Fits (map part items.now)) }
     ensures unfit { IfErr result (λ e. e ≢ refusal.Memory → Fits (map part items.now) → ⊥) }
 {

@@ -2,26 +2,26 @@
 
 ghost use Rattle.std.specs.Prelude.{◌≡◌, ◌≢◌, ◌&&◌};
 ghost use Rattle.std.specs.Option.{is_none};
-ghost use Rattle.pawk_token.specs.declared.refusal.SyntaxRefusal.TheVariants as refusal;
+ghost use Rattle.pawk_lex.specs.declared.refusal.SyntaxRefusal.TheVariants as refusal;
 
-use pawk_token::refusal::{Cause, SyntaxRefusal};
+use pawk_lex::refusal::{Cause, SyntaxRefusal};
 
 /// What is at fault, and the byte where it begins, counted from 0.
 #[derive(Clone, Copy)]
-pub struct Fault {
+pub struct CheckFault {
     pub cause: Cause,
     pub start: usize,
 }
 
-impl Fault {
-    /// Whether this fault is told in place of another: it stands before it, or has the lower number
+impl CheckFault {
+    /// Whether this fault is reported in place of another: it is before it, or has the lower number
     /// at the same place.
-    fn precedes(self, other: Fault) -> bool {
+    fn precedes(self, other: CheckFault) -> bool {
         self.start < other.start
             || (self.start == other.start && self.cause.number() < other.cause.number())
     }
 
-    /// How users are told this fault.
+    /// How this fault is reported to users.
     pub fn refusal(self) -> SyntaxRefusal
         ensures { result ≢ refusal.Memory }
     {
@@ -32,9 +32,9 @@ impl Fault {
     }
 }
 
-/// The fault of two that is told: the one that stands first, at one place the one with the lower
+/// The fault of two that is reported: the one that is first, at one place the one with the lower
 /// number.
-pub fn first_of(a: Option<Fault>, b: Option<Fault>) -> Option<Fault>
+pub fn first_of(a: Option<CheckFault>, b: Option<CheckFault>) -> Option<CheckFault>
     ensures { is_none result ≡ (is_none a && is_none b) }
 {
     match (a, b) {

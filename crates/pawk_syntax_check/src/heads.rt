@@ -4,17 +4,17 @@ ghost use Rattle.std.specs.Prelude.{◌≡◌};
 ghost use Rattle.std.specs.Option.{is_none};
 ghost use Rattle.std.specs.List.{list_any};
 ghost use Rattle.std.specs.Str.{bytes_eq};
-ghost use Rattle.pawk_syntax_program.specs.Item.{part, texts};
-ghost use Rattle.pawk_syntax_uses.specs.FunctionViews.{function_under};
+ghost use Rattle.pawk_syntax_tree.specs.Item.{part, texts};
+ghost use Rattle.pawk_syntax_check.specs.FunctionViews.{function_under};
 ghost use Rattle.pawk_syntax_check.specs.Names as spec;
 
-use crate::fault::Fault;
+use crate::fault::CheckFault;
+use crate::functions::Functions;
 use crate::rules::unless;
-use pawk_syntax_program::item::Item;
+use pawk_lex::refusal::Cause;
+use pawk_lex::vocabulary::is_variable;
+use pawk_syntax_tree::item::ProgramItem;
 use pawk_syntax_tree::tree::Name;
-use pawk_syntax_uses::functions::Functions;
-use pawk_token::refusal::Cause;
-use pawk_token::vocabulary::is_variable;
 
 /// Whether the function that is found under this name is the one of this item.
 pub fn is_item(functions: &Functions<'_>, number: usize, name: &Name) -> bool
@@ -59,23 +59,26 @@ fn fit_parameters(functions: &Functions<'_>, parameters: &[Name]) -> bool
 }
 
 /// Whether the head of the item of this number, if it is a function, has names of its own.
-fn head_fits(functions: &Functions<'_>, number: usize, item: &Item) -> bool
+fn head_fits(functions: &Functions<'_>, number: usize, item: &ProgramItem) -> bool
     ensures { result ≡ spec.head_fits (function_under functions.now) number (part item.now) }
 {
     match item {
-        Item::Function(name, parameters, _) => {
+        ProgramItem::Function(name, parameters, _) => {
             is_item(functions, number, name)
                 && !is_variable(name.text.as_slice())
                 && fit_parameters(functions, parameters)
         }
-        Item::Begin(_) | Item::End(_) | Item::Always(_) | Item::When(_, _) | Item::Range(_, _, _) =>
-            true,
+        ProgramItem::Begin(_)
+        | ProgramItem::End(_)
+        | ProgramItem::Always(_)
+        | ProgramItem::When(_, _)
+        | ProgramItem::Range(_, _, _) => true,
     }
 }
 
 /// The byte where the first name in the head of a function begins that does not fit, or 0.
-fn start(functions: &Functions<'_>, number: usize, item: &Item) -> usize {
-    let Item::Function(name, parameters, _) = item else {
+fn start(functions: &Functions<'_>, number: usize, item: &ProgramItem) -> usize {
+    let ProgramItem::Function(name, parameters, _) = item else {
         return 0;
     };
     if !is_item(functions, number, name) || is_variable(name.text.as_slice()) {
@@ -90,7 +93,11 @@ fn start(functions: &Functions<'_>, number: usize, item: &Item) -> usize {
 }
 
 /// What is at fault with the head of the item of this number.
-pub fn head_fault(functions: &Functions<'_>, number: usize, item: &Item) -> Option<Fault>
+pub fn head_fault(
+    functions: &Functions<'_>,
+    number: usize,
+    item: &ProgramItem,
+) -> Option<CheckFault>
     ensures { is_none result ≡
         spec.head_fits (function_under functions.now) number (part item.now) }
 {

@@ -1,15 +1,15 @@
-//! Where names stand that functions and parameters may not have. Nothing is proved of these places:
+//! The places of names that functions and parameters may not have. Nothing is proved of these places:
 //! rows show them.
 
-use crate::fault::{Fault, first_of};
+use crate::fault::{CheckFault, first_of};
+use crate::functions::Functions;
 use crate::heads::{is_among, is_item};
-use pawk_syntax_program::item::Item;
+use crate::item::mentions;
+use crate::mention::Mention;
+use pawk_lex::refusal::Cause;
+use pawk_lex::vocabulary::is_variable;
+use pawk_syntax_tree::item::ProgramItem;
 use pawk_syntax_tree::tree::Name;
-use pawk_syntax_uses::functions::Functions;
-use pawk_syntax_uses::item::mentions;
-use pawk_syntax_uses::mention::Mention;
-use pawk_token::refusal::Cause;
-use pawk_token::vocabulary::is_variable;
 use std::alloc::{AllocError, Global};
 use std::collections::BTreeSet;
 
@@ -33,8 +33,8 @@ fn name<'t>(mention: Mention<'t>) -> Option<&'t Name> {
 }
 
 /// A fault in the use of a name at this place.
-fn fault_at(start: usize) -> Option<Fault> {
-    Some(Fault {
+fn fault_at(start: usize) -> Option<CheckFault> {
+    Some(CheckFault {
         cause: Cause::Uses,
         start,
     })
@@ -57,9 +57,9 @@ fn add_head<'t>(
     names: &mut BTreeSet<&'t [u8]>,
     functions: &Functions<'t>,
     number: usize,
-    item: &'t Item,
+    item: &'t ProgramItem,
 ) -> Result<(), AllocError> {
-    if let Item::Function(name, parameters, _) = item {
+    if let ProgramItem::Function(name, parameters, _) = item {
         if !is_item(functions, number, name) || is_variable(name.text.as_slice()) {
             names.insert(name.text.as_slice())?;
         }
@@ -75,7 +75,7 @@ fn add_mentions<'t>(
     alloc: Global,
     names: &mut BTreeSet<&'t [u8]>,
     functions: &Functions<'t>,
-    item: &'t Item,
+    item: &'t ProgramItem,
 ) -> Result<(), AllocError> {
     let mentions = mentions(alloc, item)?;
     for mention in mentions.as_slice() {
@@ -86,11 +86,11 @@ fn add_mentions<'t>(
     Ok(())
 }
 
-/// The names of functions that stand where they may not.
+/// The names of functions that are where they may not be.
 fn clashes<'t>(
     alloc: Global,
     functions: &Functions<'t>,
-    items: &'t [Item],
+    items: &'t [ProgramItem],
 ) -> Result<BTreeSet<&'t [u8]>, AllocError> {
     let mut names = BTreeSet::new(alloc);
     for (index, item) in items.iter().enumerate() {
@@ -101,7 +101,7 @@ fn clashes<'t>(
 }
 
 /// A fault at a name, if it is among these.
-fn fault_of_name<'t>(names: &BTreeSet<&'t [u8]>, name: &'t Name) -> Option<Fault> {
+fn fault_of_name<'t>(names: &BTreeSet<&'t [u8]>, name: &'t Name) -> Option<CheckFault> {
     if names.contains(name.text.as_slice()) {
         fault_at(name.start)
     } else {
@@ -109,9 +109,12 @@ fn fault_of_name<'t>(names: &BTreeSet<&'t [u8]>, name: &'t Name) -> Option<Fault
     }
 }
 
-/// The first fault of parameters: one that stands twice, is a variable of the language, or has one
+/// The first fault of parameters: one that occurs twice, is a variable of the language, or has one
 /// of these names.
-fn fault_of_parameters<'t>(names: &BTreeSet<&'t [u8]>, parameters: &'t [Name]) -> Option<Fault> {
+fn fault_of_parameters<'t>(
+    names: &BTreeSet<&'t [u8]>,
+    parameters: &'t [Name],
+) -> Option<CheckFault> {
     let mut first = None;
     for (index, parameter) in parameters.iter().enumerate() {
         if is_variable(parameter.text.as_slice()) || is_among(&parameters[index + 1..], parameter) {
@@ -123,9 +126,9 @@ fn fault_of_parameters<'t>(names: &BTreeSet<&'t [u8]>, parameters: &'t [Name]) -
 }
 
 /// The first fault of the head of an item.
-fn fault_of_head<'t>(names: &BTreeSet<&'t [u8]>, item: &'t Item) -> Option<Fault> {
+fn fault_of_head<'t>(names: &BTreeSet<&'t [u8]>, item: &'t ProgramItem) -> Option<CheckFault> {
     match item {
-        Item::Function(name, parameters, _) => first_of(
+        ProgramItem::Function(name, parameters, _) => first_of(
             fault_of_name(names, name),
             fault_of_parameters(names, parameters),
         ),
@@ -137,8 +140,8 @@ fn fault_of_head<'t>(names: &BTreeSet<&'t [u8]>, item: &'t Item) -> Option<Fault
 fn fault_of_mentions<'t>(
     alloc: Global,
     names: &BTreeSet<&'t [u8]>,
-    item: &'t Item,
-) -> Result<Option<Fault>, AllocError> {
+    item: &'t ProgramItem,
+) -> Result<Option<CheckFault>, AllocError> {
     let mentions = mentions(alloc, item)?;
     let mut first = None;
     for mention in mentions.as_slice() {
@@ -153,8 +156,8 @@ fn fault_of_mentions<'t>(
 pub fn fault_of_names<'t>(
     alloc: Global,
     functions: &Functions<'t>,
-    items: &'t [Item],
-) -> Result<Option<Fault>, AllocError> {
+    items: &'t [ProgramItem],
+) -> Result<Option<CheckFault>, AllocError> {
     let names = clashes(alloc, functions, items)?;
     let mut first = None;
     for item in items {

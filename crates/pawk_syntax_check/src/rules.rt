@@ -2,48 +2,48 @@
 
 ghost use Rattle.std.specs.Prelude.{◌≡◌, length, not};
 ghost use Rattle.std.specs.Option.{is_none};
-ghost use Rattle.pawk_token.specs.Vocabulary as vocabulary;
+ghost use Rattle.pawk_lex.specs.Vocabulary as vocabulary;
 ghost use Rattle.pawk_syntax_tree.specs.Tree.{view, views, trees};
-ghost use Rattle.pawk_syntax_program.specs.Item.{part};
-ghost use Rattle.pawk_syntax_uses.specs.Views.{mention_view};
-ghost use Rattle.pawk_syntax_uses.specs.FunctionViews.{function_under};
+ghost use Rattle.pawk_syntax_tree.specs.Item.{part};
+ghost use Rattle.pawk_syntax_check.specs.Views.{mention_view};
+ghost use Rattle.pawk_syntax_check.specs.FunctionViews.{function_under};
 ghost use Rattle.pawk_syntax_check.specs.Targets as targets;
 ghost use Rattle.pawk_syntax_check.specs.Calls as calls;
 ghost use Rattle.pawk_syntax_check.specs.Words as words;
 ghost use Rattle.pawk_syntax_check.specs.Fits.{fits};
 
-use crate::fault::{Fault, first_of};
-use pawk_syntax_program::item::Item;
-use pawk_syntax_program::statement::Leave;
-use pawk_syntax_tree::tree::{Expr, Name, Single};
-use pawk_syntax_uses::functions::Functions;
-use pawk_syntax_uses::mention::Mention;
-use pawk_token::refusal::Cause;
-use pawk_token::token::Builtin;
-use pawk_token::vocabulary::is_run_variable;
+use crate::fault::{CheckFault, first_of};
+use crate::functions::Functions;
+use crate::mention::Mention;
+use pawk_lex::refusal::Cause;
+use pawk_lex::token::Builtin;
+use pawk_lex::vocabulary::is_run_variable;
+use pawk_syntax_tree::item::ProgramItem;
+use pawk_syntax_tree::statement::Jump;
+use pawk_syntax_tree::tree::{ExpressionTree, Name, Single};
 
 /// Whether an expression may be assigned.
-fn is_lvalue(e: &Expr) -> bool
+fn is_lvalue(e: &ExpressionTree) -> bool
     ensures { result ≡ calls.is_lvalue (view e.now) }
 {
     match e {
-        Expr::Variable(_) | Expr::Element(_, _) => true,
-        Expr::Unary(op, _) => *op == Single::Field,
+        ExpressionTree::Variable(_) | ExpressionTree::Element(_, _) => true,
+        ExpressionTree::Unary(op, _) => *op == Single::Field,
         _ => false,
     }
 }
 
 /// Whether an expression is a name alone.
-fn is_name(e: &Expr) -> bool
+fn is_name(e: &ExpressionTree) -> bool
     ensures { result ≡ calls.is_name (view e.now) }
 {
     match e {
-        Expr::Variable(_) => true,
+        ExpressionTree::Variable(_) => true,
         _ => false,
     }
 }
 
-/// Whether a built-in function takes so many arguments.
+/// Whether a built-in function takes this number of arguments.
 fn takes(function: Builtin, count: usize) -> bool
     ensures { result ≡ calls.takes function count }
 {
@@ -58,7 +58,7 @@ fn takes(function: Builtin, count: usize) -> bool
 
 /// Whether the third argument, if there is one, may be assigned.
 #[tactic(auto, using(crate::proofs::Arguments::short_of_three))]
-fn assigns_third(arguments: &[Expr]) -> bool
+fn assigns_third(arguments: &[ExpressionTree]) -> bool
     ensures { result ≡ calls.third calls.is_lvalue (trees (views arguments.now)) }
 {
     match arguments {
@@ -69,7 +69,7 @@ fn assigns_third(arguments: &[Expr]) -> bool
 
 /// Whether the second argument, if there is one, is a name alone.
 #[tactic(auto, using(crate::proofs::Arguments::short_of_two))]
-fn names_second(arguments: &[Expr]) -> bool
+fn names_second(arguments: &[ExpressionTree]) -> bool
     ensures { result ≡ calls.second calls.is_name (trees (views arguments.now)) }
 {
     match arguments {
@@ -79,7 +79,7 @@ fn names_second(arguments: &[Expr]) -> bool
 }
 
 /// Whether what a built-in function assigns or fills can be assigned or filled.
-fn has_targets(function: Builtin, arguments: &[Expr]) -> bool
+fn has_targets(function: Builtin, arguments: &[ExpressionTree]) -> bool
     ensures { result ≡ calls.has_targets function (trees (views arguments.now)) }
 {
     match function {
@@ -91,55 +91,58 @@ fn has_targets(function: Builtin, arguments: &[Expr]) -> bool
 
 /// Whether the arguments of a built-in function fit it.
 #[tactic(auto, using(crate::proofs::Arguments::count_of_views))]
-fn fits_builtin(function: Builtin, arguments: &[Expr]) -> bool
+fn fits_builtin(function: Builtin, arguments: &[ExpressionTree]) -> bool
     ensures { result ≡ calls.fits_builtin function (trees (views arguments.now)) }
 {
     takes(function, arguments.len()) && has_targets(function, arguments)
 }
 
 /// Whether an item is a rule of the records.
-fn is_rule(item: &Item) -> bool
+fn is_rule(item: &ProgramItem) -> bool
     ensures { result ≡ words.is_rule (part item.now) }
 {
     match item {
-        Item::Always(_) | Item::When(_, _) | Item::Range(_, _, _) => true,
-        Item::Begin(_) | Item::End(_) | Item::Function(_, _, _) => false,
+        ProgramItem::Always(_) | ProgramItem::When(_, _) | ProgramItem::Range(_, _, _) => true,
+        ProgramItem::Begin(_) | ProgramItem::End(_) | ProgramItem::Function(_, _, _) => false,
     }
 }
 
 /// Whether an item is a function.
-fn is_function(item: &Item) -> bool
+fn is_function(item: &ProgramItem) -> bool
     ensures { result ≡ words.is_function (part item.now) }
 {
     match item {
-        Item::Function(_, _, _) => true,
-        Item::Begin(_) | Item::End(_) | Item::Always(_) | Item::When(_, _) | Item::Range(_, _, _) =>
-            false,
+        ProgramItem::Function(_, _, _) => true,
+        ProgramItem::Begin(_)
+        | ProgramItem::End(_)
+        | ProgramItem::Always(_)
+        | ProgramItem::When(_, _)
+        | ProgramItem::Range(_, _, _) => false,
     }
 }
 
-/// Whether a word that leaves stands where it may.
-fn may_leave(item: &Item, word: Leave, in_loop: bool) -> bool
+/// Whether a word that leaves is where it may be.
+fn may_leave(item: &ProgramItem, word: Jump, in_loop: bool) -> bool
     ensures { result ≡ words.may_leave (part item.now) word in_loop }
 {
     match word {
-        Leave::Next | Leave::NextFile => is_rule(item),
-        Leave::Break | Leave::Continue => in_loop,
+        Jump::Next | Jump::NextFile => is_rule(item),
+        Jump::Break | Jump::Continue => in_loop,
     }
 }
 
 /// A fault unless the rule is met.
-pub fn unless(is_met: bool, cause: Cause, start: usize) -> Option<Fault>
+pub fn unless(is_met: bool, cause: Cause, start: usize) -> Option<CheckFault>
     ensures { is_none result ≡ is_met }
 {
     if is_met {
         None
     } else {
-        Some(Fault { cause, start })
+        Some(CheckFault { cause, start })
     }
 }
 
-/// Whether a function of this name takes so many arguments.
+/// Whether a function of this name takes this number of arguments.
 fn is_call(functions: &Functions<'_>, name: &Name, count: usize) -> bool
     ensures { result ≡
         calls.takes_arguments (function_under functions.now name.now.text.items) count }
@@ -150,8 +153,8 @@ fn is_call(functions: &Functions<'_>, name: &Name, count: usize) -> bool
     }
 }
 
-/// A name that is no function's stands here.
-fn other_than_function(functions: &Functions<'_>, name: &Name) -> Option<Fault>
+/// A name that is no function's is used here.
+fn other_than_function(functions: &Functions<'_>, name: &Name) -> Option<CheckFault>
     ensures { is_none result ≡ is_none (function_under functions.now name.now.text.items) }
 {
     unless(
@@ -162,7 +165,7 @@ fn other_than_function(functions: &Functions<'_>, name: &Name) -> Option<Fault>
 }
 
 /// A variable that the run sets is not assigned here.
-fn other_than_run_variable(name: &Name) -> Option<Fault>
+fn other_than_run_variable(name: &Name) -> Option<CheckFault>
     ensures { is_none result ≡ not (vocabulary.is_run_variable name.now.text.items) }
 {
     unless(
@@ -173,7 +176,11 @@ fn other_than_run_variable(name: &Name) -> Option<Fault>
 }
 
 /// What is at fault with a mention of an item.
-pub fn fault(functions: &Functions<'_>, item: &Item, mention: Mention<'_>) -> Option<Fault>
+pub fn fault(
+    functions: &Functions<'_>,
+    item: &ProgramItem,
+    mention: Mention<'_>,
+) -> Option<CheckFault>
     ensures { is_none result ≡
         fits (function_under functions.now) (part item.now) (mention_view mention.entry) }
 {

@@ -3,10 +3,10 @@ use Rattle.std.proofs.Common.{◌≡◌, ℕ, suc, max, true, false, List, [], �
 use Rattle.std.specs.Prelude.{nat_le}
 use Rattle.std.proofs.lemmas.Bool.{eqb-true, false≢true}
 use Rattle.std.proofs.lemmas.List.{length-map}
-use Rattle.pawk_syntax_tree.specs.declared.tree.Expr.{Expr}
-use Rattle.pawk_token.specs.declared.token.Builtin.{Builtin}
-use Rattle.pawk_token.specs.declared.token.Builtin.TheVariants as b
-use Rattle.pawk_token.specs.Tokens.{Tok}
+use Rattle.pawk_syntax_tree.specs.declared.tree.ExpressionTree.{ExpressionTree}
+use Rattle.pawk_lex.specs.declared.token.Builtin.{Builtin}
+use Rattle.pawk_lex.specs.declared.token.Builtin.TheVariants as b
+use Rattle.pawk_lex.specs.Tokens.{Tok}
 use Rattle.pawk_syntax_tree.specs.declared.tree.Double.TheVariants as double
 use Rattle.pawk_syntax_tree.specs.Tree.{Tree, ere, binary, trees, view, views, record_tree, value, complete}
 use Rattle.pawk_syntax_tree.specs.Canonical.{height, highest}
@@ -63,11 +63,11 @@ complete_false b.Gsub (x ∷ y ∷ []) e = absurd (false≢true (sym e))
 complete_false b.Gsub (x ∷ y ∷ z ∷ as') e = refl
 complete_false _ as' e = refl
 
-pub complete_more : (f : Builtin) (es : List Expr) → lacks_record f (length es) ≡ true → complete f (trees (views es)) ≡ trees (views es ++ record_tree ∷ [])
+pub complete_more : (f : Builtin) (es : List ExpressionTree) → lacks_record f (length es) ≡ true → complete f (trees (views es)) ≡ trees (views es ++ record_tree ∷ [])
 complete_more f es e = complete_true f (views es) (rw length-map e)
 
-pub complete_same : (f : Builtin) (es : List Expr) → lacks_record f (length es) ≡ false → complete f (trees (views es)) ≡ trees (views es)
+pub complete_same : (f : Builtin) (es : List ExpressionTree) → lacks_record f (length es) ≡ false → complete f (trees (views es)) ≡ trees (views es)
 complete_same f es e = complete_false f (views es) (rw length-map e)
 
-pub count_is : (es : List Expr) → length (views es) ≡ length es
+pub count_is : (es : List ExpressionTree) → length (views es) ≡ length es
 count_is es = length-map es view

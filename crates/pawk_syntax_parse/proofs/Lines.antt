@@ -1,8 +1,8 @@
 -- One step of passing over newlines.
 use Rattle.std.proofs.Common.{◌≡◌, ◌<◌, true, false, List, [], ◌∷◌, length, drop, refl, arith}
-use Rattle.pawk_token.specs.declared.token.Mark.TheVariants.{Newline}
+use Rattle.pawk_lex.specs.declared.token.Mark.TheVariants.{Newline}
 use Rattle.std.proofs.lemmas.Bool.{false≢true}
-use Rattle.pawk_token.specs.Tokens.{Tok}
+use Rattle.pawk_lex.specs.Tokens.{Tok}
 use Rattle.pawk_syntax_tree.specs.Parse.{sees, skip_lines}
 
 pub one_line : (ts : List Tok) → sees Newline ts ≡ true → skip_lines ts ≡ skip_lines (drop 1 ts)

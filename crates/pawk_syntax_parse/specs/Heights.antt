@@ -1,15 +1,15 @@
 -- The heights of trees that the code holds.
 use Rattle.std.specs.Prelude.{ℕ, Bool, true, false, ◌==◌, List}
-use Rattle.pawk_token.specs.declared.token.Builtin.{Builtin}
-use Rattle.pawk_token.specs.declared.token.Builtin.TheVariants as b
-use Rattle.pawk_syntax_tree.specs.declared.tree.Expr.{Expr}
+use Rattle.pawk_lex.specs.declared.token.Builtin.{Builtin}
+use Rattle.pawk_lex.specs.declared.token.Builtin.TheVariants as b
+use Rattle.pawk_syntax_tree.specs.declared.tree.ExpressionTree.{ExpressionTree}
 use Rattle.pawk_syntax_tree.specs.Tree.{Tree, ere, view, views, trees}
 use Rattle.pawk_syntax_tree.specs.Canonical.{height, highest}
 
-abbrev pub height_of : Expr → ℕ
+abbrev pub height_of : ExpressionTree → ℕ
 height_of e = height (view e)
 
-abbrev pub highest_of : List Expr → ℕ
+abbrev pub highest_of : List ExpressionTree → ℕ
 highest_of es = highest (trees (views es))
 
 -- an expression between slashes

@@ -2,7 +2,7 @@
 use Rattle.std.specs.Prelude.{ℕ, Bool, Result}
 use Rattle.std.specs.declared.alloc.Global.{Global}
 use denote.Ref.{MutBor}
-use Rattle.pawk_token.specs.declared.refusal.SyntaxRefusal.{SyntaxRefusal}
+use Rattle.pawk_lex.specs.declared.refusal.SyntaxRefusal.{SyntaxRefusal}
 use Rattle.pawk_syntax_tree.specs.Parse.{expr}
 use Rattle.pawk_syntax_parse.specs.declared.cursor.Cursor.{Cursor}
 use Rattle.pawk_syntax_parse.specs.declared.phrase.Phrase.{Phrase}

@@ -1,8 +1,8 @@
 -- What a function that reads ensures: the outcome that the definitions compute, unless memory fails.
 use Rattle.std.specs.Prelude.{◌≡◌, ◌≢◌, ◌<◌, ℕ, List, map, Some, None, Result, Ok, Err}
-use Rattle.pawk_token.specs.declared.refusal.SyntaxRefusal.{SyntaxRefusal}
-use Rattle.pawk_token.specs.declared.refusal.SyntaxRefusal.TheVariants.{Memory}
-use Rattle.pawk_token.specs.Tokens.{Tok, tok}
+use Rattle.pawk_lex.specs.declared.refusal.SyntaxRefusal.{SyntaxRefusal}
+use Rattle.pawk_lex.specs.declared.refusal.SyntaxRefusal.TheVariants.{Memory}
+use Rattle.pawk_lex.specs.Tokens.{Tok, tok}
 use Rattle.pawk_syntax_parse.specs.declared.cursor.Cursor.{Cursor}
 use Rattle.pawk_syntax_parse.specs.declared.phrase.Phrase.{Phrase}
 use Rattle.pawk_syntax_parse.specs.declared.phrase.Phrases.{Phrases}

@@ -5,42 +5,42 @@ ghost use Rattle.pawk_syntax_tree.specs.Tree as tree;
 ghost use Rattle.pawk_syntax_tree.specs.Tree.{view, views, trees};
 ghost use Rattle.pawk_syntax_tree.specs.Parse as spec;
 ghost use Rattle.pawk_syntax_parse.specs.Heights as heights;
-ghost use Rattle.pawk_token.specs.declared.token.Builtin.TheVariants.{Length};
+ghost use Rattle.pawk_lex.specs.declared.token.Builtin.TheVariants.{Length};
 ghost use Rattle.pawk_syntax_parse.specs.Reads.{input, Gives, tree_of, trees_of};
 
 use crate::cursor::Cursor;
 use crate::phrase::{Phrase, Phrases};
-use pawk_syntax_tree::tree::{Double, Expr, Name, Single};
-use pawk_token::refusal::SyntaxRefusal;
-use pawk_token::token::Builtin;
+use pawk_lex::refusal::SyntaxRefusal;
+use pawk_lex::token::Builtin;
+use pawk_syntax_tree::tree::{Double, ExpressionTree, Name, Single};
 use std::alloc::{AllocError, Global};
 
-/// A numeral.
+/// The phrase of a numeral with this value.
 pub fn number(number: u64) -> Phrase
     ensures { tree_of result ≡ tree.number number }
 {
     Phrase {
-        expr: Expr::Number(number),
+        expr: ExpressionTree::Number(number),
         height: 1,
     }
 }
 
-/// A string.
+/// The phrase of a string with these bytes.
 pub fn string(alloc: Global, bytes: &Vec<u8>) -> Result<Phrase, AllocError>
     ensures { IfOk result (λ p. tree_of p ≡ tree.string bytes.now.items) }
 {
     Ok(Phrase {
-        expr: Expr::String(Vec::from_slice(alloc, bytes.as_slice())?),
+        expr: ExpressionTree::String(Vec::from_slice(alloc, bytes.as_slice())?),
         height: 1,
     })
 }
 
-/// An expression between slashes.
+/// The phrase of an expression between slashes with these bytes.
 pub fn ere(alloc: Global, bytes: &Vec<u8>) -> Result<Phrase, AllocError>
     ensures { IfOk result (λ p. tree_of p ≡ tree.ere bytes.now.items) }
 {
     Ok(Phrase {
-        expr: Expr::Ere(Vec::from_slice(alloc, bytes.as_slice())?),
+        expr: ExpressionTree::Ere(Vec::from_slice(alloc, bytes.as_slice())?),
         height: 1,
     })
 }
@@ -55,42 +55,42 @@ pub fn name(alloc: Global, text: &Vec<u8>, start: usize) -> Result<Name, AllocEr
     })
 }
 
-/// A variable.
+/// The phrase of a variable with this name.
 pub fn variable(name: Name) -> Phrase
     ensures { tree_of result ≡ tree.variable name.text.items }
 {
     Phrase {
-        expr: Expr::Variable(name),
+        expr: ExpressionTree::Variable(name),
         height: 1,
     }
 }
 
-/// `$0`
+/// The phrase `$0`, which is the whole record.
 pub fn record(alloc: Global) -> Result<Phrase, AllocError>
     ensures { IfOk result (λ p. tree_of p ≡ tree.record_tree) }
 {
-    let zero = Box::new(alloc, Expr::Number(0))?;
+    let zero = Box::new(alloc, ExpressionTree::Number(0))?;
     Ok(Phrase {
-        expr: Expr::Unary(Single::Field, zero),
+        expr: ExpressionTree::Unary(Single::Field, zero),
         height: 2,
     })
 }
 
-fn is_ere(expr: &Expr) -> bool
+fn is_ere(expr: &ExpressionTree) -> bool
     ensures { result ≡ heights.is_ere (view expr.now) }
 {
     match expr {
-        Expr::Ere(_) => true,
-        Expr::Number(_) => false,
-        Expr::String(_) => false,
-        Expr::Variable(_) => false,
-        Expr::Element(_, _) => false,
-        Expr::Unary(_, _) => false,
-        Expr::Binary(_, _, _) => false,
-        Expr::Choice(_, _, _) => false,
-        Expr::Member(_, _) => false,
-        Expr::Call(_, _) => false,
-        Expr::Builtin(_, _, _) => false,
+        ExpressionTree::Ere(_) => true,
+        ExpressionTree::Number(_) => false,
+        ExpressionTree::String(_) => false,
+        ExpressionTree::Variable(_) => false,
+        ExpressionTree::Element(_, _) => false,
+        ExpressionTree::Unary(_, _) => false,
+        ExpressionTree::Binary(_, _, _) => false,
+        ExpressionTree::Choice(_, _, _) => false,
+        ExpressionTree::Member(_, _) => false,
+        ExpressionTree::Call(_, _) => false,
+        ExpressionTree::Builtin(_, _, _) => false,
     }
 }
 
@@ -105,7 +105,7 @@ pub fn value(alloc: Global, phrase: Phrase) -> Result<Phrase, AllocError>
     let record = Box::new(alloc, record(alloc)?.expr)?;
     let ere = Box::new(alloc, phrase.expr)?;
     Ok(Phrase {
-        expr: Expr::Binary(Double::Match, record, ere),
+        expr: ExpressionTree::Binary(Double::Match, record, ere),
         height: 3,
     })
 }
@@ -161,7 +161,7 @@ pub fn argument(
 
 /// A tree of this height, if that is not too high.
 #[tactic(auto, using(crate::proofs::Building::low_is, crate::proofs::Building::low_none))]
-fn low(ts: &Cursor<'_>, expr: Expr, height: usize) -> Result<Phrase, SyntaxRefusal>
+fn low(ts: &Cursor<'_>, expr: ExpressionTree, height: usize) -> Result<Phrase, SyntaxRefusal>
     requires { height ≡ heights.height_of expr }
     ensures { Gives tree_of (spec.low (view expr) (input ts.now)) result (input ts.now) }
 {
@@ -169,46 +169,55 @@ fn low(ts: &Cursor<'_>, expr: Expr, height: usize) -> Result<Phrase, SyntaxRefus
     Ok(Phrase { expr, height })
 }
 
-fn unary_expr(alloc: Global, op: Single, a: Expr) -> Result<Expr, AllocError>
+fn unary_expr(alloc: Global, op: Single, a: ExpressionTree) -> Result<ExpressionTree, AllocError>
     ensures { IfOk result (λ e. view e ≡ tree.unary op (view a)) }
 {
-    Ok(Expr::Unary(op, Box::new(alloc, a)?))
+    Ok(ExpressionTree::Unary(op, Box::new(alloc, a)?))
 }
 
-fn binary_expr(alloc: Global, op: Double, a: Expr, b: Expr) -> Result<Expr, AllocError>
+fn binary_expr(
+    alloc: Global,
+    op: Double,
+    a: ExpressionTree,
+    b: ExpressionTree,
+) -> Result<ExpressionTree, AllocError>
     ensures { IfOk result (λ e. view e ≡ tree.binary op (view a) (view b)) }
 {
-    Ok(Expr::Binary(op, Box::new(alloc, a)?, Box::new(alloc, b)?))
+    Ok(ExpressionTree::Binary(op, Box::new(alloc, a)?, Box::new(alloc, b)?))
 }
 
-fn choice_expr(c: Box<Expr>, a: Box<Expr>, b: Box<Expr>) -> Expr
+fn choice_expr(
+    c: Box<ExpressionTree>,
+    a: Box<ExpressionTree>,
+    b: Box<ExpressionTree>,
+) -> ExpressionTree
     ensures { view result ≡ tree.choice (view c.value) (view a.value) (view b.value) }
 {
-    Expr::Choice(c, a, b)
+    ExpressionTree::Choice(c, a, b)
 }
 
-fn element_expr(name: Name, keys: Vec<Expr>) -> Expr
+fn element_expr(name: Name, keys: Vec<ExpressionTree>) -> ExpressionTree
     ensures { view result ≡ tree.element name.text.items (trees (views keys.items)) }
 {
-    Expr::Element(name, keys)
+    ExpressionTree::Element(name, keys)
 }
 
-fn member_expr(keys: Vec<Expr>, name: Name) -> Expr
+fn member_expr(keys: Vec<ExpressionTree>, name: Name) -> ExpressionTree
     ensures { view result ≡ tree.member (trees (views keys.items)) name.text.items }
 {
-    Expr::Member(keys, name)
+    ExpressionTree::Member(keys, name)
 }
 
-fn call_expr(name: Name, arguments: Vec<Expr>) -> Expr
+fn call_expr(name: Name, arguments: Vec<ExpressionTree>) -> ExpressionTree
     ensures { view result ≡ tree.call name.text.items (trees (views arguments.items)) }
 {
-    Expr::Call(name, arguments)
+    ExpressionTree::Call(name, arguments)
 }
 
-fn builtin_expr(function: Builtin, start: usize, arguments: Vec<Expr>) -> Expr
+fn builtin_expr(function: Builtin, start: usize, arguments: Vec<ExpressionTree>) -> ExpressionTree
     ensures { view result ≡ tree.builtin function (trees (views arguments.items)) }
 {
-    Expr::Builtin(function, start, arguments)
+    ExpressionTree::Builtin(function, start, arguments)
 }
 
 /// An operator with one operand.
@@ -254,7 +263,7 @@ pub fn infix(
 }
 
 /// What a phrase is where its value counts, in a box, and its height.
-fn boxed_value(alloc: Global, phrase: Phrase) -> Result<(Box<Expr>, usize), AllocError>
+fn boxed_value(alloc: Global, phrase: Phrase) -> Result<(Box<ExpressionTree>, usize), AllocError>
     ensures value { IfOk result (λ boxed. view boxed.0.value ≡ tree.value (tree_of phrase)) }
     ensures height { IfOk result (λ boxed. boxed.1 ≡ heights.height_of boxed.0.value) }
     ensures low { IfOk result (λ boxed. boxed.1 ≤ 200) }
@@ -281,7 +290,7 @@ pub fn choosing(
     low(ts, choice_expr(c, a, b), height)
 }
 
-/// No expressions.
+/// A list of no expressions.
 pub fn no_phrases(alloc: Global) -> Phrases
     ensures { trees_of result ≡ [] }
 {
@@ -299,7 +308,7 @@ pub fn count(phrases: &Phrases) -> usize
     phrases.list.len()
 }
 
-/// One more expression at the end of a list.
+/// Adds an expression at the end of a list.
 #[tactic(auto, using(crate::proofs::Building::highest_more))]
 pub fn push(mut phrases: Phrases, phrase: Phrase) -> Result<Phrases, AllocError>
     ensures { IfOk result (λ ps. trees_of ps ≡ trees_of phrases ++ tree_of phrase ∷ []) }
@@ -310,7 +319,7 @@ pub fn push(mut phrases: Phrases, phrase: Phrase) -> Result<Phrases, AllocError>
     Ok(Phrases { list, highest })
 }
 
-/// `a[k, l]`
+/// The phrase `a[k, l]` of an array and keys, unless it is too deep.
 pub fn element(ts: &Cursor<'_>, name: Name, keys: Phrases) -> Result<Phrase, SyntaxRefusal>
     ensures { Gives tree_of (spec.low (tree.element name.text.items (trees (trees_of keys)))
         (input ts.now)) result (input ts.now) }
@@ -345,7 +354,7 @@ pub fn membership(
     member(ts, keys, name)
 }
 
-/// `f(a, b)`
+/// The phrase `f(a, b)` of a function and arguments, unless it is too deep.
 pub fn call(ts: &Cursor<'_>, name: Name, arguments: Phrases) -> Result<Phrase, SyntaxRefusal>
     ensures { Gives tree_of (spec.low (tree.call name.text.items (trees (trees_of arguments)))
         (input ts.now)) result (input ts.now) }

@@ -4,9 +4,9 @@ ghost use Rattle.std.specs.Prelude.{◌≡◌, length, drop, OnOk, OnErr, nat_le
 ghost use Rattle.pawk_syntax_tree.specs.Parse as spec;
 ghost use Rattle.pawk_syntax_parse.specs.Reads.{input, Gives, nothing};
 
+use pawk_lex::refusal::{Cause, SyntaxRefusal};
+use pawk_lex::token::{Mark, Token, TokenValue};
 use pawk_syntax_tree::tree::Double;
-use pawk_token::refusal::{Cause, SyntaxRefusal};
-use pawk_token::token::{Mark, Token, Value};
 
 /// How high a tree may be.
 pub const GREATEST_HEIGHT: usize = 200;
@@ -39,7 +39,7 @@ impl<'t> Cursor<'t> {
         }
     }
 
-    /// Why the next token, or the end of the text, may not stand here; `compares` says that `>` is a
+    /// Why the next token, or the end of the text, is not allowed here; `compares` says that `>` is a
     /// comparison.
     pub fn refuse(&self, compares: bool) -> SyntaxRefusal {
         match self.rest {
@@ -48,7 +48,7 @@ impl<'t> Cursor<'t> {
                 place: self.size.saturating_add(1),
             }),
             [next, ..] => {
-                let cause = if !compares && matches!(&next.value, Value::Mark(Mark::Greater)) {
+                let cause = if !compares && matches!(&next.value, TokenValue::Mark(Mark::Greater)) {
                     Cause::InputOutput
                 } else {
                     Cause::Unexpected
@@ -81,6 +81,7 @@ impl<'t> Cursor<'t> {
         }
     }
 
+    /// Whether this sign is the next token.
     #[tactic(auto, unfolding(pawk_syntax_tree::specs::Parse::sees, pawk_syntax_tree::specs::Parse::same_mark))]
     pub fn sees(&self, sign: Mark) -> bool
         ensures { result ≡ spec.sees sign (input self.now) }
@@ -88,7 +89,7 @@ impl<'t> Cursor<'t> {
         match self.rest {
             [] => false,
             [next, ..] => match &next.value {
-                Value::Mark(mark) => *mark == sign,
+                TokenValue::Mark(mark) => *mark == sign,
                 _ => false,
             },
         }
@@ -103,6 +104,7 @@ impl<'t> Cursor<'t> {
         }
     }
 
+    /// Passes over the next token if it is this sign, and says whether it was.
     #[tactic(auto, unfolding(pawk_syntax_tree::specs::Parse::after))]
     pub fn eat(&mut self, sign: Mark) -> bool
         ensures seen { result ≡ spec.sees sign (input self.old) }
@@ -115,6 +117,7 @@ impl<'t> Cursor<'t> {
         seen
     }
 
+    /// Passes over this sign, or refuses the next token where it is another; `compares` is as for `refuse`.
     #[tactic(auto, unfolding(pawk_syntax_tree::specs::Parse::expect))]
     pub fn expect(&mut self, sign: Mark, compares: bool) -> Result<(), SyntaxRefusal>
         ensures { Gives nothing (spec.expect sign (input self.old)) result (input self.new) }
@@ -127,7 +130,7 @@ impl<'t> Cursor<'t> {
         }
     }
 
-    /// Passes over newlines.
+    /// Passes over the newlines that come next.
     #[tactic(auto, using(crate::proofs::Lines::one_line, crate::proofs::Lines::shorter, crate::proofs::Lines::no_line_left))]
     pub fn skip_lines(&mut self)
         ensures { input self.new ≡ spec.skip_lines (input self.old) }
@@ -137,6 +140,7 @@ impl<'t> Cursor<'t> {
         }
     }
 
+    /// Passes over the newlines that may follow this operator: those after `||` and `&&`.
     #[tactic(auto, unfolding(pawk_syntax_tree::specs::Parse::after_op))]
     pub fn after_op(&mut self, op: Double)
         ensures { input self.new ≡ spec.after_op op (input self.old) }

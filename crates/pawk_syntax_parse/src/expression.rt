@@ -4,7 +4,7 @@
 ghost use Rattle.std.specs.Prelude.{◌≡◌, ◌+◌, ◌≤◌, ◌<◌, [], length, IfOk, Option, Some, None, true, false};
 ghost use Rattle.pawk_syntax_tree.specs.Levels as levels;
 ghost use Rattle.pawk_syntax_tree.specs.Parse as spec;
-ghost use Rattle.pawk_token.specs.Tokens.{tok};
+ghost use Rattle.pawk_lex.specs.Tokens.{tok};
 ghost use Rattle.pawk_syntax_parse.specs.Starts as starts;
 ghost use Rattle.pawk_syntax_parse.specs.Reads.{input, Gives, GivesFrom, nothing, tree_of, trees_of, operand_of};
 ghost use Rattle.pawk_syntax_parse.specs.Nests.{Nests};
@@ -13,13 +13,13 @@ ghost use Rattle.pawk_syntax_parse.specs.Reads as reads;
 use crate::build;
 use crate::cursor::Cursor;
 use crate::phrase::{Phrase, Phrases};
+use pawk_lex::refusal::SyntaxRefusal;
+use pawk_lex::token::{Builtin, Mark, TokenValue};
 use pawk_syntax_tree::levels::{
     OF_EXPR, OF_INCREMENT, OF_LVALUE, OF_MEMBER, OF_PREFIXED, OF_PRIMARY, OF_VALUE, Row, Turn,
     beside, row_of_sign,
 };
 use pawk_syntax_tree::tree::{Double, Name, Single};
-use pawk_token::refusal::SyntaxRefusal;
-use pawk_token::token::{Builtin, Mark, Value};
 use std::alloc::Global;
 
 /// How deep phrases may nest.
@@ -33,22 +33,22 @@ fn row_at(ts: &Cursor<'_>, compares: bool, top: u8) -> Option<Row>
     match ts.rest {
         [] => None,
         [next, ..] => match &next.value {
-            Value::Mark(sign) => row_of_sign(compares, top, *sign),
+            TokenValue::Mark(sign) => row_of_sign(compares, top, *sign),
             _ => beside(),
         },
     }
 }
 
 /// The tightest level of an operand that begins with this token.
-fn tightest(value: &Value) -> u8
+fn tightest(value: &TokenValue) -> u8
     ensures { result ≡ starts.tightest (tok value.now) }
 {
     match value {
-        Value::Name(_) | Value::Mark(Mark::Dollar) => OF_LVALUE,
-        Value::Mark(Mark::LeftParenthesis) => OF_VALUE,
-        Value::Mark(Mark::PlusPlus | Mark::MinusMinus) => OF_INCREMENT,
-        Value::Mark(Mark::Not | Mark::Plus | Mark::Minus) => OF_PREFIXED,
-        Value::Mark(_) => OF_EXPR,
+        TokenValue::Name(_) | TokenValue::Mark(Mark::Dollar) => OF_LVALUE,
+        TokenValue::Mark(Mark::LeftParenthesis) => OF_VALUE,
+        TokenValue::Mark(Mark::PlusPlus | Mark::MinusMinus) => OF_INCREMENT,
+        TokenValue::Mark(Mark::Not | Mark::Plus | Mark::Minus) => OF_PREFIXED,
+        TokenValue::Mark(_) => OF_EXPR,
         _ => OF_VALUE,
     }
 }
@@ -75,7 +75,7 @@ pub fn expect_name(
     match ts.rest {
         [] => Err(ts.refuse(compares)),
         [next, ..] => match &next.value {
-            Value::Name(text) => {
+            TokenValue::Name(text) => {
                 ts.pass();
                 Ok(build::name(alloc, text, next.span.start)?)
             }
@@ -244,7 +244,7 @@ impl<F: Fn(Global, &mut Cursor<'_>, usize, bool, u8) -> Result<Phrase, SyntaxRef
         Ok((build::member(ts, inner, name)?, OF_MEMBER))
     }
 
-    /// After a bracket where no list of several may stand: one expression. A comma is refused there.
+    /// After a bracket where no list of several is allowed: one expression. A comma is refused there.
     #[tactic(auto, using(crate::proofs::Starts::no_group, crate::proofs::Starts::closed, crate::proofs::Starts::unclosed))]
     fn only_group(&self, ts: &mut Cursor<'_>, least: u8) -> Result<(Phrase, u8), SyntaxRefusal>
         requires nests { Nests self.now.depth (F.pre self.now.expr) (F.post self.now.expr) }
@@ -398,19 +398,19 @@ impl<F: Fn(Global, &mut Cursor<'_>, usize, bool, u8) -> Result<Phrase, SyntaxRef
                 ts.pass();
                 let start = next.span.start;
                 match &next.value {
-                    Value::Number(number) => Ok((build::number(*number), OF_VALUE)),
-                    Value::String(bytes) => Ok((build::string(self.alloc, bytes)?, OF_VALUE)),
-                    Value::Ere(bytes) => Ok((build::ere(self.alloc, bytes)?, OF_VALUE)),
-                    Value::Name(text) => {
+                    TokenValue::Number(number) => Ok((build::number(*number), OF_VALUE)),
+                    TokenValue::String(bytes) => Ok((build::string(self.alloc, bytes)?, OF_VALUE)),
+                    TokenValue::Ere(bytes) => Ok((build::ere(self.alloc, bytes)?, OF_VALUE)),
+                    TokenValue::Name(text) => {
                         let name = build::name(self.alloc, text, start)?;
                         self.named(ts, name)
                     }
-                    Value::FunctionName(text) => {
+                    TokenValue::FunctionName(text) => {
                         let name = build::name(self.alloc, text, start)?;
                         self.called(ts, name)
                     }
-                    Value::Builtin(function) => self.built_in(ts, compares, *function, start),
-                    Value::Mark(sign) => {
+                    TokenValue::Builtin(function) => self.built_in(ts, compares, *function, start),
+                    TokenValue::Mark(sign) => {
                         self.operand_by_mark(ts, compares, least, *sign, refusal)
                     }
                 }

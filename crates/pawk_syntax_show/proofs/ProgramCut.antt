@@ -1,21 +1,21 @@
 -- The canonical text of a program is cut into its canonical tokens.
 use Rattle.std.proofs.Common.{◌++◌, true, false, List, [], ◌∷◌, Option, Some, None, refl}
 use Rattle.std.specs.Prelude.{slice_index}
-use Rattle.pawk_token.specs.declared.token.Mark.TheVariants as m
-use Rattle.pawk_token.specs.Bytes.{Text}
-use Rattle.pawk_token.specs.Vocabulary.{double}
-use Rattle.pawk_token.specs.Tokens.{Tok}
-use Rattle.pawk_token.specs.Tokens as t
+use Rattle.pawk_lex.specs.declared.token.Mark.TheVariants as m
+use Rattle.pawk_lex.specs.Bytes.{Text}
+use Rattle.pawk_lex.specs.Vocabulary.{double}
+use Rattle.pawk_lex.specs.Tokens.{Tok}
+use Rattle.pawk_lex.specs.Tokens as t
 use Rattle.pawk_lex.specs.Next.{is_redirection}
 use Rattle.pawk_lex.specs.Cut.{no_gap, CutFrom, at_end}
 use Rattle.pawk_syntax_tree.specs.Tree.{Tree}
 use Rattle.pawk_syntax_tree.specs.Canonical.{closing, canon}
-use Rattle.pawk_syntax_program.specs.declared.statement.Leave.{Leave}
-use Rattle.pawk_syntax_program.specs.declared.statement.Leave.TheVariants as leave
-use Rattle.pawk_syntax_program.specs.Statement.{Stmt, eval, print, printf, when, choose, repeat, do_while, loop, walk, go_out, exit_with, return_with, delete, clear, Stmts, done, next}
-use Rattle.pawk_syntax_program.specs.StatementCanonical.{in_braces, in_head, canon_maybe, canon_stmt, canon_lines, Counts, MayCount, IsSoundStmt, AreSoundStmts}
-use Rattle.pawk_syntax_program.specs.Item.{Part, begin, end, always, matching, between, define}
-use Rattle.pawk_syntax_program.specs.ItemCanonical.{canon_names, canon_parameters, canon_part, canon_program, IsSoundPart, AreSoundParts}
+use Rattle.pawk_syntax_tree.specs.declared.statement.Jump.{Jump}
+use Rattle.pawk_syntax_tree.specs.declared.statement.Jump.TheVariants as leave
+use Rattle.pawk_syntax_tree.specs.Statement.{Stmt, eval, print, printf, when, choose, repeat, do_while, loop, walk, go_out, exit_with, return_with, delete, clear, Stmts, done, next}
+use Rattle.pawk_syntax_tree.specs.StatementCanonical.{in_braces, in_head, canon_maybe, canon_stmt, canon_lines, Counts, MayCount, IsSoundStmt, AreSoundStmts}
+use Rattle.pawk_syntax_tree.specs.Item.{Part, begin, end, always, matching, between, define}
+use Rattle.pawk_syntax_tree.specs.ItemCanonical.{canon_names, canon_parameters, canon_part, canon_program, IsSoundPart, AreSoundParts}
 use Rattle.pawk_syntax_show.specs.TreeText.{closing_text, tree_text, list_text}
 use Rattle.pawk_syntax_show.specs.ProgramText.{body_text, head_text, maybe_text, operand_text, stmt_text, lines_text, other_names_text, names_text, part_text, program_text}
 use Rattle.pawk_syntax_show.proofs.WritableTree.{IsWritableTree}
@@ -67,7 +67,7 @@ operand_breaks (Some e) rest k = space_breaks
 semicolon_cut : {rest : Text} {ts : List Tok} → CutFrom false rest ts → CutAnyhow (59 ∷ 32 ∷ rest) (t.mark m.Semicolon ∷ ts)
 semicolon_cut {rest = rest} c d = word_cut m.Semicolon rest tt c
 
-leave_cut : (l : Leave) (rest : Text) (ts : List Tok) → Breaks (slice_index rest 0) → CutFrom false rest ts → CutFrom false (stmt_text (go_out l) rest) (canon_stmt (go_out l) ts)
+leave_cut : (l : Jump) (rest : Text) (ts : List Tok) → Breaks (slice_index rest 0) → CutFrom false rest ts → CutFrom false (stmt_text (go_out l) rest) (canon_stmt (go_out l) ts)
 leave_cut leave.Next rest ts k c = mark_cut m.Next rest k.no_name tt c
 leave_cut leave.NextFile rest ts k c = mark_cut m.NextFile rest k.no_name tt c
 leave_cut leave.Break rest ts k c = mark_cut m.Break rest k.no_name tt c

@@ -4,14 +4,14 @@ use Rattle.std.specs.Prelude.{◌==◌, slice_index}
 use Rattle.std.specs.Char.{is_ascii_digit}
 use Rattle.std.specs.Fmt.{decimal}
 use Rattle.std.proofs.lemmas.Bool.{cases_Bool, eqb-true, false≢true}
-use Rattle.pawk_token.specs.declared.token.Mark.{Mark}
-use Rattle.pawk_token.specs.declared.token.Mark.TheVariants as m
-use Rattle.pawk_token.specs.declared.token.Builtin.{Builtin}
-use Rattle.pawk_token.specs.declared.token.Builtin.TheVariants as b
-use Rattle.pawk_token.specs.Bytes.{Text, is_name_byte, BeginsBy}
-use Rattle.pawk_token.specs.Vocabulary.{mark_text, builtin_text, double}
-use Rattle.pawk_token.specs.Tokens.{Tok, mark_divides, divides_after}
-use Rattle.pawk_token.specs.Tokens as t
+use Rattle.pawk_lex.specs.declared.token.Mark.{Mark}
+use Rattle.pawk_lex.specs.declared.token.Mark.TheVariants as m
+use Rattle.pawk_lex.specs.declared.token.Builtin.{Builtin}
+use Rattle.pawk_lex.specs.declared.token.Builtin.TheVariants as b
+use Rattle.pawk_lex.specs.Bytes.{Text, is_name_byte, BeginsBy}
+use Rattle.pawk_lex.specs.Vocabulary.{mark_text, builtin_text, double}
+use Rattle.pawk_lex.specs.Tokens.{Tok, mark_divides, divides_after}
+use Rattle.pawk_lex.specs.Tokens as t
 use Rattle.pawk_lex.specs.Next.{is_redirection}
 use Rattle.pawk_lex.specs.Cut.{IsName, IsNumeralOf, no_gap, a_blank, MarkEnds, Ends, MarkStands, Stands, CutFrom}
 use Rattle.pawk_lex.specs.Canonical.{token_text, IsWritable}
@@ -26,7 +26,7 @@ use Rattle.pawk_syntax_tree.specs.Canonical.{opening, closing, between, canon, c
 use Rattle.pawk_syntax_show.specs.TreeText.{between_text, tree_text, keys_text, list_text, others_text, closing_text}
 use Rattle.pawk_syntax_show.proofs.WritableTree.{IsWritableTree, AreWritableTrees}
 
--- a cut before which any token may stand
+-- a cut before which any token may come
 abbrev pub CutAnyhow : Text → List Tok → Type 0
 CutAnyhow rest ts = (d : Bool) → CutFrom d rest ts
 
@@ -105,7 +105,7 @@ name_cut x rest w k c = token_cut (t.name x) rest w (k.no_name, k.no_call) tt c
 
 -- ---- how an expression begins
 
--- no sign of two bytes ends with the byte after a sign that stands before an operand
+-- no sign of two bytes ends with the byte after a sign before an operand
 record Starts (b : ℕ) : Type 0 where
   no_plus : (b == 43) ≡ false
   no_minus : (b == 45) ≡ false
@@ -191,9 +191,9 @@ minus_ends : (b : ℕ) → Starts b → MarkEnds (mark_text m.Minus) b
 unfolding double is_redirection
 minus_ends b k = rw (k.no_equal, k.no_minus) (refl, refl)
 
--- ---- where an expression may stand
+-- ---- where an expression is allowed
 
--- an expression between slashes stands only where a slash opens one
+-- an expression between slashes occurs only where a slash opens one
 abbrev pub TreeStands : Bool → Tree → Type 0
 TreeStands d (ere x) = d ≡ false
 TreeStands d _ = Unit {0}
@@ -210,7 +210,7 @@ lvalue_stands : (a : Tree) → IsLvalue a → TreeStands true a
 lvalue_stands (ere x) h = absurd h
 lvalue_stands _ h = tt
 
--- whether a slash divides after what stands between two operands
+-- whether a slash divides after what is between two operands
 abbrev after_sign : Double → Bool
 after_sign double.Concatenate = true
 after_sign _ = false

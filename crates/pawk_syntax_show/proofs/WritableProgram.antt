@@ -1,15 +1,15 @@
 -- Statements and items that writable tokens derive have writable names, numbers, strings and expressions between slashes.
 use Rattle.std.proofs.Common.{Bool, true, false, List, [], ◌∷◌, Option, Some, None}
-use Rattle.pawk_token.specs.declared.token.Mark.TheVariants as m
-use Rattle.pawk_token.specs.Bytes.{Text}
-use Rattle.pawk_token.specs.Tokens.{Tok}
-use Rattle.pawk_token.specs.Tokens as t
+use Rattle.pawk_lex.specs.declared.token.Mark.TheVariants as m
+use Rattle.pawk_lex.specs.Bytes.{Text}
+use Rattle.pawk_lex.specs.Tokens.{Tok}
+use Rattle.pawk_lex.specs.Tokens as t
 use Rattle.pawk_lex.specs.Canonical.{IsWritable, AreWritable}
 use Rattle.pawk_syntax_tree.specs.Tree.{Tree, Trees}
-use Rattle.pawk_syntax_program.specs.Statement.{Stmt, eval, print, printf, when, choose, repeat, do_while, loop, walk, go_out, exit_with, return_with, delete, clear, Stmts, done, next, both}
-use Rattle.pawk_syntax_program.specs.StatementGrammar.{End, by_semicolon, by_line, by_brace, Maybe, missing, given, Printed, a_list, in_brackets, Simple, an_expression, a_bare_print, a_print, a_printf, a_leave, an_exit, a_return, a_delete, a_clear, Head, a_head, Means, a_simple, an_empty, a_block, an_if, an_else, a_while, a_do, a_for, a_walk, Lists, at_brace, further}
-use Rattle.pawk_syntax_program.specs.Item.{Part, begin, end, always, matching, between, define, print_record}
-use Rattle.pawk_syntax_program.specs.ItemGrammar.{Action, an_action, Parameters, last_parameter, a_parameter, AllParameters, no_parameter, some_parameters, Named, by_name, by_call, Is, a_begin, an_end, a_rule, a_pattern, a_bare_pattern, a_range, a_bare_range, a_function, Separators, no_more, a_semicolon, a_newline, Separates, Items, no_item, an_item, Programs, a_program}
+use Rattle.pawk_syntax_tree.specs.Statement.{Stmt, eval, print, printf, when, choose, repeat, do_while, loop, walk, go_out, exit_with, return_with, delete, clear, Stmts, done, next, both}
+use Rattle.pawk_syntax_tree.specs.StatementGrammar.{End, by_semicolon, by_line, by_brace, Maybe, missing, given, Printed, a_list, in_brackets, Simple, an_expression, a_bare_print, a_print, a_printf, a_leave, an_exit, a_return, a_delete, a_clear, Head, a_head, Means, a_simple, an_empty, a_block, an_if, an_else, a_while, a_do, a_for, a_walk, Lists, at_brace, further}
+use Rattle.pawk_syntax_tree.specs.Item.{Part, begin, end, always, matching, between, define, print_record}
+use Rattle.pawk_syntax_tree.specs.ItemGrammar.{Action, an_action, Parameters, last_parameter, a_parameter, AllParameters, no_parameter, some_parameters, Named, by_name, by_call, Is, a_begin, an_end, a_rule, a_pattern, a_bare_pattern, a_range, a_bare_range, a_function, Separators, no_more, a_semicolon, a_newline, Separates, Items, no_item, an_item, Programs, a_program}
 use Rattle.pawk_syntax_show.proofs.WritableTree.{IsWritableTree, AreWritableTrees, Leaves, LeaveAll, record_writable, value_writable, lines_writable, derived_writable, each_writable}
 
 abbrev pub MayWrite : Option Tree → Type 0

@@ -1,9 +1,9 @@
 -- Expressions that writable tokens derive have writable names, numbers, strings and expressions between slashes.
 use Rattle.std.proofs.Common.{ℕ, Bool, true, false, List, Option, arith}
-use Rattle.pawk_token.specs.declared.token.Builtin.{Builtin}
-use Rattle.pawk_token.specs.declared.token.Builtin.TheVariants as b
-use Rattle.pawk_token.specs.Tokens.{Tok}
-use Rattle.pawk_token.specs.Tokens as t
+use Rattle.pawk_lex.specs.declared.token.Builtin.{Builtin}
+use Rattle.pawk_lex.specs.declared.token.Builtin.TheVariants as b
+use Rattle.pawk_lex.specs.Tokens.{Tok}
+use Rattle.pawk_lex.specs.Tokens as t
 use Rattle.pawk_lex.specs.Canonical.{IsWritable, AreWritable}
 use Rattle.pawk_syntax_tree.specs.declared.tree.Double.{Double}
 use Rattle.pawk_syntax_tree.specs.declared.tree.Double.TheVariants as double

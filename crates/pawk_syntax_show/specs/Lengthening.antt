@@ -1,6 +1,6 @@
 -- Texts that are written before anything that follows.
 use Rattle.std.specs.Prelude.{◌≡◌, ◌++◌}
-use Rattle.pawk_token.specs.Bytes.{Text}
+use Rattle.pawk_lex.specs.Bytes.{Text}
 
 -- the text is what `writing` sets before what follows
 abbrev pub IsTextOf : (Text → Text) → Text → Type 0

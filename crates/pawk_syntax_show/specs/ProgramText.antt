@@ -1,12 +1,12 @@
 -- The canonical text of statements, items and programs, and what follows it.
 use Rattle.std.specs.Prelude.{List, [], ◌∷◌, Option, Some, None}
-use Rattle.pawk_token.specs.declared.token.Mark.{Mark}
-use Rattle.pawk_token.specs.declared.token.Mark.TheVariants as m
-use Rattle.pawk_token.specs.Bytes.{Text}
-use Rattle.pawk_token.specs.Tokens as t
+use Rattle.pawk_lex.specs.declared.token.Mark.{Mark}
+use Rattle.pawk_lex.specs.declared.token.Mark.TheVariants as m
+use Rattle.pawk_lex.specs.Bytes.{Text}
+use Rattle.pawk_lex.specs.Tokens as t
 use Rattle.pawk_syntax_tree.specs.Tree.{Tree}
-use Rattle.pawk_syntax_program.specs.Statement.{Stmt, eval, print, printf, when, choose, repeat, do_while, loop, walk, go_out, exit_with, return_with, delete, clear, Stmts, done, next, word_of}
-use Rattle.pawk_syntax_program.specs.Item.{Part, begin, end, always, matching, between, define}
+use Rattle.pawk_syntax_tree.specs.Statement.{Stmt, eval, print, printf, when, choose, repeat, do_while, loop, walk, go_out, exit_with, return_with, delete, clear, Stmts, done, next, word_of}
+use Rattle.pawk_syntax_tree.specs.Item.{Part, begin, end, always, matching, between, define}
 use Rattle.pawk_syntax_show.specs.TreeText.{with_token, with_mark, with_name, with_space, between_spaces, opening_text, closing_text, comma_text, tree_text, list_text}
 
 -- ---- parts of statements
@@ -28,7 +28,7 @@ abbrev pub maybe_text : Option Tree → Text → Text
 maybe_text None rest = rest
 maybe_text (Some e) rest = tree_text e rest
 
--- the expression of a word that may stand alone, after a space
+-- the expression of a word that may be used alone, after a space
 abbrev pub operand_text : Option Tree → Text → Text
 operand_text None rest = rest
 operand_text (Some e) rest = with_space (tree_text e rest)

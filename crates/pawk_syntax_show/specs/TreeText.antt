@@ -1,10 +1,10 @@
 -- The canonical text of expressions: each operator in round brackets, with single spaces, and what follows it.
 use Rattle.std.specs.Prelude.{◌∷◌, ◌++◌, Option, Some, None}
-use Rattle.pawk_token.specs.declared.token.Mark.{Mark}
-use Rattle.pawk_token.specs.declared.token.Mark.TheVariants as m
-use Rattle.pawk_token.specs.Bytes.{Text}
-use Rattle.pawk_token.specs.Tokens.{Tok}
-use Rattle.pawk_token.specs.Tokens as t
+use Rattle.pawk_lex.specs.declared.token.Mark.{Mark}
+use Rattle.pawk_lex.specs.declared.token.Mark.TheVariants as m
+use Rattle.pawk_lex.specs.Bytes.{Text}
+use Rattle.pawk_lex.specs.Tokens.{Tok}
+use Rattle.pawk_lex.specs.Tokens as t
 use Rattle.pawk_lex.specs.Canonical.{token_text}
 use Rattle.pawk_syntax_tree.specs.declared.tree.Single.{Single}
 use Rattle.pawk_syntax_tree.specs.declared.tree.Single.TheVariants as single
@@ -39,7 +39,7 @@ comma_text rest = with_mark m.Comma (with_space rest)
 
 -- ---- operators
 
--- what stands before and after the operand of an operator with one: `$(a)`, `(!a)`, `(++a)`, `(a++)`
+-- what is before and after the operand of an operator with one: `$(a)`, `(!a)`, `(++a)`, `(a++)`
 abbrev pub before_text : Single → Text → Text
 before_text single.Field rest = with_mark m.Dollar (opening_text rest)
 before_text single.Not rest = opening_text (with_mark m.Not rest)
@@ -54,7 +54,7 @@ after_text single.IncrementAfter rest = with_mark m.PlusPlus (closing_text rest)
 after_text single.DecrementAfter rest = with_mark m.MinusMinus (closing_text rest)
 after_text _ rest = closing_text rest
 
--- what stands between two operands: a sign between spaces, or a space alone
+-- what is between two operands: a sign between spaces, or a space alone
 abbrev pub between_text : Option Mark → Text → Text
 between_text (Some s) rest = between_spaces s rest
 between_text None rest = with_space rest
@@ -79,7 +79,7 @@ abbrev mutual
   tree_text (call f as') rest = with_token (t.function_name f) (opening_text (list_text as' (closing_text rest)))
   tree_text (builtin f as') rest = with_token (t.builtin f) (opening_text (list_text as' (closing_text rest)))
 
-  -- the keys of `in`: several stand in brackets
+  -- the keys of `in`: several are written in brackets
   pub keys_text : Trees → Text → Text
   keys_text none rest = rest
   keys_text (more a none) rest = tree_text a rest

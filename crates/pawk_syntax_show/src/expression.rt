@@ -8,10 +8,10 @@ ghost use Rattle.pawk_syntax_show.specs.TreeText.{before_text, after_text, betwe
 ghost use Rattle.pawk_syntax_show.specs.TreeText.{keys_text, list_text, opening_text, with_name};
 
 use crate::writing::{append, append_ere, append_number, append_string};
-use pawk_syntax_tree::tree::{Double, Expr, Name, Single};
+use pawk_syntax_tree::tree::{Double, ExpressionTree, Name, Single};
 use std::alloc::AllocError;
 
-/// What stands between the two operands of an operator.
+/// What is between the two operands of an operator.
 fn sign(op: Double) -> &'static [u8]
     ensures { IsTextOf (between_text (sign_of op)) result.now }
 {
@@ -43,7 +43,7 @@ fn sign(op: Double) -> &'static [u8]
     }
 }
 
-/// What stands before the operand of an operator with one.
+/// What is before the operand of an operator with one.
 fn prefix(op: Single) -> &'static [u8]
     ensures { IsTextOf (before_text op) result.now }
 {
@@ -58,7 +58,7 @@ fn prefix(op: Single) -> &'static [u8]
     }
 }
 
-/// What stands after the operand of an operator with one.
+/// What is after the operand of an operator with one.
 fn suffix(op: Single) -> &'static [u8]
     ensures { IsTextOf (after_text op) result.now }
 {
@@ -69,7 +69,7 @@ fn suffix(op: Single) -> &'static [u8]
     }
 }
 
-/// Appends a name.
+/// Appends the bytes of a name.
 pub fn append_name(out: &mut Vec<u8>, name: &Name) -> Result<(), AllocError>
     ensures { OnOk result
         (Lengthens out.old.items out.new.items (with_name name.now.text.items)) }
@@ -77,42 +77,42 @@ pub fn append_name(out: &mut Vec<u8>, name: &Name) -> Result<(), AllocError>
     append(out, &name.text)
 }
 
-/// Appends an expression.
+/// Appends the canonical text of an expression.
 #[cycle(expr)]
-pub fn append_expr(out: &mut Vec<u8>, expr: &Expr) -> Result<(), AllocError>
+pub fn append_expr(out: &mut Vec<u8>, expr: &ExpressionTree) -> Result<(), AllocError>
     ensures { OnOk result
         (Lengthens out.old.items out.new.items (tree_text (view expr.now))) }
 {
     match expr {
-        Expr::Number(number) => append_number(out, *number),
-        Expr::String(bytes) => append_string(out, bytes),
-        Expr::Ere(bytes) => append_ere(out, bytes),
-        Expr::Variable(name) => append_name(out, name),
-        Expr::Element(name, keys) => {
+        ExpressionTree::Number(number) => append_number(out, *number),
+        ExpressionTree::String(bytes) => append_string(out, bytes),
+        ExpressionTree::Ere(bytes) => append_ere(out, bytes),
+        ExpressionTree::Variable(name) => append_name(out, name),
+        ExpressionTree::Element(name, keys) => {
             append_name(out, name)?;
             append_between(out, b"[", keys, b"]")
         }
-        Expr::Unary(op, operand) => append_around(out, prefix(*op), operand, suffix(*op)),
-        Expr::Binary(op, left, right) => {
+        ExpressionTree::Unary(op, operand) => append_around(out, prefix(*op), operand, suffix(*op)),
+        ExpressionTree::Binary(op, left, right) => {
             append_after(out, b"(", left)?;
             append_around(out, sign(*op), right, b")")
         }
-        Expr::Choice(condition, yes, no) => {
+        ExpressionTree::Choice(condition, yes, no) => {
             append_after(out, b"(", condition)?;
             append_after(out, b" ? ", yes)?;
             append_around(out, b" : ", no, b")")
         }
-        Expr::Member(keys, name) => {
+        ExpressionTree::Member(keys, name) => {
             append_keys(out, keys)?;
             append(out, b" in ")?;
             append_name(out, name)?;
             append(out, b")")
         }
-        Expr::Call(name, arguments) => {
+        ExpressionTree::Call(name, arguments) => {
             append_name(out, name)?;
             append_between(out, b"(", arguments, b")")
         }
-        Expr::Builtin(function, _, arguments) => {
+        ExpressionTree::Builtin(function, _, arguments) => {
             append(out, function.name())?;
             append_between(out, b"(", arguments, b")")
         }
@@ -121,7 +121,11 @@ pub fn append_expr(out: &mut Vec<u8>, expr: &Expr) -> Result<(), AllocError>
 
 /// Appends a text, and an expression after it.
 #[cycle(expr)]
-pub fn append_after(out: &mut Vec<u8>, before: &[u8], expr: &Expr) -> Result<(), AllocError>
+pub fn append_after(
+    out: &mut Vec<u8>,
+    before: &[u8],
+    expr: &ExpressionTree,
+) -> Result<(), AllocError>
     ensures { OnOk result (Lengthens out.old.items out.new.items
         (λ rest. before.now ++ tree_text (view expr.now) rest)) }
 {
@@ -134,7 +138,7 @@ pub fn append_after(out: &mut Vec<u8>, before: &[u8], expr: &Expr) -> Result<(),
 pub fn append_around(
     out: &mut Vec<u8>,
     before: &[u8],
-    expr: &Expr,
+    expr: &ExpressionTree,
     after: &[u8],
 ) -> Result<(), AllocError>
     ensures { OnOk result (Lengthens out.old.items out.new.items
@@ -144,9 +148,9 @@ pub fn append_around(
     append(out, after)
 }
 
-/// Appends an opening bracket and the keys of `in`: several stand in brackets of their own.
+/// Appends an opening bracket and the keys of `in`: several are written in brackets of their own.
 #[cycle(expr)]
-fn append_keys(out: &mut Vec<u8>, keys: &[Expr]) -> Result<(), AllocError>
+fn append_keys(out: &mut Vec<u8>, keys: &[ExpressionTree]) -> Result<(), AllocError>
     ensures { OnOk result (Lengthens out.old.items out.new.items
         (λ rest. opening_text (keys_text (trees (views keys.now)) rest))) }
 {
@@ -162,7 +166,7 @@ fn append_keys(out: &mut Vec<u8>, keys: &[Expr]) -> Result<(), AllocError>
 pub fn append_between(
     out: &mut Vec<u8>,
     before: &[u8],
-    list: &[Expr],
+    list: &[ExpressionTree],
     after: &[u8],
 ) -> Result<(), AllocError>
     ensures { OnOk result (Lengthens out.old.items out.new.items
@@ -175,7 +179,7 @@ pub fn append_between(
 
 /// Appends expressions with a comma and a space between.
 #[cycle(expr)]
-pub fn append_list(out: &mut Vec<u8>, list: &[Expr]) -> Result<(), AllocError>
+pub fn append_list(out: &mut Vec<u8>, list: &[ExpressionTree]) -> Result<(), AllocError>
     ensures { OnOk result (Lengthens out.old.items out.new.items
         (list_text (trees (views list.now)))) }
 {

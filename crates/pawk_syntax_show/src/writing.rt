@@ -1,7 +1,7 @@
 //! The text of tokens, at the end of a text.
 
 ghost use Rattle.std.specs.Prelude.{◌++◌, OnOk};
-ghost use Rattle.pawk_token.specs.Tokens as token;
+ghost use Rattle.pawk_lex.specs.Tokens as token;
 ghost use Rattle.pawk_lex.specs.Canonical.{byte_text};
 ghost use Rattle.pawk_syntax_show.specs.Lengthening.{Lengthens};
 ghost use Rattle.pawk_syntax_show.specs.TreeText.{with_token};
@@ -9,7 +9,7 @@ ghost use Rattle.pawk_syntax_show.specs.TreeText.{with_token};
 use itoa::Buffer;
 use std::alloc::AllocError;
 
-/// Appends these bytes.
+/// Appends these bytes as they are.
 pub fn append(out: &mut Vec<u8>, text: &[u8]) -> Result<(), AllocError>
     ensures { OnOk result
         (Lengthens out.old.items out.new.items (λ rest. text.now ++ rest)) }
@@ -26,7 +26,7 @@ pub fn append_number(out: &mut Vec<u8>, number: u64) -> Result<(), AllocError>
     append(out, buffer.format(number).as_bytes())
 }
 
-/// Appends a byte as it stands in a string: a quote and a backslash after a backslash, a printable
+/// Appends a byte as it is written in a string: a quote and a backslash after a backslash, a printable
 /// byte itself, any other one by three octal digits.
 fn append_byte(out: &mut Vec<u8>, byte: u8) -> Result<(), AllocError>
     ensures { OnOk result

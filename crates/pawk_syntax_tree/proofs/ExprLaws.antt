@@ -1,7 +1,7 @@
 -- Both directions, for one expression.
 use Rattle.std.proofs.Common.{◌≡◌, ◌≤◌, ℕ, Bool, List, Some, arith, inl}
 use Rattle.std.proofs.Math.Dec.{leb-zero}
-use Rattle.pawk_token.specs.Tokens.{Tok}
+use Rattle.pawk_lex.specs.Tokens.{Tok}
 use Rattle.pawk_syntax_tree.specs.Tree.{Tree}
 use Rattle.pawk_syntax_tree.specs.Grammar.{Derives}
 use Rattle.pawk_syntax_tree.specs.Canonical.{canon, closing, height}

@@ -4,3 +4,11 @@ pub mod Kept
 pub mod Again
 pub mod TreesAgain
 pub mod ExprLaws
+pub mod StatementSound
+pub mod StatementKept
+pub mod StatementAgain
+pub mod ItemSound
+pub mod ItemAgain
+pub mod ItemKept
+pub mod ItemLow
+pub mod ProgramLaws

@@ -1,12 +1,12 @@
--- What looking at the next tokens tells.
+-- What looking at the next tokens shows.
 use Rattle.std.proofs.Common.{◌≡◌, true, false, List, [], ◌∷◌, drop, Some, None, refl, sym, ap, ◌∙◌, inl, inr, rules}
 use Rattle.std.proofs.lemmas.Bool.{cases_Bool, false≢true}
 use denote.Enum.Bare.{same_true, true_same}
-use Rattle.pawk_token.specs.contracts.token.Mark.{the_type}
-use Rattle.pawk_token.specs.declared.token.Mark.{Mark}
-use Rattle.pawk_token.specs.declared.token.Mark.TheVariants as m
-use Rattle.pawk_token.specs.Tokens.{Tok}
-use Rattle.pawk_token.specs.Tokens as t
+use Rattle.pawk_lex.specs.contracts.token.Mark.{the_type}
+use Rattle.pawk_lex.specs.declared.token.Mark.{Mark}
+use Rattle.pawk_lex.specs.declared.token.Mark.TheVariants as m
+use Rattle.pawk_lex.specs.Tokens.{Tok}
+use Rattle.pawk_lex.specs.Tokens as t
 use Rattle.pawk_syntax_tree.specs.declared.tree.Double.{Double}
 use Rattle.pawk_syntax_tree.specs.declared.tree.Double.TheVariants as double
 use Rattle.pawk_syntax_tree.specs.Grammar.{Newlines, no_line, a_line, Gap, NotNext}

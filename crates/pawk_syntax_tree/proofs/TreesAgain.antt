@@ -1,12 +1,12 @@
 -- The canonical tokens of lists, calls and all trees are read as those trees.
 use Rattle.std.proofs.Common.{◌≡◌, ◌≤◌, ℕ, zero, suc, ◌*◌, max, Bool, true, false, List, [], ◌∷◌, ◌++◌, length, Option, Some, None, refl, ap, ◌∙◌, arith, append_assoc}
 use Rattle.std.proofs.Math.Dec.{leb-zero}
-use Rattle.pawk_token.specs.declared.token.Mark.{Mark}
-use Rattle.pawk_token.specs.declared.token.Mark.TheVariants as m
-use Rattle.pawk_token.specs.declared.token.Builtin.{Builtin}
-use Rattle.pawk_token.specs.Bytes.{Text}
-use Rattle.pawk_token.specs.Tokens.{Tok}
-use Rattle.pawk_token.specs.Tokens as t
+use Rattle.pawk_lex.specs.declared.token.Mark.{Mark}
+use Rattle.pawk_lex.specs.declared.token.Mark.TheVariants as m
+use Rattle.pawk_lex.specs.declared.token.Builtin.{Builtin}
+use Rattle.pawk_lex.specs.Bytes.{Text}
+use Rattle.pawk_lex.specs.Tokens.{Tok}
+use Rattle.pawk_lex.specs.Tokens as t
 use Rattle.pawk_syntax_tree.specs.declared.tree.Single.{Single}
 use Rattle.pawk_syntax_tree.specs.declared.tree.Single.TheVariants as single
 use Rattle.pawk_syntax_tree.specs.declared.levels.Turn.TheVariants.{Membership}

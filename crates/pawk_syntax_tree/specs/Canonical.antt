@@ -1,10 +1,10 @@
 -- The canonical tokens of a tree, with each operator in brackets, and the trees that have them.
 use Rattle.std.specs.Prelude.{◌≡◌, ℕ, suc, max, List, ◌∷◌, Option, Some, None}
-use Rattle.pawk_token.specs.declared.token.Mark.{Mark}
-use Rattle.pawk_token.specs.declared.token.Mark.TheVariants as m
-use Rattle.pawk_token.specs.declared.token.Builtin.{Builtin}
-use Rattle.pawk_token.specs.Tokens.{Tok}
-use Rattle.pawk_token.specs.Tokens as t
+use Rattle.pawk_lex.specs.declared.token.Mark.{Mark}
+use Rattle.pawk_lex.specs.declared.token.Mark.TheVariants as m
+use Rattle.pawk_lex.specs.declared.token.Builtin.{Builtin}
+use Rattle.pawk_lex.specs.Tokens.{Tok}
+use Rattle.pawk_lex.specs.Tokens as t
 use Rattle.pawk_syntax_tree.specs.declared.tree.Single.{Single}
 use Rattle.pawk_syntax_tree.specs.declared.tree.Single.TheVariants as single
 use Rattle.pawk_syntax_tree.specs.declared.tree.Double.{Double}
@@ -52,7 +52,7 @@ abbrev mutual
   canon (call f as') rest = t.function_name f ∷ opening (canon_first as' (closing rest))
   canon (builtin f as') rest = t.builtin f ∷ opening (canon_first as' (closing rest))
 
-  -- the keys of `in`: several stand in brackets
+  -- the keys of `in`: several are written in brackets
   pub canon_keys : Trees → List Tok → List Tok
   canon_keys none rest = rest
   canon_keys (more a none) rest = canon a rest

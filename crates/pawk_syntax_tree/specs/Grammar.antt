@@ -1,13 +1,13 @@
 -- The grammar of expressions (POSIX.1-2017, awk, "Grammar"). Each relation reads: `ts` begins with such a phrase, which
--- has this tree, and `rest` is what follows it. A production of the standard stands beside each rule.
+-- has this tree, and `rest` is what follows it. Each rule has a production of the standard beside it.
 use Rattle.std.specs.Prelude.{◌≡◌, ◌≤◌, ℕ, suc, Bool, true, false, List, [], ◌∷◌, Option, Some, None}
-use Rattle.pawk_token.specs.declared.token.Mark.{Mark}
-use Rattle.pawk_token.specs.declared.token.Mark.TheVariants as m
-use Rattle.pawk_token.specs.declared.token.Builtin.{Builtin}
-use Rattle.pawk_token.specs.declared.token.Builtin.TheVariants as b
-use Rattle.pawk_token.specs.Bytes.{Text}
-use Rattle.pawk_token.specs.Tokens.{Tok}
-use Rattle.pawk_token.specs.Tokens as t
+use Rattle.pawk_lex.specs.declared.token.Mark.{Mark}
+use Rattle.pawk_lex.specs.declared.token.Mark.TheVariants as m
+use Rattle.pawk_lex.specs.declared.token.Builtin.{Builtin}
+use Rattle.pawk_lex.specs.declared.token.Builtin.TheVariants as b
+use Rattle.pawk_lex.specs.Bytes.{Text}
+use Rattle.pawk_lex.specs.Tokens.{Tok}
+use Rattle.pawk_lex.specs.Tokens as t
 use Rattle.pawk_syntax_tree.specs.declared.tree.Single.{Single}
 use Rattle.pawk_syntax_tree.specs.declared.tree.Single.TheVariants as single
 use Rattle.pawk_syntax_tree.specs.declared.tree.Double.{Double}
@@ -20,7 +20,7 @@ pub data Newlines : List Tok → List Tok → Type 0 where
   no_line : {ts : List Tok} → Newlines ts ts
   a_line : {ts rest : List Tok} → Newlines ts rest → Newlines (t.mark m.Newline ∷ ts) rest
 
--- what may stand between an operator and its right side
+-- what may come between an operator and its right side
 abbrev pub Gap : Double → List Tok → List Tok → Type 0
 Gap double.Or ts rest = Newlines ts rest
 Gap double.And ts rest = Newlines ts rest

@@ -3,8 +3,8 @@
 -- 0 expr, 1 or, 2 and, 3 membership, 4 match, 5 comparison, 6 concatenation, 7 additive, 8 multiplicative, 9 prefixed,
 -- 10 power, 11 increment, 12 a primary, 13 a primary that is no lvalue, 14 an lvalue.
 use Rattle.std.specs.Prelude.{ℕ, Bool, if◌then◌else◌, nat_le, Option, Some, None}
-use Rattle.pawk_token.specs.declared.token.Mark.{Mark}
-use Rattle.pawk_token.specs.declared.token.Mark.TheVariants as m
+use Rattle.pawk_lex.specs.declared.token.Mark.{Mark}
+use Rattle.pawk_lex.specs.declared.token.Mark.TheVariants as m
 use Rattle.pawk_syntax_tree.specs.declared.tree.Single.{Single}
 use Rattle.pawk_syntax_tree.specs.declared.tree.Single.TheVariants as single
 use Rattle.pawk_syntax_tree.specs.declared.tree.Double.{Double}

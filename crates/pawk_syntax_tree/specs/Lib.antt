@@ -3,3 +3,11 @@ pub mod Levels
 pub mod Grammar
 pub mod Canonical
 pub mod Parse
+pub mod Statement
+pub mod StatementGrammar
+pub mod StatementParse
+pub mod StatementCanonical
+pub mod Item
+pub mod ItemGrammar
+pub mod ItemParse
+pub mod ItemCanonical

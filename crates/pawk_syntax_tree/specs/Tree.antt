@@ -1,14 +1,14 @@
--- Syntax trees without where they lie in memory, nor where their names stand in the text.
+-- Syntax trees without where they lie in memory, nor where their names are in the text.
 use Rattle.std.specs.Prelude.{ℕ, Bool, true, false, ◌==◌, List, [], ◌∷◌, map, Option, Some}
-use Rattle.pawk_token.specs.Bytes.{Text}
-use Rattle.pawk_token.specs.declared.token.Builtin.{Builtin}
-use Rattle.pawk_token.specs.declared.token.Builtin.TheVariants as b
+use Rattle.pawk_lex.specs.Bytes.{Text}
+use Rattle.pawk_lex.specs.declared.token.Builtin.{Builtin}
+use Rattle.pawk_lex.specs.declared.token.Builtin.TheVariants as b
 use Rattle.pawk_syntax_tree.specs.declared.tree.Single.{Single}
 use Rattle.pawk_syntax_tree.specs.declared.tree.Single.TheVariants as single
 use Rattle.pawk_syntax_tree.specs.declared.tree.Double.{Double}
 use Rattle.pawk_syntax_tree.specs.declared.tree.Double.TheVariants as double
-use Rattle.pawk_syntax_tree.specs.declared.tree.Expr.{Expr, fold-Expr}
-use Rattle.pawk_syntax_tree.specs.declared.tree.Expr.TheOpen.{Expr-F}
+use Rattle.pawk_syntax_tree.specs.declared.tree.ExpressionTree.{ExpressionTree, fold-ExpressionTree}
+use Rattle.pawk_syntax_tree.specs.declared.tree.ExpressionTree.TheOpen.{ExpressionTree-F}
 
 mutual
   pub data Tree : Type 0 where
@@ -33,23 +33,23 @@ trees [] = none
 trees (a ∷ as') = more a (trees as')
 
 -- one level, with each tree inside already seen as its tree
-abbrev pub view_step : Expr-F Tree → Tree
-view_step (Expr-F.Number n) = number n
-view_step (Expr-F.String v) = string v.items
-view_step (Expr-F.Ere v) = ere v.items
-view_step (Expr-F.Variable x) = variable x.text.items
-view_step (Expr-F.Element x v) = element x.text.items (trees v.items)
-view_step (Expr-F.Unary op a) = unary op a.value
-view_step (Expr-F.Binary op a b) = binary op a.value b.value
-view_step (Expr-F.Choice c a b) = choice c.value a.value b.value
-view_step (Expr-F.Member v x) = member (trees v.items) x.text.items
-view_step (Expr-F.Call f v) = call f.text.items (trees v.items)
-view_step (Expr-F.Builtin f place v) = builtin f (trees v.items)
+abbrev pub view_step : ExpressionTree-F Tree → Tree
+view_step (ExpressionTree-F.Number n) = number n
+view_step (ExpressionTree-F.String v) = string v.items
+view_step (ExpressionTree-F.Ere v) = ere v.items
+view_step (ExpressionTree-F.Variable x) = variable x.text.items
+view_step (ExpressionTree-F.Element x v) = element x.text.items (trees v.items)
+view_step (ExpressionTree-F.Unary op a) = unary op a.value
+view_step (ExpressionTree-F.Binary op a b) = binary op a.value b.value
+view_step (ExpressionTree-F.Choice c a b) = choice c.value a.value b.value
+view_step (ExpressionTree-F.Member v x) = member (trees v.items) x.text.items
+view_step (ExpressionTree-F.Call f v) = call f.text.items (trees v.items)
+view_step (ExpressionTree-F.Builtin f place v) = builtin f (trees v.items)
 
-abbrev pub view : Expr → Tree
-view = fold-Expr Tree view_step
+abbrev pub view : ExpressionTree → Tree
+view = fold-ExpressionTree Tree view_step
 
-abbrev pub views : List Expr → List Tree
+abbrev pub views : List ExpressionTree → List Tree
 views = map view
 
 -- `$0`

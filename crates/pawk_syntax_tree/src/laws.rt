@@ -1,7 +1,7 @@
 //! The laws of reading expressions. Each is the contract of a function that does nothing.
 
 ghost use Rattle.std.specs.Prelude.{◌≡◌, ◌≤◌, ◌*◌, ℕ, Bool, List, Some, false, true};
-ghost use Rattle.pawk_token.specs.Tokens.{Tok};
+ghost use Rattle.pawk_lex.specs.Tokens.{Tok};
 ghost use Rattle.pawk_syntax_tree.specs.Tree.{Tree};
 ghost use Rattle.pawk_syntax_tree.specs.Grammar.{Derives};
 ghost use Rattle.pawk_syntax_tree.specs.Canonical.{canon, height, opening, closing};

@@ -4,7 +4,7 @@ ghost use Rattle.std.specs.Prelude.{◌≡◌, Some, if◌then◌else◌, nat_le
 ghost use Rattle.pawk_syntax_tree.specs.Levels as spec;
 
 use crate::tree::{Double, Single};
-use pawk_token::token::Mark;
+use pawk_lex::token::Mark;
 
 /// The level of an expression, the loosest.
 pub const OF_EXPR: u8 = 0;

@@ -1,6 +1,6 @@
 //! Syntax trees.
 
-use pawk_token::token::Builtin;
+use pawk_lex::token::Builtin;
 
 /// A name, and the place of its first byte in the text, counted from 0.
 #[derive(Drop)]
@@ -56,7 +56,7 @@ pub enum Double {
 
 /// An expression.
 #[derive(Drop)]
-pub enum Expr {
+pub enum ExpressionTree {
     /// A numeral.
     Number(u64),
     /// The bytes of a string.
@@ -67,15 +67,15 @@ pub enum Expr {
     /// A variable, or an array by its bare name.
     Variable(Name),
     /// `a[k, l]`
-    Element(Name, Vec<Expr>),
-    Unary(Single, Box<Expr>),
-    Binary(Double, Box<Expr>, Box<Expr>),
+    Element(Name, Vec<ExpressionTree>),
+    Unary(Single, Box<ExpressionTree>),
+    Binary(Double, Box<ExpressionTree>, Box<ExpressionTree>),
     /// `c ? a : b`
-    Choice(Box<Expr>, Box<Expr>, Box<Expr>),
+    Choice(Box<ExpressionTree>, Box<ExpressionTree>, Box<ExpressionTree>),
     /// `k in a` and `(k, l) in a`
-    Member(Vec<Expr>, Name),
+    Member(Vec<ExpressionTree>, Name),
     /// `f(a, b)`
-    Call(Name, Vec<Expr>),
+    Call(Name, Vec<ExpressionTree>),
     /// A call of a built-in function, and where it begins.
-    Builtin(Builtin, usize, Vec<Expr>),
+    Builtin(Builtin, usize, Vec<ExpressionTree>),
 }

@@ -5,11 +5,11 @@ use denote.Struct.Field.{shr_ref_field}
 use denote.Param.{param}
 use denote.Param.Send.{IsSend, IsSync, sendable}
 use Rattle.pawk_code.proofs.Sharing.{code_row_sync}
-use Rattle.pawk_crew.proofs.States.{state_row_sync}
-use Rattle.pawk_part.specs.contracts.job.Job as Job
-use Rattle.pawk_chunk.specs.contracts.chunk.Opening as Opening
-use Rattle.pawk_crew.specs.contracts.task.Chunked as Chunked
-use Rattle.pawk_crew.specs.contracts.task.Task as Task
+use Rattle.pawk_chunks.proofs.States.{state_row_sync}
+use Rattle.pawk_sequential.specs.contracts.job.Job as Job
+use Rattle.pawk_chunks.specs.contracts.chunk.Opening as Opening
+use Rattle.pawk_chunks.specs.contracts.task.Chunked as Chunked
+use Rattle.pawk_chunks.specs.contracts.task.Task as Task
 use Rattle.pawk_admit.proofs.role.Roles.TheSendSync as roles
 use Rattle.pawk_board.proofs.board.Board.TheSendSync as board
 use Rattle.pawk_input.proofs.files.Input.TheSendSync as input

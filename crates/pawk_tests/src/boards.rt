@@ -35,7 +35,7 @@ fn close(alloc: Global, board: Board, a: BoardSeat, b: BoardSeat) -> Result<(u64
     Ok((tally.counter(), tally.stop()))
 }
 
-/// Claims, and tells the number of the chunk, where one is left.
+/// Claims, and gives the number of the chunk, where one is left.
 fn claim_chunk(board: &Board, seat: &mut BoardSeat) -> Option<u64>
     requires board { seat.old.board ≡ board.now.id }
     requires undone { IsUndone board.now.chunks seat.old.hand }
@@ -75,7 +75,8 @@ fn one_chunk_for_two_seats(rt: HostRuntime) -> Result<(), Fail> {
     Ok(())
 }
 
-/// One seat claims chunk 0, the other claims chunk 1 and tells it as a stop: whether the first then is past it with chunk 0.
+/// One seat claims chunk 0, the other claims chunk 1 and reports it as a stop: whether the first then is past it with
+/// chunk 0.
 fn tell_one(board: &Board, a: &mut BoardSeat, b: &mut BoardSeat) -> Option<bool>
     requires first { a.old ≡ fresh board.now.id }
     requires second { b.old ≡ fresh board.now.id }
@@ -90,7 +91,7 @@ fn tell_one(board: &Board, a: &mut BoardSeat, b: &mut BoardSeat) -> Option<bool>
     Some(board.past_stop(a, zero))
 }
 
-/// Claims a chunk, and tells whether it lies past a stop.
+/// Claims a chunk, and says whether it lies past a stop.
 fn claim_and_look(board: &Board, seat: &mut BoardSeat) -> Option<(u64, bool)>
     requires board { seat.old.board ≡ board.now.id }
     requires undone { IsUndone board.now.chunks seat.old.hand }
@@ -112,7 +113,7 @@ fn claim_rest(board: &Board, seat: &mut BoardSeat) -> Option<((u64, bool), (u64,
     Some((two, three, claim_chunk(board, seat).is_none()))
 }
 
-// A stop that one seat told is seen by the other, which did not tell it.
+// A stop that one seat reported is seen by the other, which did not report it.
 #[test]
 fn a_stop_is_seen(rt: HostRuntime) -> Result<(), Fail> {
     let (board, mut a, mut b) = two_seats(rt.alloc(), 4)?;
@@ -127,7 +128,7 @@ fn a_stop_is_seen(rt: HostRuntime) -> Result<(), Fail> {
     Ok(())
 }
 
-// Without a chunk there is nothing to claim, and the chunk count is no stop that was told.
+// Without a chunk there is nothing to claim, and the chunk count is no stop that was reported.
 #[test]
 fn no_chunk(rt: HostRuntime) -> Result<(), Fail> {
     let (board, mut a, b) = two_seats(rt.alloc(), 0)?;
@@ -173,14 +174,14 @@ fn sixty_four_seats(rt: HostRuntime) -> Result<(), Fail> {
 
 /// What a thread drew before it was told that no chunk is left.
 #[derive(Drop)]
-struct Share {
+struct BoardShare {
     seat: BoardSeat,
     count: u64,
     sum: u64,
 }
 
-/// Draws until no chunk is left, and tells the chunk `last` as a stop if it draws it.
-fn draws_all(board: &Board, mut seat: BoardSeat, last: u64) -> Share
+/// Draws until no chunk is left, and reports the chunk `last` as a stop if it draws it.
+fn draws_all(board: &Board, mut seat: BoardSeat, last: u64) -> BoardShare
     requires board { seat.board ≡ board.now.id }
     requires undone { IsUndone board.now.chunks seat.hand }
     ensures { result.seat.board ≡ board.now.id }
@@ -194,7 +195,7 @@ fn draws_all(board: &Board, mut seat: BoardSeat, last: u64) -> Share
         count = count.wrapping_add(1);
         sum = sum.wrapping_add(n);
     }
-    Share { seat, count, sum }
+    BoardShare { seat, count, sum }
 }
 
 /// Whether a seat sees the stop: chunk 70,001 lies past it, and chunk 70,000 does not.
@@ -207,7 +208,7 @@ fn sees_stop(board: &Board, seat: &mut BoardSeat) -> bool
 }
 
 // Two threads share the numbers of one board: 0 + 1 + .. + 99999 is 4999950000. Both seats see the stop, of which
-// one told it.
+// one reported it.
 #[test]
 fn two_threads(rt: HostRuntime) -> Result<(), Fail> {
     let (board, a, b) = two_seats(rt.alloc(), 100_000)?;

@@ -12,7 +12,7 @@ use std::sync::Wait;
 use std::test::Fail;
 use std::thread::Threads;
 
-/// Gives one byte a read, after an interruption by a signal; fails where so many reads were made.
+/// Gives one byte a read, after an interruption by a signal; fails after `reads_left` reads.
 #[derive(Drop)]
 struct Trickle<'a> {
     rest: &'a [u8],
@@ -42,7 +42,7 @@ impl Read for Trickle<'_> {
     }
 }
 
-/// Takes one byte a write, so many times; then fails, or takes nothing.
+/// Takes one byte a write, `room` times; then fails, or takes nothing.
 #[derive(Drop)]
 struct Narrow {
     taken: Vec<u8>,
@@ -137,7 +137,7 @@ fn refusal_in(answer: Answer) -> Result<Option<StreamRefusal>, Fail> {
     }
 }
 
-// A read fails after so many, or none does: the seventh finds the end.
+// A read fails after a given number of them, or none does: the seventh finds the end.
 #[test]
 fn a_read_fails(rt: HostRuntime) -> Result<(), Fail> {
     let rows: [(usize, Option<StreamRefusal>, &[u8]); 5] = [
@@ -156,7 +156,7 @@ fn a_read_fails(rt: HostRuntime) -> Result<(), Fail> {
     Ok(())
 }
 
-// A write fails, or takes nothing, after so many bytes of the output 6 and a newline.
+// A write fails, or takes nothing, after a given number of bytes of the output 6 and a newline.
 #[test]
 fn a_write_fails(rt: HostRuntime) -> Result<(), Fail> {
     let rows: [(usize, bool, Option<StreamRefusal>, &[u8]); 4] = [
@@ -180,7 +180,7 @@ fn a_write_fails(rt: HostRuntime) -> Result<(), Fail> {
 
 // The count of the bytes that went out goes over the outputs of all chunks, here a line each, and of BEGIN and END.
 #[test]
-fn a_write_fails_behind_others(rt: HostRuntime) -> Result<(), Fail> {
+fn a_write_fails_after_others(rt: HostRuntime) -> Result<(), Fail> {
     let text = b"BEGIN { print 0 } { print $1 } END { print 4 }";
     let rows: [(usize, Option<StreamRefusal>, &[u8]); 4] = [
         (10, None, b"0\n1\n2\n3\n4\n"),
@@ -209,8 +209,8 @@ fn numbers_in(answer: Answer) -> Result<(u8, u8), Fail> {
     }
 }
 
-// A program or a budget that is refused is told, where each read would fail: a bad token, a name in two uses, a form of input
-// that is left out, and budgets that are none.
+// A program or a budget that is refused is reported as such where each read would fail: a bad token, a name in two
+// uses, a form of input that is left out, and budgets that are none.
 #[test]
 fn refuses_before_it_reads(rt: HostRuntime) -> Result<(), Fail> {
     let limits = Limits { reads: 0, ..ENOUGH };

@@ -1,7 +1,7 @@
 //! What several tests need.
 
 ghost use Rattle.std.specs.Prelude.{◌≤◌};
-ghost use Rattle.pawk_crew.specs.Task.{IsCrew};
+ghost use Rattle.pawk_chunks.specs.Task.{IsCrew};
 ghost use Rattle.pawk_threads.specs.Cuttings.{IsSized};
 
 use pawk_code::program::Code;
@@ -31,30 +31,7 @@ pub(crate) fn code_of(alloc: Global, text: &[u8]) -> Result<Code, Fail> {
     Ok(resolve(alloc, &program)?)
 }
 
-/// Runs a code over these bytes, with 1,000 steps for each record.
-pub(crate) fn run_code<R, G>(
-    rt: &R,
-    code: &Code,
-    bytes: &[u8],
-    way: Way<'_>,
-    gate: &G,
-) -> Result<Result<(Outcome, Route), Refusal>, Fail>
-where
-    R: AllocGlobal + Threads + Wait,
-    G: Gate + Sync,
-    requires sized { IsSized way.cutting.now }
-    requires workers { IsCrew way.workers }
-{
-    let alloc = rt.alloc();
-    let mut input = one_file(alloc, bytes)?;
-    let job = Job { code, budget: 1000 };
-    Ok(match run(rt, alloc, job, &[], &mut input, way, gate) {
-        Ok((outcome, report)) => Ok((outcome, report.route)),
-        Err(refusal) => Err(refusal),
-    })
-}
-
-/// Runs a program's text over these bytes.
+/// Runs a program's text over these bytes, with 1,000 steps for each record.
 pub(crate) fn run_text<R, G>(
     rt: &R,
     text: &[u8],
@@ -69,8 +46,18 @@ where
     requires sized { IsSized cutting.now }
     requires workers { IsCrew workers }
 {
-    let code = code_of(rt.alloc(), text)?;
-    run_code(rt, &code, bytes, Way { cutting, workers }, gate)
+    let alloc = rt.alloc();
+    let code = code_of(alloc, text)?;
+    let mut input = one_file(alloc, bytes)?;
+    let job = Job {
+        code: &code,
+        budget: 1000,
+    };
+    let way = Way { cutting, workers };
+    Ok(match run(rt, alloc, job, &[], &mut input, way, gate) {
+        Ok((outcome, report)) => Ok((outcome, report.route)),
+        Err(refusal) => Err(refusal),
+    })
 }
 
 /// Whether these parts are a text.
@@ -96,15 +83,15 @@ fn is_ending(ending: Ending, fault: Option<(Fault, u64)>) -> bool {
 
 /// What a run shows: its output, the fault in which it ends and the record of this number, if it does, and the way it went.
 #[derive(Clone, Copy)]
-pub(crate) struct Shown<'t> {
+pub(crate) struct RunOutcome<'t> {
     pub(crate) output: &'t [u8],
     pub(crate) fault: Option<(Fault, u64)>,
     pub(crate) route: Route,
 }
 
 /// What a run shows that ends with status 0 and went in chunks.
-pub(crate) fn chunks_show(output: &[u8]) -> Shown<'_> {
-    Shown {
+pub(crate) fn chunks_show(output: &[u8]) -> RunOutcome<'_> {
+    RunOutcome {
         output,
         fault: None,
         route: Route::Parallel,
@@ -112,7 +99,7 @@ pub(crate) fn chunks_show(output: &[u8]) -> Shown<'_> {
 }
 
 /// Whether a run showed this.
-pub(crate) fn is_shown(answer: &Result<(Outcome, Route), Refusal>, shown: Shown<'_>) -> bool {
+pub(crate) fn is_shown(answer: &Result<(Outcome, Route), Refusal>, shown: RunOutcome<'_>) -> bool {
     match answer {
         Ok((outcome, route)) => {
             are_text(outcome.output.parts(), shown.output)
@@ -131,7 +118,7 @@ pub(crate) fn shows<R, G>(
     size: u64,
     workers: usize,
     gate: &G,
-    shown: Shown<'_>,
+    shown: RunOutcome<'_>,
 ) -> Result<bool, Fail>
 where
     R: AllocGlobal + Threads + Wait,

@@ -5,13 +5,13 @@ ghost use Rattle.pawk_board.specs.Limits.{most_chunks};
 ghost use Rattle.pawk_board.specs.Views.{fresh};
 ghost use Rattle.pawk_input.specs.Input.{IsReady, files_of};
 ghost use Rattle.pawk_input.specs.Plan.{IsPlanOf};
-ghost use Rattle.pawk_crew.specs.Task.{IsChunked, IsTask};
+ghost use Rattle.pawk_chunks.specs.Task.{IsChunked, IsTask};
 
-use crate::fixtures::{SUM, Shown, chunks_show, code_of, one_file, shows};
+use crate::fixtures::{RunOutcome, SUM, chunks_show, code_of, one_file, shows};
 use pawk_admit::admit;
 use pawk_board::{Board, BoardSeat};
 use pawk_input::{Input, Plan};
-use pawk_par::{ChunkResult, Chunked, Gate, Job, Left, Open, Opening, Route, Task, work};
+use pawk_par::{ChunkResult, Chunked, Gate, Job, Left, Opening, Route, Task, work};
 use pawk_store::{Globals, RecordState};
 use pawk_value::Fault;
 use std::alloc::{AllocError, Global};
@@ -114,7 +114,7 @@ fn two_workers_run_at_once(rt: HostRuntime) -> Result<(), Fail> {
 const FAULTY: &[u8] = b"1\n2\n12.5\n4\n";
 
 /// What the sum of them shows.
-const FAULT_AT_THREE: Shown<'static> = Shown {
+const FAULT_AT_THREE: RunOutcome<'static> = RunOutcome {
     output: b"",
     fault: Some((Fault::Numeral, 3)),
     route: Route::Redo,
@@ -137,16 +137,6 @@ fn a_chunk_past_a_fault_is_dropped(rt: HostRuntime) -> Result<(), Fail> {
     let is_shown = shows(&rt, SUM, FAULTY, 1, 2, &gate, FAULT_AT_THREE)?;
     assert!(rt; seen_by(&gate) == (0, 4, 15, 15));
     assert!(rt; is_shown);
-    Ok(())
-}
-
-// As many workers as there are chunks, and one where there is none.
-#[test]
-fn no_more_workers_than_chunks(rt: HostRuntime) -> Result<(), Fail> {
-    let rows: [(&[u8], &[u8]); 2] = [(b"", b"\n"), (b"1\n", b"1\n")];
-    for (bytes, output) in rows {
-        assert!(rt; shows(&rt, SUM, bytes, 1, 64, &Open, chunks_show(output))?);
-    }
     Ok(())
 }
 

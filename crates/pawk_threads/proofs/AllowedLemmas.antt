@@ -6,12 +6,12 @@ use Rattle.pawk_world.specs.Sums.{arith_by, op_of}
 use Rattle.pawk_world.specs.Worlds.{Request, Cell}
 use Rattle.pawk_world.specs.Worlds as request
 use Rattle.pawk_store.specs.Globals.{Globals, calls, value_at, with_sum}
-use Rattle.pawk_meaning.specs.Lockstep.{refusal_of}
-use Rattle.pawk_meaning.specs.Laws.{IsNoClash}
-use Rattle.pawk_meaning.specs.Runs.{Finish, disallowed}
-use Rattle.pawk_one.specs.Ends.{Answers, ending_view}
-use Rattle.pawk_one.specs.declared.ending.Ending.TheVariants.{Disallowed}
-use Rattle.pawk_one.specs.declared.outcome.Outcome.{Outcome}
+use Rattle.pawk_semantics.specs.Lockstep.{refusal_of}
+use Rattle.pawk_semantics.specs.Laws.{IsNoClash}
+use Rattle.pawk_semantics.specs.Runs.{Finish, disallowed}
+use Rattle.pawk_sequential.specs.RunEnds.{Answers, ending_view}
+use Rattle.pawk_sequential.specs.declared.ending.Ending.TheVariants.{Disallowed}
+use Rattle.pawk_sequential.specs.declared.outcome.Outcome.{Outcome}
 
 -- nor is a sum one
 sum_no_clash : (cell : Cell) (r : Result ℤ Fault) (g : Globals) → IsNoClash (refusal_of (with_sum cell r g))
@@ -28,6 +28,6 @@ no_clash (request.remove n key) g = tt
 no_clash (request.clear n) g = tt
 no_clash (request.keys n) g = tt
 
--- an outcome of a run that is not disallowed is not told as one that is
+-- an outcome of a run that is not disallowed is not reported as one that is
 pub told : (meant : Finish Globals) (outcome : Outcome) → Answers meant outcome → meant.ending ≢ disallowed → outcome.ending ≢ Disallowed
 told meant outcome answers allowed = λ is. allowed (answers.ending ∙ ap ending_view is)

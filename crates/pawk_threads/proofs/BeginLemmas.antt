@@ -6,17 +6,17 @@ use Rattle.pawk_world.specs.Worlds.{Answer, Calls}
 use Rattle.pawk_world.specs.Worlds as world
 use Rattle.pawk_store.specs.RecordStates.{RecordState}
 use Rattle.pawk_code.specs.Programs.{Code}
-use Rattle.pawk_meaning.specs.Parts.{Outcome, gives, halts}
-use Rattle.pawk_meaning.specs.Records.{End, end_of, run_part, opening_moment, actions}
-use Rattle.pawk_meaning.specs.Lockstep.{Pair, record_state_of, refusal_of, SameAnswer, AreInLockstep, RefusesIn, GoesOn}
+use Rattle.pawk_semantics.specs.Parts.{Outcome, gives, halts}
+use Rattle.pawk_semantics.specs.Records.{End, end_of, run_part, opening_moment, actions}
+use Rattle.pawk_semantics.specs.Lockstep.{Pair, record_state_of, refusal_of, SameAnswer, AreInLockstep, RefusesIn, GoesOn}
 use Rattle.pawk_store.specs.Globals.{Globals, calls}
 use Rattle.pawk_store.specs.Openings.{opened}
 use Rattle.pawk_store.specs.RecordStates.{opening}
 use Rattle.pawk_threads.specs.Routes.{begin_end}
-use Rattle.pawk_meaning.proofs.Later.{Order}
-use Rattle.pawk_meaning.proofs.Going.{Track}
-use Rattle.pawk_meaning.proofs.InRecords.{goes_actions}
-use Rattle.pawk_meaning.proofs.Everything.{everything, any_code}
+use Rattle.pawk_semantics.proofs.Later.{Order}
+use Rattle.pawk_semantics.proofs.Going.{Track}
+use Rattle.pawk_semantics.proofs.InRecords.{goes_actions}
+use Rattle.pawk_semantics.proofs.Everything.{everything, any_code}
 
 -- the same NR
 abbrev nr_order : Order everything
@@ -80,7 +80,7 @@ module _ {S : Type 0} (calls : Calls S) where
   abbrev nr_track : Track S S
   nr_track = record { pair = with_itself; lockstep = in_lockstep; first = goes; second = goes; order = nr_order }
 
-  -- behind BEGIN NR is what it was before
+  -- after BEGIN NR is what it was before
   pub begin_keeps_nr : (code : Code) (budget : ℕ) (s : S) (state : RecordState) →
       (run_part (actions calls code.expressions code.functions code.begins) budget s state []).state.nr ≡ state.nr
   begin_keeps_nr code budget s state =

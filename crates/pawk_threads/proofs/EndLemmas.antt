@@ -1,13 +1,13 @@
--- The end of BEGIN with RS taken, and of the records behind it.
+-- The end of BEGIN with RS taken, and of the records after it.
 use Rattle.std.proofs.Common.{◌≡◌, ◌∙◌, ℕ, ◌≤◌, List, length, Bool, true, nat_le, if◌then◌else◌, None, ap, arith}
 use Rattle.std.proofs.lemmas.Bool.Decides.{nat_tests}
 use Rattle.pawk_code.specs.Programs.{Code}
 use Rattle.pawk_input.specs.Input.{File, items}
 use Rattle.pawk_store.specs.Globals.{Globals, calls}
 use Rattle.pawk_admit.specs.Roles.{Roles}
-use Rattle.pawk_meaning.specs.Records.{End}
-use Rattle.pawk_meaning.specs.Runs.{Finish, records_from, behind_records, records_by_rs, take_separator}
-use Rattle.pawk_gather.specs.Phases.{Phase}
+use Rattle.pawk_semantics.specs.Records.{End}
+use Rattle.pawk_semantics.specs.Runs.{Finish, records_from, behind_records, records_by_rs, take_separator}
+use Rattle.pawk_merge_law.specs.Phases.{Phase}
 use Rattle.pawk_threads.specs.Prologue.{IsTaken}
 use Rattle.pawk_threads.specs.Routes.{phase_behind, separator_of}
 
@@ -20,7 +20,7 @@ chosen b x y is = ap (λ c. if c then x else y) is
 taken_again : (rs : List ℕ) (e : End Globals) → IsTaken rs e → take_separator (separator_of e) e ≡ e
 taken_again rs e taken = ap (λ s. take_separator s e) taken.separator ∙ taken.taken
 
--- the records behind BEGIN begin with its end, once RS was taken
+-- the records after BEGIN begin with its end, once RS was taken
 pub phase_of_end : (code : Code) (roles : Roles) (budget : ℕ) (rs : List ℕ) (e : End Globals) → IsTaken rs e →
     phase_behind code roles budget e
     ≡ record { code = code; roles = roles; eres = code.expressions; budget = budget; globals = e.world; state = e.state; output = e.output }
@@ -35,7 +35,7 @@ module _ (code : Code) (budget : ℕ) (rs : List ℕ) (files : List File) where
   abbrev behind : End Globals → Finish Globals
   behind f = behind_records calls code.expressions code budget f.left f
 
-  -- by an RS of at most one byte that was taken, the run goes on behind the records
+  -- by an RS of at most one byte that was taken, the run goes on after the records
   pub by_taken : (e f : End Globals) → length rs ≤ 1 → IsTaken rs e → records e ≡ f → records_by_rs calls code.expressions code budget rs files e ≡ behind f
   by_taken e f few taken ends =
       chosen (nat_le (length rs) 1) _ _ (short (length rs) few)

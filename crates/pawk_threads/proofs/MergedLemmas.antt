@@ -1,4 +1,4 @@
--- What a merge of the chunks says of the records behind BEGIN.
+-- What a merge of the chunks says of the records after BEGIN.
 use Rattle.std.proofs.Common.{◌≡◌, ◌∙◌, ℕ, ◌≤◌, Bool, true, false, List, length, map, Result, Ok, Err, Some, None, refl, ap, sym, subst}
 use Rattle.std.specs.Prelude.{MatchResult}
 use Rattle.pawk_code.specs.Programs.{Code}
@@ -9,28 +9,28 @@ use Rattle.pawk_input.specs.declared.cutting.Chunk.{Chunk}
 use Rattle.pawk_admit.specs.Admission.{IsAdmissible, AreRoles}
 use Rattle.pawk_admit.specs.Reaches.{Occurs}
 use Rattle.pawk_admit.specs.Roles.{Roles}
-use Rattle.pawk_meaning.specs.Records.{End, Left}
-use Rattle.pawk_meaning.specs.Runs.{records_from, behind_records, records_by_rs}
-use Rattle.pawk_join.specs.Merges.{Stop, at_cell, at_fault, at_clash, merge, before_chunks}
-use Rattle.pawk_join.specs.MergeViews.{stop_of}
-use Rattle.pawk_join.specs.declared.stop.JoinStop.{JoinStop}
-use Rattle.pawk_join.specs.declared.stop.JoinStop.TheVariants.{Cell, Fault, Clash, Memory}
-use Rattle.pawk_gather.specs.Chunks.{Opening, chunk_end, AreResults}
-use Rattle.pawk_gather.specs.ChunkResult.{ChunkResult}
-use Rattle.pawk_gather.specs.Ready.{MayRunFrom}
-use Rattle.pawk_gather.specs.Phases.{Phase, FaultsOrCreates, in_order}
-use Rattle.pawk_gather.specs.Gathered.{behind_output, ResultsLaw}
-use Rattle.pawk_gather.specs.Results.{chunk_of}
+use Rattle.pawk_semantics.specs.Records.{End, Left}
+use Rattle.pawk_semantics.specs.Runs.{records_from, behind_records, records_by_rs}
+use Rattle.pawk_merge.specs.Merges.{Stop, at_cell, at_fault, at_clash, merge, before_chunks}
+use Rattle.pawk_merge.specs.MergeViews.{stop_of}
+use Rattle.pawk_merge.specs.declared.stop.JoinStop.{JoinStop}
+use Rattle.pawk_merge.specs.declared.stop.JoinStop.TheVariants.{Cell, Fault, Clash, Memory}
+use Rattle.pawk_merge_law.specs.Chunks.{Opening, chunk_end, AreResults}
+use Rattle.pawk_merge_law.specs.ChunkResult.{ChunkResult}
+use Rattle.pawk_merge_law.specs.Ready.{MayRunFrom}
+use Rattle.pawk_merge_law.specs.Phases.{Phase, FaultsOrCreates, in_order}
+use Rattle.pawk_merge_law.specs.Gathered.{behind_output, ResultsLaw}
+use Rattle.pawk_merge_law.specs.Results.{chunk_of}
 use Rattle.pawk_threads.specs.declared.report.Refusal.TheVariants as refusal
 use Rattle.pawk_threads.specs.Prologue.{IsTaken}
 use Rattle.pawk_threads.specs.Routes.{phase_behind}
 use Rattle.pawk_threads.proofs.EndLemmas.{phase_of_end, by_taken}
 
--- a refusal for want of memory is none for a cutting
+-- a refused allocation is no refusal for a cutting
 pub no_cutting : refusal.Memory ≡ refusal.Cutting → ⊥
 no_cutting same = absurd cc
 
--- a stop that is no want of memory is one of the merge
+-- a stop that is no refused allocation is one of the merge
 pub stop_told : (b : Bool) (stop : JoinStop) → b ≡ false → (stop ≡ Memory → b ≡ true) → (s : Stop) × (stop_of stop ≡ Some s)
 stop_told b Cell off on = (at_cell, refl)
 stop_told b Fault off on = (at_fault, refl)

@@ -1,15 +1,15 @@
--- Outputs in parts, and what follows the records behind them.
+-- Outputs in parts, and what follows the records after them.
 use Rattle.std.proofs.Common.{◌≡◌, ◌∙◌, ℕ, List, [], ◌∷◌, ◌++◌, ap, sym}
 use Rattle.std.specs.Prelude.{Vec}
 use Rattle.std.specs.declared.alloc.Global.{Global}
 use Rattle.std.proofs.lemmas.List.{append-nil}
 use Rattle.pawk_code.specs.Programs.{Code}
 use Rattle.pawk_store.specs.Globals.{Globals, calls}
-use Rattle.pawk_meaning.specs.Outputs.{in_a_row, finish_with_output_before}
-use Rattle.pawk_meaning.specs.Records.{Left, End}
-use Rattle.pawk_meaning.specs.Runs.{Finish, behind_records}
-use Rattle.pawk_meaning.proofs.Framing.{behind_records_append}
-use Rattle.pawk_join.proofs.MergeLemmas.{in_a_row-push}
+use Rattle.pawk_semantics.specs.Outputs.{in_a_row, finish_with_output_before}
+use Rattle.pawk_semantics.specs.Records.{Left, End}
+use Rattle.pawk_semantics.specs.Runs.{Finish, behind_records}
+use Rattle.pawk_semantics.proofs.Framing.{behind_records_append}
+use Rattle.pawk_merge.proofs.MergeLemmas.{in_a_row-push}
 
 -- what the parts of an output are together
 pub parts_together : (before : Vec ℕ Global) (outputs : List (Vec ℕ Global)) (behind : Vec ℕ Global) →
@@ -24,7 +24,7 @@ in_front code budget left out e f none is =
     ap (λ (o : List ℕ). behind_records calls code.expressions code budget left (record e { output = o })) (sym (append-nil out) ∙ ap (λ (o : List ℕ). out ++ o) (sym none))
     ∙ behind_records_append out calls code.expressions code budget left e ∙ ap (finish_with_output_before out) is
 
--- the same of an end that is told otherwise
+-- the same of an end that is reported otherwise
 pub gone_on : (code : Code) (budget : ℕ) (out : List ℕ) (e x : End Globals) (f : Finish Globals) → x ≡ record e { output = out } → e.output ≡ [] →
     behind_records calls code.expressions code budget e.left e ≡ f →
     behind_records calls code.expressions code budget x.left x ≡ finish_with_output_before out f

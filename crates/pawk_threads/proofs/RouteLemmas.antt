@@ -3,8 +3,8 @@ use Rattle.std.proofs.Common.{◌≡◌, ◌∙◌, ℕ, ◌≤◌, Bool, true, 
 use Rattle.pawk_code.specs.Programs.{Code}
 use Rattle.pawk_input.specs.Input.{File, items}
 use Rattle.pawk_store.specs.Globals.{Globals, calls}
-use Rattle.pawk_admit.specs.declared.occurrence.Name.{Name}
-use Rattle.pawk_admit.specs.declared.occurrence.Name.TheVariants.{Array}
+use Rattle.pawk_admit.specs.declared.occurrence.GlobalName.{GlobalName}
+use Rattle.pawk_admit.specs.declared.occurrence.GlobalName.TheVariants.{Array}
 use Rattle.pawk_admit.specs.declared.occurrence.Occurrence.{Occurrence}
 use Rattle.pawk_admit.specs.declared.occurrence.Touch.TheVariants.{Look}
 use Rattle.pawk_admit.specs.declared.role.Role.{Role}
@@ -14,18 +14,18 @@ use Rattle.pawk_admit.specs.declared.reason.Reason.TheVariants as reason
 use Rattle.pawk_admit.specs.Admission.{IsRole, IsReader, IsAdmissible, IsAnswer, IsFirst, AreRoles}
 use Rattle.pawk_admit.specs.Reaches.{Occurs}
 use Rattle.pawk_admit.specs.Roles.{Roles, role_of_array}
-use Rattle.pawk_meaning.specs.Records.{End}
-use Rattle.pawk_meaning.specs.Runs.{Finish, behind_begin, records_by_rs, ends_from, reads_records, take_separator}
-use Rattle.pawk_gather.specs.Phases.{FaultsOrCreates}
-use Rattle.pawk_one.specs.Ends.{Answers}
-use Rattle.pawk_one.specs.declared.outcome.Outcome.{Outcome}
+use Rattle.pawk_semantics.specs.Records.{End}
+use Rattle.pawk_semantics.specs.Runs.{Finish, behind_begin, records_by_rs, ends_from, reads_records, take_separator}
+use Rattle.pawk_merge_law.specs.Phases.{FaultsOrCreates}
+use Rattle.pawk_sequential.specs.RunEnds.{Answers}
+use Rattle.pawk_sequential.specs.declared.outcome.Outcome.{Outcome}
 use Rattle.pawk_threads.specs.Prologue.{Goes}
 use Rattle.pawk_threads.specs.Routes.{HasRecords, IsRedone, phase_behind, separator_of}
 use Rattle.pawk_threads.specs.declared.report.Route.TheVariants.{Parallel}
 use Rattle.pawk_threads.proofs.EndLemmas.{chosen}
 
 -- a reader array has no other role
-only_reader : (Stands : Occurrence → Type 0) (name : Name) (role : Role) → IsReader Stands name → IsRole Stands role name → role ≡ Reader
+only_reader : (Stands : Occurrence → Type 0) (name : GlobalName) (role : Role) → IsReader Stands name → IsRole Stands role name → role ≡ Reader
 only_reader Stands name Fixed reads is = absurd (is.2 reads)
 only_reader Stands name Adder reads is = let bad = is.1 Look reads.1.0 in absurd cc
 only_reader Stands name Setter reads is = let bad = is.0.1 Look reads.1.0 in absurd cc
@@ -49,7 +49,7 @@ module _ (code : Code) (budget : ℕ) (files : List File) (e : End Globals) wher
   not_redone roles are short goes (inl long) = absurd (omega (arith, short, long))
   not_redone roles are short goes (inr stops) = goes (other_roles roles stops.0 are stops.1 stops.2)
 
--- an answer that is no want of memory is the first reason
+-- an answer that is no refused allocation is the first reason
 pub first_reason : (Stands : Occurrence → Type 0) (b : Bool) (r : Reason) → b ≡ false → (r ≡ reason.Memory → b ≡ true) → IsAnswer Stands r → IsFirst Stands r
 first_reason Stands b reason.Assignment off on is = is
 first_reason Stands b reason.Addition off on is = is

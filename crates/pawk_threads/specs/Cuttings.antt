@@ -7,7 +7,7 @@ use Rattle.pawk_input.specs.declared.cutting.CutRefusal.{CutRefusal}
 use Rattle.pawk_input.specs.declared.cutting.CutRefusal.TheVariants.{Memory}
 use Rattle.pawk_input.specs.declared.cutting.TheConstants.{MOST_CHUNKS}
 use Rattle.pawk_store.specs.Globals.{Globals}
-use Rattle.pawk_meaning.specs.Records.{End}
+use Rattle.pawk_semantics.specs.Records.{End}
 use Rattle.pawk_threads.specs.Routes.{IsPlanned, separator_of}
 use Rattle.pawk_threads.specs.declared.cutting.Cutting.{Cutting}
 use Rattle.pawk_threads.specs.declared.cutting.Cutting.TheVariants.{Size, At}

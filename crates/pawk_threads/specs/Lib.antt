@@ -1,6 +1,6 @@
 pub mod Routes
 pub mod Cuttings
 pub mod Prologue
-pub use Rattle.pawk_crew.specs.Task
-pub use Rattle.pawk_one.specs.Ends
-pub use Rattle.pawk_one.specs.declared.ending.Ending
+pub use Rattle.pawk_chunks.specs.Task
+pub use Rattle.pawk_sequential.specs.RunEnds
+pub use Rattle.pawk_sequential.specs.declared.ending.Ending

@@ -1,18 +1,18 @@
--- What BEGIN leaves, as the code has it, and how a run goes on behind it.
+-- What BEGIN leaves, as the code has it, and how a run goes on after it.
 use Rattle.std.specs.Prelude.{◌≡◌, ℕ, List, Option, Some, None}
 use Rattle.pawk_code.specs.Programs.{Code}
 use Rattle.pawk_input.specs.Input.{File}
 use Rattle.pawk_store.specs.Globals.{Globals, calls}
-use Rattle.pawk_meaning.specs.Records.{End, through}
-use Rattle.pawk_meaning.specs.Runs.{behind_begin, behind_records, records_by_rs, take_separator}
-use Rattle.pawk_join.specs.MergeViews.{leaving_view}
-use Rattle.pawk_join.specs.MergeViews as merges
-use Rattle.pawk_join.specs.declared.merging.Merged.{Merged}
-use Rattle.pawk_gather.specs.Gathered.{behind_output}
-use Rattle.pawk_gather.specs.Ends.{end_view}
-use Rattle.pawk_one.specs.Ends.{Answers}
-use Rattle.pawk_one.specs.declared.ending.Ending.{Ending}
-use Rattle.pawk_one.specs.declared.outcome.Outcome.{Outcome}
+use Rattle.pawk_semantics.specs.Records.{End, through}
+use Rattle.pawk_semantics.specs.Runs.{behind_begin, behind_records, records_by_rs, take_separator}
+use Rattle.pawk_merge.specs.MergeViews.{leaving_view}
+use Rattle.pawk_merge.specs.MergeViews as merges
+use Rattle.pawk_merge.specs.declared.merging.Merged.{Merged}
+use Rattle.pawk_merge_law.specs.Gathered.{behind_output}
+use Rattle.pawk_merge_law.specs.Ends.{end_view}
+use Rattle.pawk_sequential.specs.RunEnds.{Answers}
+use Rattle.pawk_sequential.specs.declared.ending.Ending.{Ending}
+use Rattle.pawk_sequential.specs.declared.outcome.Outcome.{Outcome}
 use Rattle.pawk_store.specs.declared.specials.Specials.{Specials}
 use Rattle.pawk_threads.specs.Routes.{IsRoute, separator_of}
 use Rattle.pawk_threads.specs.declared.prologue.Prologue.{Prologue}
@@ -29,7 +29,7 @@ pub record IsTaken (rs : List ℕ) (e : End Globals) : Type 0 where
   pub separator : separator_of e ≡ rs
   pub taken : take_separator rs e ≡ e
 
--- the records behind BEGIN, which left e, end as what was merged into the globals says
+-- the records after BEGIN, which left e, end as what was merged into the globals says
 abbrev pub IsMerged : Code → ℕ → List ℕ → List File → End Globals → Prologue → Merged → Type 0
 IsMerged code budget rs files e prologue merged =
     records_by_rs calls code.expressions code budget rs files e
@@ -41,7 +41,7 @@ abbrev pub outcome_of : List ℕ → Globals → Specials → Ending → Outcome
 outcome_of output globals specials ending =
     record { output = output; globals = globals; specials = specials; ending = ending }
 
--- Behind BEGIN the run went a way that is told, and ended so; or it has to be run again, one record after the other.
+-- After BEGIN the run went a way that is reported, and ended so; or it has to be run again, one record after the other.
 abbrev pub Goes : Code → ℕ → List File → End Globals → Option (Outcome × Route) → Type 0
 Goes code budget files e None = IsRoute code budget files e Redo
 Goes code budget files e (Some went) =

@@ -10,9 +10,9 @@ use Rattle.pawk_store.specs.Slots.{rs_slot}
 use Rattle.pawk_admit.specs.Admission.{IsAdmissible, IsFirst, AreRoles}
 use Rattle.pawk_admit.specs.Reaches.{Occurs}
 use Rattle.pawk_admit.specs.Roles.{Roles}
-use Rattle.pawk_meaning.specs.Records.{End, through, run_part, actions}
-use Rattle.pawk_meaning.specs.Runs.{Finish, reads_records, take_separator, run}
-use Rattle.pawk_gather.specs.Phases.{Phase, FaultsOrCreates}
+use Rattle.pawk_semantics.specs.Records.{End, through, run_part, actions}
+use Rattle.pawk_semantics.specs.Runs.{Finish, reads_records, take_separator, run}
+use Rattle.pawk_merge_law.specs.Phases.{Phase, FaultsOrCreates}
 use Rattle.pawk_threads.specs.declared.report.Route.{Route}
 use Rattle.pawk_threads.specs.declared.report.Route.TheVariants.{NoMain, NotAdmitted, Redo, Parallel}
 
@@ -32,7 +32,7 @@ module _ (code : Code) (budget : ℕ) where
 abbrev pub separator_of : End Globals → List ℕ
 separator_of e = text_of (calls.look rs_slot e.world)
 
--- records are read behind BEGIN
+-- records are read after BEGIN
 abbrev pub HasRecords : Code → End Globals → Type 0
 HasRecords code e = (e.left ≡ through) × (reads_records code ≡ true)
 
@@ -40,7 +40,7 @@ HasRecords code e = (e.left ≡ through) × (reads_records code ≡ true)
 abbrev pub IsPlanned : Code → End Globals → Type 0
 IsPlanned code e = HasRecords code e × IsAdmissible code × (length (separator_of e) ≤ 1)
 
--- the records behind BEGIN
+-- the records after BEGIN
 abbrev pub phase_behind : Code → Roles → ℕ → End Globals → Phase
 phase_behind code roles budget e = record {
   code = code;

@@ -5,13 +5,13 @@ ghost use Rattle.pawk_board.specs.Limits.{most_chunks};
 ghost use Rattle.pawk_code.specs.ProgramViews.{code_view};
 ghost use Rattle.pawk_input.specs.Input.{files_of, items};
 ghost use Rattle.pawk_store.specs.Globals.{calls};
-ghost use Rattle.pawk_meaning.specs.Runs.{records_by_rs};
+ghost use Rattle.pawk_semantics.specs.Runs.{records_by_rs};
 ghost use Rattle.pawk_admit.specs.Admission.{AreRoles, IsAdmissible};
 ghost use Rattle.pawk_admit.specs.Reaches.{Occurs};
 ghost use Rattle.pawk_admit.specs.Roles.{roles_view};
-ghost use Rattle.pawk_gather.specs.Phases.{FaultsOrCreates};
-ghost use Rattle.pawk_crew.specs.Task.{IsChunked, IsCrew};
-ghost use Rattle.pawk_one.specs.Ends.{Answers};
+ghost use Rattle.pawk_merge_law.specs.Phases.{FaultsOrCreates};
+ghost use Rattle.pawk_chunks.specs.Task.{IsChunked, IsCrew};
+ghost use Rattle.pawk_sequential.specs.RunEnds.{Answers};
 ghost use Rattle.pawk_threads.specs.Prologue.{IsMerged, IsTaken, end_of};
 ghost use Rattle.pawk_threads.specs.Routes.{phase_behind};
 
@@ -19,11 +19,11 @@ use crate::merging::{go_on_merged, lacks_memory};
 use crate::prologue::Prologue;
 use crate::report::Refusal;
 use pawk_admit::Roles;
-use pawk_crew::{Chunked, Gate, run_chunks};
-use pawk_gather::law::results_merge;
-use pawk_gather::{Opening, may_run, merge_results};
-use pawk_join::Merged;
-use pawk_one::{Job, Outcome};
+use pawk_chunks::{Chunked, Gate, run_chunks};
+use pawk_merge::Merged;
+use pawk_merge_law::gathered_law::results_merge;
+use pawk_merge_law::{Opening, may_run, merge_results};
+use pawk_sequential::{Job, Outcome};
 use pawk_store::RecordState;
 use std::mem;
 use std::sync::Wait;
@@ -83,7 +83,7 @@ fn merge_plan<'a, G: Gate + Sync, R: Threads + Wait>(
     }
 }
 
-/// Runs the records of an input in the chunks of a plan, and goes on behind them; nothing where the
+/// Runs the records of an input in the chunks of a plan, and goes on after them; nothing where the
 /// chunks are not merged.
 pub(crate) fn run_plan<'a, G: Gate + Sync, R: Threads + Wait>(
     rt: &R,

@@ -2,16 +2,16 @@
 
 ghost use Rattle.std.specs.Prelude.{◌≡◌, ◌<◌, ◌≤◌, length, Err, IfOk, IfSome};
 ghost use Rattle.pawk_board.specs.Limits.{most_chunks};
-ghost use Rattle.pawk_crew.specs.Task.{IsCrew};
+ghost use Rattle.pawk_chunks.specs.Task.{IsCrew};
 ghost use Rattle.pawk_input.specs.Counts.{block_counts};
 ghost use Rattle.pawk_input.specs.Input.{IsReady, files_of};
 ghost use Rattle.pawk_input.specs.Plan.{IsPlanOf};
 ghost use Rattle.pawk_threads.specs.Cuttings.{IsSized, IsRefused};
 
 use crate::report::Refusal;
-use pawk_count::{block_size, count_records};
-use pawk_crew::{CrewRefusal, Gate};
+use pawk_chunks::{CrewRefusal, Gate};
 use pawk_input::{CutRefusal, Input, Plan, SizeStep};
+use pawk_workers::{block_size, count_records};
 use std::alloc::Global;
 use std::sync::Wait;
 use std::thread::Threads;
@@ -19,10 +19,10 @@ use std::thread::Threads;
 /// How many chunks there may be for each worker before the input is cut by greater sizes.
 const CHUNKS_OF_WORKER: usize = 4;
 
-/// So many chunks there may always be.
+/// There may always be this number of chunks.
 const FEW_CHUNKS: usize = 16;
 
-/// More there never are where greater sizes give fewer.
+/// There are never more chunks than this where greater sizes give fewer.
 const MANY_CHUNKS: usize = 256;
 
 /// How many units the first chunk of each worker has where the input is cut by greater sizes.
@@ -37,7 +37,7 @@ const UNITS_OF_WORKER: u64 = FIRST_UNITS + SECOND_UNITS + 1;
 /// How the input is to be cut into chunks.
 #[derive(Drop)]
 pub enum Cutting {
-    /// A chunk ends before the first record that begins at least so many bytes past the chunk's begin,
+    /// A chunk ends before the first record that begins at least this number of bytes past the chunk's begin,
     /// or at the end of the file. The size is 1 or more. Where there are more such chunks than 4 for each
     /// worker (but 16 at least, and 256 at most), the input is cut by greater sizes: each worker has a chunk
     /// of about four sevenths of its share, then one of two, and at last one of one. So there are few, since
@@ -85,7 +85,7 @@ fn total_size(input: &Input) -> u64 {
     total
 }
 
-/// How many chunks there may be for so many workers before the input is cut by greater sizes.
+/// How many chunks there may be for `workers` workers before the input is cut by greater sizes.
 fn many_chunks(workers: usize) -> usize
     requires workers { IsCrew workers }
 {
@@ -104,7 +104,7 @@ struct HalvingSizes {
 }
 
 impl HalvingSizes {
-    /// The sizes for so many workers, of an input of so many bytes; each is at least the one that is given.
+    /// The sizes for `workers` workers, of an input of `total` bytes; each is at least the one that is given.
     fn new(bytes: u64, total: u64, workers: usize) -> Self
         requires workers { IsCrew workers }
         ensures least { result.least ≡ bytes }
@@ -118,7 +118,7 @@ impl HalvingSizes {
         }
     }
 
-    /// The size of so many units, and no less than the least.
+    /// The size of `units` units, and no less than the least.
     fn size(self, units: u64) -> u64
         ensures least { self.least ≤ result }
     {

@@ -3,15 +3,15 @@
 ghost use Rattle.std.specs.Prelude.{◌≢◌, ℕ, List};
 ghost use Rattle.pawk_code.specs.Programs.{Code};
 ghost use Rattle.pawk_input.specs.Input.{File};
-ghost use Rattle.pawk_meaning.specs.Runs.{disallowed};
+ghost use Rattle.pawk_semantics.specs.Runs.{disallowed};
 ghost use Rattle.pawk_threads.specs.Routes.{whole_run};
 
-use pawk_meaning::law::{Policy, never_disallows};
+use pawk_semantics::law::{Policy, never_disallows};
 
 /// The globals of a run, which allow all that is asked of them.
-struct Store;
+struct PlainStore;
 
-impl Policy for Store {
+impl Policy for PlainStore {
     ghost use Rattle.pawk_store.specs.Globals.{Globals, calls as answers};
 
     ghost Setting = { Unit {0} };
@@ -29,5 +29,5 @@ pub(crate) fn never_disallowed()
     ensures { (code : Code) (budget : ℕ) (assignments : List (List ℕ × List ℕ))
         (files : List File) → (whole_run code budget assignments files).ending ≢ disallowed }
 {
-    never_disallows::<Store>();
+    never_disallows::<PlainStore>();
 }

@@ -4,18 +4,18 @@ ghost use Rattle.std.specs.Prelude.{◌≡◌, ◌↔◌, ◌++◌, IfOk, IsTrue
 ghost use Rattle.pawk_code.specs.ProgramViews.{code_view};
 ghost use Rattle.pawk_store.specs.Globals.{calls};
 ghost use Rattle.pawk_store.specs.StateViews.{state_of};
-ghost use Rattle.pawk_meaning.specs.Runs.{behind_records};
-ghost use Rattle.pawk_meaning.specs.Outputs.{in_a_row};
-ghost use Rattle.pawk_join.specs.MergeViews.{leaving_view};
-ghost use Rattle.pawk_join.specs.MergeViews as merges;
-ghost use Rattle.pawk_gather.specs.Ends.{left_view};
-ghost use Rattle.pawk_one.specs.Ends.{Answers};
-ghost use Rattle.pawk_gather.specs.Gathered.{behind_output};
+ghost use Rattle.pawk_semantics.specs.Runs.{behind_records};
+ghost use Rattle.pawk_semantics.specs.Outputs.{in_a_row};
+ghost use Rattle.pawk_merge.specs.MergeViews.{leaving_view};
+ghost use Rattle.pawk_merge.specs.MergeViews as merges;
+ghost use Rattle.pawk_merge_law.specs.Ends.{left_view};
+ghost use Rattle.pawk_sequential.specs.RunEnds.{Answers};
+ghost use Rattle.pawk_merge_law.specs.Gathered.{behind_output};
 ghost use Rattle.pawk_threads.specs.Prologue.{outcome_of};
 
 use crate::prologue::Prologue;
-use pawk_join::{JoinStop, Leaving, Merged};
-use pawk_one::{Ending, Job, Left, Outcome, Output, Run, run_behind_records};
+use pawk_merge::{JoinStop, Leaving, Merged};
+use pawk_sequential::{Ending, Job, Left, Outcome, Output, Run, run_after_records};
 use pawk_store::{Globals, Specials};
 use std::alloc::{AllocError, Global};
 use std::mem;
@@ -32,7 +32,7 @@ fn left_of(leaving: Leaving) -> Left
     }
 }
 
-/// Whether a merge stopped for want of memory.
+/// Whether a merge stopped because memory was refused.
 pub(crate) fn lacks_memory(stop: JoinStop) -> bool
     ensures { IsTrue result ↔ stop ≡ JoinStop.Memory }
 {
@@ -62,7 +62,7 @@ fn output_of(
     Ok(Output::of(parts))
 }
 
-/// Goes on behind records that were merged into the globals, and gives what is shown beside these.
+/// Goes on after records that were merged into the globals, and gives what is shown beside these.
 fn end_merged<'a>(
     job: Job<'_>,
     globals: &mut Globals,
@@ -79,14 +79,14 @@ fn end_merged<'a>(
     let before = mem::replace(&mut run.output, Vec::new(alloc));
     run.state = merged.state;
     let left = left_of(merged.leaving);
-    let ending = run_behind_records(job, left, globals, run)?;
+    let ending = run_after_records(job, left, globals, run)?;
     let specials = run.state.specials(alloc)?;
     let behind = mem::replace(&mut run.output, Vec::new(alloc));
     let output = output_of(alloc, before, merged.outputs, behind)?;
     Ok((output, specials, ending))
 }
 
-/// Goes on behind records that were merged into the globals.
+/// Goes on after records that were merged into the globals.
 pub(crate) fn go_on_merged<'a>(
     job: Job<'_>,
     prologue: Prologue<'a>,

@@ -1,19 +1,19 @@
-//! A run behind BEGIN.
+//! A run after BEGIN.
 
 ghost use Rattle.std.specs.Prelude.{◌≡◌, ◌↔◌, ◌<◌, ◌≤◌, length, IfOk, IsTrue, MatchOption};
 ghost use Rattle.pawk_code.specs.ProgramViews.{code_view};
 ghost use Rattle.pawk_input.specs.Input.{IsReady, files_of};
 ghost use Rattle.pawk_store.specs.Globals.{calls};
 ghost use Rattle.pawk_store.specs.Openings.{pairs_of};
-ghost use Rattle.pawk_meaning.specs.Runs as spec;
-ghost use Rattle.pawk_gather.specs.Ends.{left_view};
-ghost use Rattle.pawk_one.specs.Ends.{Answers};
+ghost use Rattle.pawk_semantics.specs.Runs as spec;
+ghost use Rattle.pawk_merge_law.specs.Ends.{left_view};
+ghost use Rattle.pawk_sequential.specs.RunEnds.{Answers};
 ghost use Rattle.pawk_threads.specs.Prologue.{end_of};
 ghost use Rattle.pawk_threads.specs.Routes.{HasRecords, begin_end, separator_of};
 
 use pawk_input::Input;
-use pawk_one::{
-    Finish, Job, Left, Outcome, Output, Run, make_ready, opening_run, run_begin, run_behind_begin,
+use pawk_sequential::{
+    Finish, Job, Left, Outcome, Output, Run, make_ready, opening_run, run_after_begin, run_begin,
 };
 use pawk_settings::Assignment;
 use pawk_store::Globals;
@@ -62,7 +62,7 @@ pub(crate) fn begin<'a>(
     Ok(Prologue { globals, run, left })
 }
 
-/// Whether records are read behind BEGIN that was left so.
+/// Whether records are read after BEGIN that was left so.
 pub(crate) fn has_records(job: Job<'_>, prologue: &Prologue<'_>) -> bool
     ensures { IsTrue result ↔ HasRecords (code_view job.entry.code.now) (end_of prologue.now) }
 {
@@ -75,7 +75,7 @@ pub(crate) fn has_records(job: Job<'_>, prologue: &Prologue<'_>) -> bool
     }
 }
 
-/// Goes on behind BEGIN on this thread.
+/// Goes on after BEGIN on this thread.
 pub(crate) fn go_on(
     job: Job<'_>,
     prologue: Prologue<'_>,
@@ -94,7 +94,7 @@ pub(crate) fn go_on(
         output,
         specials,
         ending,
-    } = run_behind_begin(job, left, input, &mut globals, run)?;
+    } = run_after_begin(job, left, input, &mut globals, run)?;
     Ok(Outcome {
         output: Output::whole(alloc, output)?,
         globals,

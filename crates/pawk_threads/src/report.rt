@@ -1,13 +1,14 @@
 //! How a run went, and why one was refused.
 
 use pawk_admit::Reason;
-use pawk_crew::CrewRefusal;
+use pawk_chunks::CrewRefusal;
 use std::alloc::AllocError;
+use thiserror::Error;
 
 /// Which way a run went.
 #[derive(Clone, Copy, PartialEq, Eq)]
 pub enum Route {
-    /// No record is read behind `BEGIN`.
+    /// No record is read after `BEGIN`.
     NoMain,
     /// The program may not run in chunks, for this reason.
     NotAdmitted(Reason),
@@ -25,13 +26,16 @@ pub struct Report {
 }
 
 /// Why a run was refused.
-#[derive(Clone, Copy, PartialEq, Eq)]
+#[derive(Clone, Copy, Debug, PartialEq, Eq, Drop, Error)]
 pub enum Refusal {
     /// Memory was refused.
+    #[error("out of memory")]
     Memory = 1,
     /// A worker could not be started.
+    #[error("a worker could not be started")]
     Thread = 2,
     /// There is no plan of this cutting.
+    #[error("there is no plan of this cutting")]
     Cutting = 3,
 }
 

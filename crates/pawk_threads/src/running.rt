@@ -7,8 +7,8 @@ ghost use Rattle.pawk_store.specs.Openings.{pairs_of};
 ghost use Rattle.pawk_admit.specs.Admission.{AreRoles, IsAdmissible};
 ghost use Rattle.pawk_admit.specs.Reaches.{Occurs};
 ghost use Rattle.pawk_admit.specs.Roles.{roles_view};
-ghost use Rattle.pawk_one.specs.Ends.{Answers};
-ghost use Rattle.pawk_crew.specs.Task.{IsCrew};
+ghost use Rattle.pawk_sequential.specs.RunEnds.{Answers};
+ghost use Rattle.pawk_chunks.specs.Task.{IsCrew};
 ghost use Rattle.pawk_threads.specs.Prologue.{Goes, end_of};
 ghost use Rattle.pawk_threads.specs.Cuttings.{HasNoPlan, IsSized};
 ghost use Rattle.pawk_threads.specs.Routes.{HasRecords, IsRoute, begin_end, whole_run};
@@ -19,15 +19,15 @@ use crate::law::never_disallowed;
 use crate::prologue::{Prologue, begin, go_on, has_records};
 use crate::report::{Refusal, Report, Route};
 use pawk_admit::{Reason, Roles, admit};
-use pawk_crew::{Chunked, Gate};
+use pawk_chunks::{Chunked, Gate};
 use pawk_input::Input;
-use pawk_one::{Ending, Job, Outcome, run_one};
+use pawk_sequential::{Ending, Job, Outcome, run_one};
 use pawk_settings::Assignment;
 use std::alloc::Global;
 use std::sync::Wait;
 use std::thread::Threads;
 
-/// Whether an admission was refused for want of memory.
+/// Whether an admission was refused because memory was refused.
 fn is_memory(reason: Reason) -> bool
     ensures { IsTrue result ↔ reason ≡ Reason.Memory }
 {
@@ -121,7 +121,7 @@ fn run_once<G: Gate + Sync, R: Threads + Wait>(
 }
 
 /// Runs a program with these assignments made before, its records in chunks by threads where it may, and
-/// tells how it went. What it leaves is what a run of one thread leaves, whatever the cutting and the
+/// reports how it went. What it leaves is what a run of one thread leaves, whatever the cutting and the
 /// number of workers, 1 to 64. It never is disallowed, since globals answer each request.
 ///
 /// One worker is this thread, each other a thread of its own; all have ended when this returns. The gate is

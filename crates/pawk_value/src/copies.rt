@@ -38,7 +38,7 @@ pub fn copy_lent(alloc: Global, value: ValueRef<'_>) -> Result<Value, AllocError
     }
 }
 
-/// Puts bytes into the room of others. After a refusal the others are as they were.
+/// Puts bytes into the space of others. After a refusal the others are as they were.
 fn replace_bytes(room: &mut Vec<u8>, bytes: &[u8]) -> Result<(), AllocError>
     ensures items { room.new.items ≡ (if is_ok result then bytes.now else room.old.items) }
     ensures full { OnErr result (0 < length bytes.now) }
@@ -50,7 +50,7 @@ fn replace_bytes(room: &mut Vec<u8>, bytes: &[u8]) -> Result<(), AllocError>
     room.extend_from_slice(bytes)
 }
 
-/// The bytes in the room that a value has for its text, if it has one. After a refusal the value is as
+/// The bytes in the space that a value has for its text, if it has one. After a refusal the value is as
 /// it was.
 fn move_into_room(alloc: Global, value: &mut Value, bytes: &[u8]) -> Result<Vec<u8>, AllocError>
     ensures copy { IfOk result (λ copy. copy.items ≡ bytes.now) }
@@ -70,7 +70,7 @@ fn move_into_room(alloc: Global, value: &mut Value, bytes: &[u8]) -> Result<Vec<
     }
 }
 
-/// Makes a value a copy of a lent one, in the room that it has for its text. Memory is refused only
+/// Makes a value a copy of a lent one, in the space that it has for its text. Memory is refused only
 /// where the lent value holds bytes, and then the value is as it was.
 pub fn assign(alloc: Global, value: &mut Value, source: ValueRef<'_>) -> Result<(), AllocError>
     ensures value { shown value.new

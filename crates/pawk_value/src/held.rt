@@ -20,7 +20,7 @@ pub enum Held {
     Maybe,
 }
 
-/// Lays a lent value down: its bytes are appended to the buffer. Memory is refused only where it has
+/// Stores a lent value: its bytes are appended to the buffer. Memory is refused only where it has
 /// bytes.
 #[inline(always)]
 pub fn hold(value: ValueRef<'_>, out: &mut Vec<u8>) -> Result<Held, AllocError>

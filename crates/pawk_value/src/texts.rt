@@ -8,7 +8,7 @@ use itoa::Buffer;
 use pawk_scalar::{Value, ValueRef, lend, text_in};
 use std::alloc::{AllocError, Global};
 
-/// Appends the text of a value. Memory is refused only where the room of `out` is too small, and after
+/// Appends the text of a value. Memory is refused only where the capacity of `out` is too small, and after
 /// a refusal its bytes are as they were.
 pub fn push_text(value: &Value, out: &mut Vec<u8>) -> Result<(), AllocError>
     ensures items { out.new.items

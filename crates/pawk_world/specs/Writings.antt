@@ -1,4 +1,4 @@
--- Requests that follow one another: a text behind that of a scalar, and the pieces of a text in an array.
+-- Requests that follow one another: a text after that of a scalar, and the pieces of a text in an array.
 use Rattle.std.specs.Prelude.{ℕ, ◌+◌, List, [], ◌∷◌, ◌++◌}
 use Rattle.std.specs.Fmt.{decimal}
 use Rattle.pawk_value.specs.Value.{Text, Maybe}
@@ -10,12 +10,12 @@ abbrev pub after : {S X Y : Type 0} → Answer S X → (X → S → Answer S Y) 
 after (gives x s) next = next x s
 after (halts h s) next = halts h s
 
--- the scalar is the text that it shows, with more behind it
+-- the scalar is the text that it shows, with more after it
 abbrev pub append_to : {S : Type 0} → Calls S → ℕ → List ℕ → S → Answer S (Unit {0})
 append_to calls slot more s = calls.ask (write (scalar slot) (Text (text_of (calls.look slot s) ++ more))) s
 
 -- the elements whose keys are the numbers after this one are these pieces, as candidates
-abbrev pub fill_behind : {S : Type 0} → Calls S → ℕ → ℕ → List (List ℕ) → S → Answer S (Unit {0})
-fill_behind calls array n [] s = gives tt s
-fill_behind calls array n (piece ∷ rest) s =
-    after (calls.ask (write (element array (decimal (n + 1))) (Maybe piece)) s) (λ _. fill_behind calls array (n + 1) rest)
+abbrev pub fill_after : {S : Type 0} → Calls S → ℕ → ℕ → List (List ℕ) → S → Answer S (Unit {0})
+fill_after calls array n [] s = gives tt s
+fill_after calls array n (piece ∷ rest) s =
+    after (calls.ask (write (element array (decimal (n + 1))) (Maybe piece)) s) (λ _. fill_after calls array (n + 1) rest)

@@ -6,5 +6,5 @@ mod sums;
 mod world;
 
 pub use halt::Halt;
-pub use sums::sum;
+pub use sums::{op_of, sum};
 pub use world::World;

@@ -7,8 +7,8 @@ ghost use Rattle.pawk_world.specs.Sums as spec;
 use pawk_code::word::Sign;
 use pawk_value::{Fault, Op, arith};
 
-/// The operation of a sign.
-fn op_of(sign: Sign) -> Op
+/// The operation of a sign, addition or subtraction.
+pub fn op_of(sign: Sign) -> Op
     ensures { result ≡ spec.op_of sign }
 {
     match sign {

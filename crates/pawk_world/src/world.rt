@@ -7,7 +7,7 @@ ghost use Rattle.pawk_array.specs.Texts.{AreWithin, texts_in};
 ghost use Rattle.pawk_world.specs.Worlds.{Calls, read, old, write, add, test, remove, clear, keys};
 ghost use Rattle.pawk_world.specs.Worlds as cells;
 ghost use Rattle.pawk_world.specs.Answers.{Answers};
-ghost use Rattle.pawk_world.specs.Writings.{append_to, fill_behind};
+ghost use Rattle.pawk_world.specs.Writings.{append_to, fill_after};
 
 use crate::halt::Halt;
 use pawk_array::Texts;
@@ -17,7 +17,7 @@ use std::ops::Range;
 
 /// The globals of a run: scalars by their slots, and arrays by theirs, both counted from 0.
 ///
-/// A call halts with a fault, with a clash where the world does not allow it, or for want of memory;
+/// A call halts with a fault, with a clash where the world does not allow it, or where memory is refused;
 /// after that the world is only dropped.
 pub trait World {
     /// What the definitions see of the globals.
@@ -40,7 +40,7 @@ pub trait World {
             result (state self.new) };
 
     /// Adds an amount to a scalar, or takes it away. The scalar is converted first; then a fault of
-    /// the amount's conversion is told.
+    /// the amount's conversion is reported.
     fn add_scalar(
         &mut self,
         slot: usize,
@@ -51,12 +51,12 @@ pub trait World {
             (calls.ask (add sign (cells.scalar slot) amount) (state self.old))
             result (state self.new) };
 
-    /// Puts a text behind the text of a scalar, which is a text then: one write.
+    /// Puts a text after the text of a scalar, which is a text then: one write.
     fn append_scalar(&mut self, slot: usize, more: &[u8]) -> Result<(), Halt>
         ensures { Answers (λ _. tt) (append_to calls slot more.now (state self.old))
             result (state self.new) };
 
-    /// Lays down the value of an element, which creates it where it is missing: its bytes are
+    /// Stores the value of an element, which creates it where it is missing: its bytes are
     /// appended to `out`.
     fn element(&mut self, array: usize, key: &[u8], out: &mut Vec<u8>) -> Result<Held, Halt>
         ensures answer { Answers (λ h. held_value h (added out.old.items out.new.items))
@@ -64,7 +64,7 @@ pub trait World {
         ensures appended { OnOk result
             (out.new.items ≡ out.old.items ++ added out.old.items out.new.items) };
 
-    /// Lays down the old value of an element that is assigned, as [`World::element`] does.
+    /// Stores the old value of an element that is assigned, as [`World::element`] does.
     fn old_element(&mut self, array: usize, key: &[u8], out: &mut Vec<u8>) -> Result<Held, Halt>
         ensures answer { Answers (λ h. held_value h (added out.old.items out.new.items))
             (calls.ask (old array key.now) (state self.old)) result (state self.new) }
@@ -112,7 +112,7 @@ pub trait World {
     fn fill(&mut self, array: usize, text: &[u8], pieces: Vec<Range<usize>>) -> Result<(), Halt>
         requires { AreWithin text.now pieces.items }
         ensures { Answers (λ _. tt)
-            (fill_behind calls array 0 (texts_in text.now pieces.items) (state self.old))
+            (fill_after calls array 0 (texts_in text.now pieces.items) (state self.old))
             result (state self.new) };
 
     /// All keys of an array, in the order of their bytes.

@@ -7,19 +7,19 @@ use Rattle.pawk_code.specs.Expressions.{exprs, arguments}
 use Rattle.pawk_code.specs.ExpressionViews.{view, views, argument_view, argument_views, format_view, place_view, test_view, textual_view}
 use Rattle.pawk_code.specs.StatementViews.{seen, simple_view, stmt_view}
 use Rattle.pawk_code.specs.ProgramViews.{function_view}
-use Rattle.pawk_meaning.specs.Builtins.{within_limit}
-use Rattle.pawk_meaning.specs.Parts.{gives, halts, then_do, Entry, entry_of, settle}
-use Rattle.pawk_meaning.specs.Meaning.{eval, execs, texts_of, values_of, arguments_of, suffixed, joined_texts, while_loop, visit_keys, for_keys, test_or_true, act_or_none}
-use Rattle.pawk_meaning.specs.Places.{variable_aim}
-use Rattle.pawk_places.specs.declared.run.Parameter.{Parameter}
-use Rattle.pawk_places.specs.Moments.{holds_of, moment}
+use Rattle.pawk_semantics.specs.Builtins.{within_limit}
+use Rattle.pawk_semantics.specs.Parts.{gives, halts, then_do, Entry, entry_of, settle}
+use Rattle.pawk_semantics.specs.Meaning.{eval, execs, texts_of, values_of, arguments_of, suffixed, joined_texts, while_loop, visit_keys, for_keys, test_or_true, act_or_none}
+use Rattle.pawk_semantics.specs.Places.{variable_aim}
+use Rattle.pawk_runtime.specs.declared.run.Parameter.{Parameter}
+use Rattle.pawk_runtime.specs.Moments.{holds_of, moment}
 use Rattle.pawk_eval.specs.Contexts.{functions_of, eres_of, enter_of, last_view}
 use Rattle.pawk_eval.specs.Contexts as contexts
 use Rattle.pawk_eval.proofs.Behind.{operand_next, operand_halts, text_behind}
 use Rattle.pawk_eval.proofs.Bodies.{simple_next}
 use Rattle.pawk_eval.proofs.Calls.{call_no_step, call_too_deep, call_nothing, call_runs}
 use Rattle.pawk_eval.proofs.Rows.{expr_in_row, argument_in_row, statement_in_body, keys_left, text_in_row_halts, value_in_row_halts, argument_in_row_halts, value_argument_halts}
-use Rattle.pawk_places.proofs.ElementShapes.{element_shape}
+use Rattle.pawk_runtime.proofs.ElementShapes.{element_shape}
 use Rattle.pawk_eval.proofs.Shapes.{call_shape, member_shape, join_shape, format_shape, simple_shape, if_shape, choose_shape, do_shape}
 use Rattle.pawk_eval.proofs.Turns.{turn_is, turn_no_step}
 use Rattle.pawk_eval.proofs.Weights.{rank, rank_falls, weight, row_weight, place_weight, test_weight, textual_weight, format_weight, argument_weight, arguments_weight, simple_weight, statement_weight, body_weight, body_in_list}
@@ -65,17 +65,6 @@ pub expressions::text_into-returns-in-Call-clause-outcome : goal.expressions::te
 expressions::text_into-returns-in-Call-clause-outcome g t c =
     let is = call_shape c.args.e.now c.in-Call.f c.in-Call.arguments c.deref.result.now c.in-Call.is c.deref.ensures.value in
     rw is c.call_text_into.ensures.outcome
-
-pub expressions::text-call_text-requires : goal.expressions::text-call_text-requires
-expressions::text-call_text-requires g t c =
-    let is = call_shape c.args.e.now c.in-Call.f c.in-Call.arguments c.deref.result.now c.in-Call.is c.deref.ensures.value in
-    let falls : arguments_weight (arguments (argument_views c.deref.result.now)) + 2 < weight (view c.args.e.now) + 3 = rw is (omega arith) in
-    search rules
-
-pub expressions::text-returns-in-Call-clause-outcome : goal.expressions::text-returns-in-Call-clause-outcome
-expressions::text-returns-in-Call-clause-outcome g t c =
-    let is = call_shape c.args.e.now c.in-Call.f c.in-Call.arguments c.deref.result.now c.in-Call.is c.deref.ensures.value in
-    rw is c.call_text.ensures.outcome
 
 pub expressions::value-invoke-requires : goal.expressions::value-invoke-requires
 expressions::value-invoke-requires g t c =

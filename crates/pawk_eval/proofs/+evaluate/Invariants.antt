@@ -2,9 +2,9 @@ use Rattle.std.proofs.Common.{◌≡◌, ◌≤◌, ℕ, ◌+◌, [], drop, take
 use Rattle.pawk_code.specs.Expressions.{exprs, arguments}
 use Rattle.pawk_code.specs.ExpressionViews.{view, views, argument_view, argument_views, fields_view, format_view, function_view, numeric_view, pattern_view, place_view, test_view, textual_view}
 use Rattle.pawk_code.specs.StatementViews.{seen, simple_view, stmt_view}
-use Rattle.pawk_meaning.specs.Meaning.{texts_of, values_of, arguments_of, suffixed, joined_texts, execs, turns, while_loop, visit_keys, for_keys, act_or_none, test_or_true}
-use Rattle.pawk_meaning.specs.Places.{variable_aim}
-use Rattle.pawk_places.specs.Moments.{holds_of, moment}
+use Rattle.pawk_semantics.specs.Meaning.{texts_of, values_of, arguments_of, suffixed, joined_texts, execs, turns, while_loop, visit_keys, for_keys, act_or_none, test_or_true}
+use Rattle.pawk_semantics.specs.Places.{variable_aim}
+use Rattle.pawk_runtime.specs.Moments.{holds_of, moment}
 use Rattle.pawk_eval.specs.Contexts.{functions_of, eres_of, enter_of, last_view}
 use Rattle.pawk_eval.specs.Contexts as contexts
 use Rattle.pawk_eval.proofs.Weights.{rank, weight, row_weight, place_weight, numeric_weight, function_weight, test_weight, textual_weight, pattern_weight, separator_weight, format_weight, argument_weight, arguments_weight, simple_weight, option_weight, option_simple_weight, statement_weight, body_weight}
@@ -24,9 +24,6 @@ decreases-expressions::lay_call g l = rank (functions_of l.context) l.depth (arg
 
 abbrev pub decreases-expressions::call_text_into : goal.decreases-expressions::call_text_into
 decreases-expressions::call_text_into g l = rank (functions_of l.context) l.depth (arguments_weight (arguments (argument_views l.arguments.now)) + 2)
-
-abbrev pub decreases-expressions::call_text : goal.decreases-expressions::call_text
-decreases-expressions::call_text g l = rank (functions_of l.context) l.depth (arguments_weight (arguments (argument_views l.arguments.now)) + 2)
 
 abbrev pub decreases-expressions::assign : goal.decreases-expressions::assign
 decreases-expressions::assign g l = rank (functions_of l.context) l.depth (place_weight (place_view l.to.now) + weight (view l.e.now) + 1)
@@ -142,9 +139,6 @@ decreases-functions::body_value g l = rank (functions_of l.context) l.depth (bod
 abbrev pub decreases-statements::perform : goal.decreases-statements::perform
 decreases-statements::perform g l = rank (functions_of l.context) l.depth (simple_weight (simple_view l.s.now))
 
-abbrev pub decreases-statements::drop_value : goal.decreases-statements::drop_value
-decreases-statements::drop_value g l = rank (functions_of l.context) l.depth (weight (view l.e.now) + 1)
-
 abbrev pub decreases-statements::delete : goal.decreases-statements::delete
 decreases-statements::delete g l = rank (functions_of l.context) l.depth (row_weight (exprs (views l.keys.now)) + 2)
 
@@ -157,20 +151,17 @@ decreases-assignments::add_elsewhere g l = rank (functions_of l.context) l.depth
 abbrev pub decreases-assignments::tally : goal.decreases-assignments::tally
 decreases-assignments::tally g l = rank (functions_of l.context) l.depth (place_weight (place_view l.to.now) + 2)
 
-abbrev pub decreases-assignments::tally_elsewhere : goal.decreases-assignments::tally_elsewhere
-decreases-assignments::tally_elsewhere g l = rank (functions_of l.context) l.depth (place_weight (place_view l.to.now) + 1)
-
 abbrev pub decreases-assignments::tally_element : goal.decreases-assignments::tally_element
 decreases-assignments::tally_element g l = rank (functions_of l.context) l.depth (row_weight (exprs (views l.keys.now)) + 3)
+
+abbrev pub decreases-assignments::tally_elsewhere : goal.decreases-assignments::tally_elsewhere
+decreases-assignments::tally_elsewhere g l = rank (functions_of l.context) l.depth (place_weight (place_view l.to.now) + 1)
 
 abbrev pub decreases-assignments::set_elsewhere : goal.decreases-assignments::set_elsewhere
 decreases-assignments::set_elsewhere g l = rank (functions_of l.context) l.depth (place_weight (place_view l.to.now) + weight (view l.e.now) + 1)
 
 abbrev pub decreases-assignments::set : goal.decreases-assignments::set
 decreases-assignments::set g l = rank (functions_of l.context) l.depth (place_weight (place_view l.to.now) + weight (view l.e.now) + 2)
-
-abbrev pub decreases-statements::print : goal.decreases-statements::print
-decreases-statements::print g l = rank (functions_of l.context) l.depth (row_weight (exprs (views l.es.now)) + 2)
 
 abbrev pub decreases-statements::print_values : goal.decreases-statements::print_values
 decreases-statements::print_values g l = rank (functions_of l.context) l.depth (row_weight (exprs (views l.es.now)) + 1)
@@ -227,7 +218,7 @@ invariant-statements::execute-loop-s g l =
     let enter = enter_of g.W.World.calls l.context l.depth in
     (execs g.W.World.calls eres enter (seen (drop l.s-index l.body)) (moment (g.W.World.state l.world) l.run) ≡ execs g.W.World.calls eres enter (seen l.body) (moment (g.W.World.state l.fn.world) l.fn.run)) × (l.run.left ≤ l.fn.run.left)
 
--- so many turns, which the steps that are left allow, do what the loop does
+-- n turns, which the steps that are left allow, do what the loop does
 abbrev pub invariant-loops::turns-turns : goal.invariant-loops::turns-turns
 invariant-loops::turns-turns g l =
     let eres = eres_of l.context in

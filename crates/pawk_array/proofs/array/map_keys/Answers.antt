@@ -3,8 +3,8 @@ use Rattle.std.specs.Option.{option_map}
 use Rattle.std.specs.Map.Iter.{deref_pair}
 use Rattle.std.proofs.lemmas.List.{map-append, map_more, take_all}
 use Rattle.std.proofs.lemmas.Option.{get_or_from_slice_get}
-use Rattle.pawk_array.specs.Keys.{text_of}
-use Rattle.pawk_array.specs.declared.key.Key.{Key}
+use Rattle.pawk_keyed_map.specs.Keys.{text_of}
+use Rattle.pawk_keyed_map.specs.declared.key.Key.{Key}
 use Rattle.pawk_array.specs.ArrayViews.{entries_of}
 use Rattle.pawk_array.specs.Walks.{AreKeysOf}
 use Rattle.pawk_array.proofs.KeysLemmas.{pair_keys}

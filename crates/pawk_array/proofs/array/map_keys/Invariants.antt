@@ -1,5 +1,5 @@
 use Rattle.std.proofs.Common.{◌≡◌, map, take}
-use Rattle.pawk_array.specs.Keys.{text_of}
+use Rattle.pawk_keyed_map.specs.Keys.{text_of}
 use Rattle.pawk_array.proofs.array.map_keys.Given as goal
 
 abbrev pub invariant-loop-place : goal.invariant-loop-place

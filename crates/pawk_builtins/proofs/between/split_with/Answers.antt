@@ -1,6 +1,6 @@
 use Rattle.std.proofs.Common.{ℕ, List, false, subst}
 use Rattle.std.specs.declared.ops.Range.{Range}
-use Rattle.pawk_split.specs.FieldsOf.{AddsBetween}
+use Rattle.pawk_fields.specs.FieldsOf.{AddsBetween}
 use Rattle.pawk_builtins.proofs.SplitLemmas.{between_of, between_inside}
 use Rattle.pawk_builtins.proofs.between.split_with.Goals as goal
 

@@ -1,8 +1,8 @@
 use Rattle.std.proofs.Common.{◌++◌, ◌∙◌, ap, ℕ, Option, IfSome, sym, subst, arith}
 use Rattle.std.proofs.lemmas.List.{take_rest}
 use Rattle.pawk_ere.specs.Answers.{IsFor}
-use Rattle.pawk_code.specs.declared.word.Count.TheVariants.{All}
-use Rattle.pawk_meaning.specs.Builtins.{replaced}
+use Rattle.pawk_code.specs.declared.word.ReplacedMatches.TheVariants.{All}
+use Rattle.pawk_semantics.specs.Builtins.{replaced}
 use Rattle.pawk_builtins.specs.ReplaceWalks.{IsAhead, IsNextReplaced}
 use Rattle.pawk_builtins.proofs.ReplaceLemmas.{laid_step, laid_all, count_more, count_within}
 use Rattle.pawk_builtins.proofs.replace.replace_all.Goals as goal

@@ -1,8 +1,8 @@
 use Rattle.std.proofs.Common.{◌≡◌, ◌≤◌, length}
-use Rattle.pawk_pattern.specs.Pattern.{Pattern}
+use Rattle.pawk_ere_syntax.specs.Pattern.{Pattern}
 use Rattle.pawk_ere.specs.Answers.{IsFor}
-use Rattle.pawk_code.specs.declared.word.Count.TheVariants.{All}
-use Rattle.pawk_meaning.specs.Builtins.{replaced}
+use Rattle.pawk_code.specs.declared.word.ReplacedMatches.TheVariants.{All}
+use Rattle.pawk_semantics.specs.Builtins.{replaced}
 use Rattle.pawk_builtins.specs.ReplaceWalks.{replaced_behind, left_behind, IsLaidOut}
 use Rattle.pawk_builtins.proofs.replace.replace_all.Given as goal
 

@@ -1,5 +1,5 @@
 use Rattle.std.proofs.Common.{◌≡◌, ◌++◌, length}
-use Rattle.pawk_meaning.specs.Builtins.{replacement}
+use Rattle.pawk_semantics.specs.Builtins.{replacement}
 use Rattle.pawk_builtins.proofs.replacement.push_replacement.Given as goal
 
 abbrev pub invariant-loop-rest : goal.invariant-loop-rest

@@ -1,6 +1,6 @@
 use Rattle.std.proofs.Common.{◌+◌, ap, subst, sym, length, Some}
-use Rattle.pawk_pattern.specs.Pattern.{IsFound}
-use Rattle.pawk_machine.specs.Regex.{Takes}
+use Rattle.pawk_ere_syntax.specs.Pattern.{IsFound}
+use Rattle.pawk_ere_automaton.specs.Regex.{Takes}
 use Rattle.pawk_ere.proofs.Literals.{literal_none, literal_some}
 use Rattle.pawk_ere.proofs.literal.search_literal.Goals as goal
 

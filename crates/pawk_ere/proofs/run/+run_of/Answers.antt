@@ -1,10 +1,10 @@
-use Rattle.pawk_machine.specs.Members.{members_of}
+use Rattle.pawk_ere_automaton.specs.Members.{members_of}
 use Rattle.std.proofs.Common.{◌≡◌, ℕ, ◌*◌, ap, ◌∙◌, subst, sym, Bor}
 use Rattle.pawk_ere.specs.Runs.{IsRun}
 use Rattle.pawk_ere.proofs.Runs.{map_some, run_before_nothing, run_copies}
-use Rattle.pawk_machine.specs.Regex.{Empty, Sequence, copies}
-use Rattle.pawk_machine.specs.Tree.{regex_of}
-use Rattle.pawk_machine.specs.declared.members.Members.{Members}
+use Rattle.pawk_ere_automaton.specs.Regex.{Empty, Sequence, copies}
+use Rattle.pawk_ere_automaton.specs.Tree.{regex_of}
+use Rattle.pawk_ere_automaton.specs.declared.members.Members.{Members}
 use Rattle.pawk_ere.proofs.run.+run_of.Goals as goal
 
 pub returns-in-Empty-deref : goal.returns-in-Empty-deref

@@ -1,10 +1,10 @@
-use Rattle.pawk_machine.specs.Members.{members_of}
+use Rattle.pawk_ere_automaton.specs.Members.{members_of}
 use Rattle.std.proofs.Common.{◌≡◌, ap, ◌∙◌, subst, sym, Bor}
 use Rattle.pawk_ere.specs.Runs.{IsRun, IsTurns}
 use Rattle.pawk_ere.proofs.Runs.{map_some, turns_before_nothing, turns_plus}
-use Rattle.pawk_machine.specs.Regex.{Empty, Plus, Sequence}
-use Rattle.pawk_machine.specs.Tree.{regex_of}
-use Rattle.pawk_machine.specs.declared.members.Members.{Members}
+use Rattle.pawk_ere_automaton.specs.Regex.{Empty, Plus, Sequence}
+use Rattle.pawk_ere_automaton.specs.Tree.{regex_of}
+use Rattle.pawk_ere_automaton.specs.declared.members.Members.{Members}
 use Rattle.pawk_ere.proofs.run.+turns_of.Goals as goal
 
 pub returns-in-Empty-deref : goal.returns-in-Empty-deref

@@ -1,5 +1,5 @@
 use Rattle.std.proofs.Common.{length, ◌-◌, ◌≤◌}
-use Rattle.pawk_machine.specs.Members.{members_of}
+use Rattle.pawk_ere_automaton.specs.Members.{members_of}
 use Rattle.pawk_ere.specs.Runs.{NoneHolds}
 use Rattle.pawk_ere.proofs.run.first_member.Given as goal
 

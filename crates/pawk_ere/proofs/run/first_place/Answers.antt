@@ -1,7 +1,7 @@
 use Rattle.std.proofs.Common.{IfSome, subst, arith}
-use Rattle.pawk_machine.specs.Members.{members_of}
-use Rattle.pawk_machine.proofs.Walks.{not_here, not_here_at_all}
-use Rattle.pawk_pattern.specs.Sets.{IsOnlyMember}
+use Rattle.pawk_ere_automaton.specs.Members.{members_of}
+use Rattle.pawk_ere_automaton.proofs.Walks.{not_here, not_here_at_all}
+use Rattle.pawk_ere_syntax.specs.Sets.{IsOnlyMember}
 use Rattle.pawk_ere.proofs.Runs.{only_here}
 use Rattle.pawk_ere.proofs.run.first_place.Goals as goal
 

@@ -1,6 +1,6 @@
 use Rattle.std.proofs.Common.{refl}
-use Rattle.pawk_machine.specs.Regex.{Takes}
-use Rattle.pawk_machine.proofs.Leftmost.{match_of_some, no_match_of_none}
+use Rattle.pawk_ere_automaton.specs.Regex.{Takes}
+use Rattle.pawk_ere_automaton.proofs.Leftmost.{match_of_some, no_match_of_none}
 use Rattle.pawk_ere.proofs.run.has_run.Goals as goal
 
 pub returns-in-None : goal.returns-in-None

@@ -1,4 +1,4 @@
-use Rattle.pawk_machine.specs.Members.{members_of}
+use Rattle.pawk_ere_automaton.specs.Members.{members_of}
 use Rattle.pawk_ere.specs.Runs.{AllHold}
 use Rattle.pawk_ere.proofs.run.last_other.Given as goal
 use Rattle.std.proofs.Common.{◌≤◌}

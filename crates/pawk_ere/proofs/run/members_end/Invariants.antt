@@ -1,5 +1,5 @@
 use Rattle.std.proofs.Common.{length, ◌-◌, ◌≤◌}
-use Rattle.pawk_machine.specs.Members.{members_of}
+use Rattle.pawk_ere_automaton.specs.Members.{members_of}
 use Rattle.pawk_ere.specs.Runs.{AllHold}
 use Rattle.pawk_ere.proofs.run.members_end.Given as goal
 

@@ -1,4 +1,4 @@
-use Rattle.pawk_machine.specs.Members.{members_of}
+use Rattle.pawk_ere_automaton.specs.Members.{members_of}
 use Rattle.pawk_ere.proofs.Runs.{one_none, one_some}
 use Rattle.pawk_ere.proofs.run.search_one.Goals as goal
 

@@ -1,4 +1,4 @@
-use Rattle.pawk_machine.specs.Members.{members_of}
+use Rattle.pawk_ere_automaton.specs.Members.{members_of}
 use Rattle.std.proofs.Common.{arith, subst}
 use Rattle.pawk_ere.specs.Runs.{IsRun}
 use Rattle.pawk_ere.proofs.Runs.{run_none, run_some}

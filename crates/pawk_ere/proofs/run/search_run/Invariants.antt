@@ -1,4 +1,4 @@
-use Rattle.pawk_machine.specs.Members.{members_of}
+use Rattle.pawk_ere_automaton.specs.Members.{members_of}
 use Rattle.std.proofs.Common.{length, ◌-◌, ◌≤◌}
 use Rattle.pawk_ere.proofs.Runs.{NoRun}
 use Rattle.pawk_ere.proofs.run.search_run.Given as goal

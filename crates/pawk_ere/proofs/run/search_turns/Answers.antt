@@ -1,4 +1,4 @@
-use Rattle.pawk_machine.specs.Members.{members_of}
+use Rattle.pawk_ere_automaton.specs.Members.{members_of}
 use Rattle.pawk_ere.proofs.Runs.{turns_none, turns_some}
 use Rattle.pawk_ere.proofs.run.search_turns.Goals as goal
 

@@ -1,7 +1,7 @@
 use Rattle.std.proofs.Common.{◌≡◌, ◌+◌, suc, ap, ◌∙◌, subst, sym, arith}
 use Rattle.pawk_ere.specs.Words.{AreFeatures}
-use Rattle.pawk_machine.specs.Regex.{Plus, Sequence, copies}
-use Rattle.pawk_machine.specs.Tree.{regex_of}
+use Rattle.pawk_ere_automaton.specs.Regex.{Plus, Sequence, copies}
+use Rattle.pawk_ere_automaton.specs.Tree.{regex_of}
 use Rattle.pawk_ere.proofs.Needed.{features_of_nothing, features_before_nothing}
 use Rattle.pawk_ere.proofs.words.+features.Goals as goal
 

@@ -1,7 +1,7 @@
-use Rattle.pawk_machine.specs.Members.{members_of}
+use Rattle.pawk_ere_automaton.specs.Members.{members_of}
 use Rattle.std.proofs.Common.{◌∷◌, ◌++◌, [], List, ℕ, ap, ◌∙◌, subst, sym}
 use Rattle.pawk_ere.specs.Words.{IsLiteral, AreFeatures}
-use Rattle.pawk_machine.specs.Regex.{Bytes}
+use Rattle.pawk_ere_automaton.specs.Regex.{Bytes}
 use Rattle.pawk_ere.proofs.Literals.{literal_byte}
 use Rattle.pawk_ere.proofs.Needed.{features_of_literal, features_of_nothing}
 use Rattle.pawk_ere.proofs.words.in_bytes.Goals as goal

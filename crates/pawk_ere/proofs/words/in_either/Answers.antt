@@ -1,6 +1,6 @@
 use Rattle.std.proofs.Common.{subst, sym}
 use Rattle.pawk_ere.specs.Words.{AreFeatures}
-use Rattle.pawk_machine.specs.Regex.{Either}
+use Rattle.pawk_ere_automaton.specs.Regex.{Either}
 use Rattle.pawk_ere.proofs.Needed.{filled, features_of_either, features_of_nothing}
 use Rattle.pawk_ere.proofs.words.in_either.Goals as goal
 use Rattle.pawk_ere.proofs.words.in_either.Goals.{then-saturating_add-le-MOST_WORDS+in_ok-append, else-saturating_add-le-MOST_WORDS}

@@ -1,11 +1,11 @@
 use Rattle.std.proofs.Common.{◌≡◌, IfOk, Result, Ok, Err, List, ℕ, Vec, Global, sym, subst, ap, ◌∙◌}
 use Rattle.std.specs.declared.alloc.AllocError.{AllocError}
-use Rattle.pawk_machine.specs.Expand.{expand}
-use Rattle.pawk_machine.specs.Regex.{Regex, Takes}
-use Rattle.pawk_machine.specs.Tree.{regex_of}
-use Rattle.pawk_machine.proofs.Turns.{expand_if}
-use Rattle.pawk_pattern.specs.Pattern.{Pattern}
-use Rattle.pawk_pattern.specs.Spelled.{expression}
+use Rattle.pawk_ere_automaton.specs.Expand.{expand}
+use Rattle.pawk_ere_automaton.specs.Regex.{Regex, Takes}
+use Rattle.pawk_ere_automaton.specs.Tree.{regex_of}
+use Rattle.pawk_ere_automaton.proofs.Turns.{expand_if}
+use Rattle.pawk_ere_syntax.specs.Pattern.{Pattern}
+use Rattle.pawk_ere_syntax.specs.Spelled.{expression}
 use Rattle.pawk_ere.specs.Words.{AreNeeded, NeedsWords}
 use Rattle.pawk_ere.proofs.Needed.{none_without}
 use Rattle.pawk_ere.proofs.words.needed_words_of.Goals as goal

@@ -1,8 +1,8 @@
-use Rattle.pawk_machine.specs.Members.{members_of}
+use Rattle.pawk_ere_automaton.specs.Members.{members_of}
 use Rattle.std.proofs.Common.{sym, subst, arith}
 use Rattle.pawk_ere.specs.Runs.{IsRun}
-use Rattle.pawk_machine.specs.Tree.{regex_of}
-use Rattle.pawk_machine.specs.declared.members.Members.{Members}
+use Rattle.pawk_ere_automaton.specs.Tree.{regex_of}
+use Rattle.pawk_ere_automaton.specs.declared.members.Members.{Members}
 use Rattle.pawk_ere.proofs.words.prefilter_of.Goals as goal
 
 pub returns-then-count-gt0 : goal.returns-then-count-gt0

@@ -1,7 +1,7 @@
 use Rattle.std.proofs.Common.{◌≡◌, ◌≤◌, ◌-◌, drop, length}
 use Rattle.pawk_code.specs.StatementViews.{seen}
-use Rattle.pawk_meaning.specs.Meaning.{execs}
-use Rattle.pawk_places.specs.Moments.{moment}
+use Rattle.pawk_semantics.specs.Meaning.{execs}
+use Rattle.pawk_runtime.specs.Moments.{moment}
 use Rattle.pawk_eval.specs.Contexts.{eres_of, enter_of}
 use Rattle.pawk_eval.proofs.statements.run_body.Given as goal
 

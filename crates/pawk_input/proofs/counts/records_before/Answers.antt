@@ -1,7 +1,7 @@
 use Rattle.std.proofs.Common.{◌≡◌, ◌+◌, ◌≤◌, ◌∷◌, length, take, sym, ◌∙◌, arith}
 use Rattle.std.proofs.lemmas.List.{length-take-le}
 use Rattle.pawk_records.specs.Separator.{rs_of}
-use Rattle.pawk_blocks.specs.Blocks.{joined}
+use Rattle.pawk_records.specs.Blocks.{joined}
 use Rattle.pawk_records.proofs.BeginsLemmas.{length-records_by}
 use Rattle.pawk_input.specs.Counts.{counts_left}
 use Rattle.pawk_input.proofs.CountLemmas.{count_step, later_step, few_counted, count_between}

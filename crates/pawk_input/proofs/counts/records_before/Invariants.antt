@@ -1,6 +1,6 @@
 use Rattle.std.proofs.Common.{◌-◌}
 use Rattle.pawk_records.specs.Separator.{rs_of}
-use Rattle.pawk_blocks.specs.Blocks.{joined}
+use Rattle.pawk_records.specs.Blocks.{joined}
 use Rattle.pawk_input.specs.Passed.{IsPassed}
 use Rattle.pawk_input.proofs.counts.records_before.Given as goal
 

@@ -1,5 +1,5 @@
 use Rattle.std.proofs.Common.{length, ap, sym, ◌∙◌, inl, inr, arith}
-use Rattle.pawk_blocks.specs.Blocks.{joined}
+use Rattle.pawk_records.specs.Blocks.{joined}
 use Rattle.pawk_input.specs.Plan.{IsBeginOrEnd}
 use Rattle.pawk_input.proofs.CutPlanLemmas.{begins_outside, begins_inside}
 use Rattle.pawk_input.proofs.cuts.begins_record.Goals as goal

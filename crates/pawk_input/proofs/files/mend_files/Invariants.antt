@@ -1,5 +1,5 @@
 use Rattle.std.proofs.Common.{◌≡◌, ℕ, ◌<◌, get_or}
-use Rattle.pawk_blocks.specs.Blocks.{AreMended}
+use Rattle.pawk_records.specs.Blocks.{AreMended}
 use Rattle.pawk_input.specs.Input.{FileInBlocks, files_of, in_blocks}
 use Rattle.pawk_input.proofs.files.mend_files.Given as goal
 

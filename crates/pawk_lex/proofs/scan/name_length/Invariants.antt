@@ -1,6 +1,6 @@
 use Rattle.std.proofs.Common.{◌≡◌, ◌+◌, ◌-◌, ◌≤◌, length, drop}
 use Rattle.std.specs.List.{prefix_len}
-use Rattle.pawk_token.specs.Bytes.{is_name_byte}
+use Rattle.pawk_lex.specs.Bytes.{is_name_byte}
 use Rattle.pawk_lex.proofs.scan.name_length.Given as goal
 
 abbrev pub invariant-loop-end : goal.invariant-loop-end

@@ -1,5 +1,5 @@
 use Rattle.std.proofs.Common.{rules, ◌≢◌}
-use Rattle.pawk_token.specs.declared.refusal.SyntaxRefusal.TheVariants as syntax_refusal
+use Rattle.pawk_lex.specs.declared.refusal.SyntaxRefusal.TheVariants as syntax_refusal
 use Rattle.pawk_par.proofs.preparing.read_program.Goals as goal
 
 pub returns-in-Err-clause-refused : goal.returns-in-Err-clause-refused

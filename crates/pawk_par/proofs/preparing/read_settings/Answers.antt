@@ -1,5 +1,5 @@
 use Rattle.std.proofs.Common.{map}
-use Rattle.pawk_syntax_program.specs.Item.{part}
+use Rattle.pawk_syntax_tree.specs.Item.{part}
 use Rattle.pawk_syntax.specs.Programs.{parts}
 use Rattle.pawk_settings.specs.SettingsViews.{asked}
 use Rattle.pawk_par.proofs.RequestLemmas.{settings_told}

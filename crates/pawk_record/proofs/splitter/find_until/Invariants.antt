@@ -1,7 +1,7 @@
 use Rattle.std.proofs.Common.{◌≡◌, ◌≤◌, ◌++◌, length, map}
 use Rattle.std.specs.Option.{ForSome}
 use Rattle.pawk_fields.specs.FieldSeparator.{range_of, ranges_from}
-use Rattle.pawk_split.specs.FieldWalks.{most_left}
+use Rattle.pawk_fields.specs.FieldWalks.{most_left}
 use Rattle.pawk_record.proofs.splitter.find_until.Given as goal
 
 abbrev pub invariant-loop-next : goal.invariant-loop-next

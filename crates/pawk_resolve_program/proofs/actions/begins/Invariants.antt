@@ -1,8 +1,8 @@
 use Rattle.std.proofs.Common.{◌≡◌, ◌++◌, map, drop}
 use Rattle.std.specs.List.{flat_map}
-use Rattle.pawk_syntax_program.specs.Item.{part}
+use Rattle.pawk_syntax_tree.specs.Item.{part}
 use Rattle.pawk_code.specs.ProgramViews.{body_view}
-use Rattle.pawk_scope.specs.ScopeViews.{globals_view}
+use Rattle.pawk_resolve.specs.ScopeViews.{globals_view}
 use Rattle.pawk_resolve.specs.ResolvedPrograms.{begin_of}
 use Rattle.pawk_resolve_program.proofs.actions.begins.Given as goal
 

@@ -1,7 +1,7 @@
 use Rattle.std.proofs.Common.{◌≡◌, ◌++◌, ◌+◌, map, drop}
-use Rattle.pawk_syntax_program.specs.Item.{part}
+use Rattle.pawk_syntax_tree.specs.Item.{part}
 use Rattle.pawk_code.specs.ProgramViews.{function_view}
-use Rattle.pawk_scope.specs.ScopeViews.{globals_view}
+use Rattle.pawk_resolve.specs.ScopeViews.{globals_view}
 use Rattle.pawk_resolve.specs.ResolvedPrograms.{functions_from}
 use Rattle.pawk_resolve_program.proofs.actions.functions.Given as goal
 

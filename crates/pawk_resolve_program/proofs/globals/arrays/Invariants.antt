@@ -1,9 +1,9 @@
 use Rattle.std.proofs.Common.{◌≡◌, drop}
 use Rattle.std.specs.Prelude.{filter}
-use Rattle.pawk_syntax_kinds.specs.KindViews.{kinds_in}
-use Rattle.pawk_scope.specs.Slots.{with_texts, distinct}
-use Rattle.pawk_scope.specs.Tables.{texts}
-use Rattle.pawk_scope.specs.ScopeViews.{table_names}
+use Rattle.pawk_syntax_check.specs.KindViews.{kinds_in}
+use Rattle.pawk_resolve.specs.Slots.{with_texts, distinct}
+use Rattle.pawk_resolve.specs.Tables.{texts}
+use Rattle.pawk_resolve.specs.ScopeViews.{table_names}
 use Rattle.pawk_resolve.specs.ResolvedPrograms.{is_global_array}
 use Rattle.pawk_resolve_program.proofs.globals.arrays.Given as goal
 

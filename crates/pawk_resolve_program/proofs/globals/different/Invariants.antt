@@ -1,7 +1,7 @@
 use Rattle.std.proofs.Common.{◌≡◌, drop}
-use Rattle.pawk_scope.specs.Slots.{with_texts, distinct}
-use Rattle.pawk_scope.specs.Tables.{texts}
-use Rattle.pawk_scope.specs.ScopeViews.{table_names}
+use Rattle.pawk_resolve.specs.Slots.{with_texts, distinct}
+use Rattle.pawk_resolve.specs.Tables.{texts}
+use Rattle.pawk_resolve.specs.ScopeViews.{table_names}
 use Rattle.pawk_resolve_program.proofs.globals.different.Given as goal
 
 abbrev pub invariant-loop-text : goal.invariant-loop-text

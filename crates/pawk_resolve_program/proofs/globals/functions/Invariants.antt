@@ -1,7 +1,7 @@
 use Rattle.std.proofs.Common.{◌≡◌, ◌++◌, map, drop}
 use Rattle.std.specs.List.{flat_map}
-use Rattle.pawk_syntax_program.specs.Item.{part}
-use Rattle.pawk_scope.specs.ScopeViews.{table_names}
+use Rattle.pawk_syntax_tree.specs.Item.{part}
+use Rattle.pawk_resolve.specs.ScopeViews.{table_names}
 use Rattle.pawk_resolve.specs.ResolvedPrograms.{function_name}
 use Rattle.pawk_resolve_program.proofs.globals.functions.Given as goal
 

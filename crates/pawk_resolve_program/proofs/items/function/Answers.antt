@@ -1,7 +1,7 @@
 use Rattle.std.proofs.Common.{◌≡◌, ◌∙◌, rules, map}
-use Rattle.pawk_syntax_program.specs.Item.{texts, seen as tree_seen}
+use Rattle.pawk_syntax_tree.specs.Item.{texts, seen as tree_seen}
 use Rattle.pawk_code.specs.StatementViews.{seen}
-use Rattle.pawk_scope.specs.ScopeViews.{globals_view}
+use Rattle.pawk_resolve.specs.ScopeViews.{globals_view}
 use Rattle.pawk_resolve.specs.ResolvedStatements.{resolved_body}
 use Rattle.pawk_resolve.specs.ResolvedPrograms.{kind_of, function_scope}
 use Rattle.pawk_resolve_program.proofs.Choice.{kinds_of_texts}

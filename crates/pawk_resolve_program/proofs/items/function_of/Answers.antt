@@ -1,6 +1,6 @@
 use Rattle.std.proofs.Common.{[], ◌∷◌, ap, ◌∙◌, sym}
-use Rattle.pawk_syntax_program.specs.Item.{part}
-use Rattle.pawk_scope.specs.ScopeViews.{globals_view}
+use Rattle.pawk_syntax_tree.specs.Item.{part}
+use Rattle.pawk_resolve.specs.ScopeViews.{globals_view}
 use Rattle.pawk_resolve.specs.ResolvedPrograms.{function_at}
 use Rattle.pawk_resolve_program.proofs.items.function_of.Goals as goal
 

@@ -1,9 +1,9 @@
 use Rattle.std.proofs.Common.{◌≡◌, List, subst}
 use Rattle.std.specs.Prelude.{IfOk}
-use Rattle.pawk_token.specs.Bytes.{Text}
-use Rattle.pawk_syntax_program.specs.Item.{seen as tree_seen}
+use Rattle.pawk_lex.specs.Bytes.{Text}
+use Rattle.pawk_syntax_tree.specs.Item.{seen as tree_seen}
 use Rattle.pawk_code.specs.StatementViews.{seen}
-use Rattle.pawk_scope.specs.ScopeViews.{globals_view}
+use Rattle.pawk_resolve.specs.ScopeViews.{globals_view}
 use Rattle.pawk_resolve.specs.ResolvedStatements.{resolved_body}
 use Rattle.pawk_resolve.specs.ResolvedPrograms.{function_scope}
 use Rattle.pawk_resolve_program.proofs.items.global_body.Goals as goal

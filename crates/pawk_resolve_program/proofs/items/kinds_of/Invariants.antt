@@ -1,5 +1,5 @@
 use Rattle.std.proofs.Common.{◌≡◌, map, take}
-use Rattle.pawk_scope.specs.ScopeViews.{globals_view}
+use Rattle.pawk_resolve.specs.ScopeViews.{globals_view}
 use Rattle.pawk_resolve.specs.ResolvedPrograms.{kind_of}
 use Rattle.pawk_resolve_program.proofs.items.kinds_of.Given as goal
 

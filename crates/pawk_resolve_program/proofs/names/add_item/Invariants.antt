@@ -1,10 +1,10 @@
 use Rattle.std.proofs.Common.{◌≡◌, ◌++◌, drop, map}
 use Rattle.std.specs.Prelude.{filter, not}
 use Rattle.std.specs.List.{flat_map}
-use Rattle.pawk_token.specs.Vocabulary.{is_among}
-use Rattle.pawk_syntax_uses.specs.Views.{mention_view}
-use Rattle.pawk_scope.specs.Tables.{texts}
-use Rattle.pawk_scope.specs.ScopeViews.{table_names}
+use Rattle.pawk_lex.specs.Vocabulary.{is_among}
+use Rattle.pawk_syntax_check.specs.Views.{mention_view}
+use Rattle.pawk_resolve.specs.Tables.{texts}
+use Rattle.pawk_resolve.specs.ScopeViews.{table_names}
 use Rattle.pawk_resolve.specs.ResolvedPrograms.{mentioned}
 use Rattle.pawk_resolve_program.proofs.names.add_item.Given as goal
 

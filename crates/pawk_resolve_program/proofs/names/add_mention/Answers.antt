@@ -1,9 +1,9 @@
 use Rattle.std.proofs.Common.{◌≡◌, ◌∷◌, [], ◌++◌, true, false, rules}
 use Rattle.std.specs.Prelude.{is_some}
-use Rattle.pawk_syntax_uses.specs.Views.{mention_view}
-use Rattle.pawk_scope.specs.Slots.{place}
-use Rattle.pawk_scope.specs.Tables.{texts}
-use Rattle.pawk_scope.specs.ScopeViews.{table_names}
+use Rattle.pawk_syntax_check.specs.Views.{mention_view}
+use Rattle.pawk_resolve.specs.Slots.{place}
+use Rattle.pawk_resolve.specs.Tables.{texts}
+use Rattle.pawk_resolve.specs.ScopeViews.{table_names}
 use Rattle.pawk_resolve.specs.ResolvedPrograms.{mentioned}
 use Rattle.pawk_resolve_program.proofs.Among.{kept, left_out}
 use Rattle.pawk_resolve_program.proofs.names.add_mention.Goals as goal

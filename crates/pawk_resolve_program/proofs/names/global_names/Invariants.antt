@@ -1,7 +1,7 @@
 use Rattle.std.proofs.Common.{◌≡◌, ◌++◌, map, drop}
 use Rattle.std.specs.List.{flat_map}
-use Rattle.pawk_syntax_program.specs.Item.{part}
-use Rattle.pawk_scope.specs.Tables.{texts}
+use Rattle.pawk_syntax_tree.specs.Item.{part}
+use Rattle.pawk_resolve.specs.Tables.{texts}
 use Rattle.pawk_resolve.specs.ResolvedPrograms as spec
 use Rattle.pawk_resolve_program.proofs.names.global_names.Given as goal
 

@@ -1,6 +1,6 @@
 use Rattle.std.proofs.Common.{◌≡◌, take}
-use Rattle.pawk_syntax_program.specs.Item.{texts}
-use Rattle.pawk_scope.specs.ScopeViews.{table_names}
+use Rattle.pawk_syntax_tree.specs.Item.{texts}
+use Rattle.pawk_resolve.specs.ScopeViews.{table_names}
 use Rattle.pawk_resolve_program.proofs.names.table_of.Given as goal
 
 abbrev pub invariant-loop-name : goal.invariant-loop-name

@@ -1,5 +1,5 @@
 use Rattle.std.proofs.Common.{◌≡◌, map, take}
-use Rattle.pawk_scope.specs.Tables.{texts}
+use Rattle.pawk_resolve.specs.Tables.{texts}
 use Rattle.pawk_resolve_program.proofs.program.copied.Given as goal
 
 abbrev pub invariant-loop-text : goal.invariant-loop-text

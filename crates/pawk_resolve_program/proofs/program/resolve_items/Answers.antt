@@ -1,10 +1,10 @@
 use Rattle.std.proofs.Common.{◌≡◌, map, rules}
 use Rattle.std.specs.Prelude.{IfOk}
-use Rattle.pawk_syntax_program.specs.Item.{part}
-use Rattle.pawk_syntax_kinds.specs.KindViews.{kinds_in}
+use Rattle.pawk_syntax_tree.specs.Item.{part}
+use Rattle.pawk_syntax_check.specs.KindViews.{kinds_in}
 use Rattle.pawk_code.specs.ProgramViews.{code_view}
-use Rattle.pawk_scope.specs.Tables.{texts}
-use Rattle.pawk_scope.specs.ScopeViews.{globals_view}
+use Rattle.pawk_resolve.specs.Tables.{texts}
+use Rattle.pawk_resolve.specs.ScopeViews.{globals_view}
 use Rattle.pawk_resolve.specs.ResolvedPrograms.{globals_of, resolved_items}
 use Rattle.pawk_resolve_program.proofs.Choice.{codes_are}
 use Rattle.pawk_resolve_program.proofs.program.resolve_items.Goals as goal

@@ -1,6 +1,6 @@
 use Rattle.std.proofs.Common.{◌≡◌, ◌++◌, drop}
 use Rattle.pawk_syntax_tree.specs.Tree.{trees, views}
-use Rattle.pawk_scope.specs.Tables.{texts}
+use Rattle.pawk_resolve.specs.Tables.{texts}
 use Rattle.pawk_resolve_program.specs.Texts.{of_trees}
 use Rattle.pawk_resolve_program.proofs.texts.+expression.Given as goal
 

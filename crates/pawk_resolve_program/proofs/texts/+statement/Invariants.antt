@@ -1,6 +1,6 @@
 use Rattle.std.proofs.Common.{◌≡◌, ◌++◌, drop}
-use Rattle.pawk_syntax_program.specs.Item.{seen}
-use Rattle.pawk_scope.specs.Tables.{texts}
+use Rattle.pawk_syntax_tree.specs.Item.{seen}
+use Rattle.pawk_resolve.specs.Tables.{texts}
 use Rattle.pawk_resolve_program.specs.Texts.{of_body}
 use Rattle.pawk_resolve_program.proofs.texts.+statement.Given as goal
 

@@ -1,6 +1,6 @@
 use Rattle.std.proofs.Common.{◌≡◌, ◌++◌, map, drop}
-use Rattle.pawk_syntax_program.specs.Item.{part}
-use Rattle.pawk_scope.specs.Tables.{texts}
+use Rattle.pawk_syntax_tree.specs.Item.{part}
+use Rattle.pawk_resolve.specs.Tables.{texts}
 use Rattle.pawk_resolve_program.specs.Texts.{of_parts}
 use Rattle.pawk_resolve_program.proofs.texts.texts_of.Given as goal
 

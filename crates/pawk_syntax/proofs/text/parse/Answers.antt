@@ -1,9 +1,9 @@
 use Rattle.std.proofs.Common.{sym, ◌≡◌, rules, map, subst, rules}
 use Rattle.pawk_lex.specs.TokenLists.{values}
-use Rattle.pawk_syntax_program.specs.Item.{part}
-use Rattle.pawk_syntax_program.specs.ItemCanonical.{canon_program}
-use Rattle.pawk_syntax_expressions.specs.Expressions.{eres}
-use Rattle.pawk_syntax_expressions.specs.Reads.{AreSpelled, AreExpressions, Denies, patterns}
+use Rattle.pawk_syntax_tree.specs.Item.{part}
+use Rattle.pawk_syntax_tree.specs.ItemCanonical.{canon_program}
+use Rattle.pawk_syntax_grammar.specs.Expressions.{eres}
+use Rattle.pawk_syntax_grammar.specs.ExpressionReads.{AreSpelled, AreExpressions, Denies, patterns}
 use Rattle.pawk_syntax_check.specs.Fits.{Fits}
 use Rattle.pawk_syntax.specs.Spells.{Spells}
 use Rattle.pawk_syntax.specs.Items.{AreRead}

@@ -1,7 +1,7 @@
 use Rattle.std.proofs.Common.{◌≡◌, map, true, false, sym, ◌∙◌, ap}
 use Rattle.std.specs.Option.{is_none}
-use Rattle.pawk_syntax_program.specs.Item.{part}
-use Rattle.pawk_syntax_uses.specs.FunctionViews.{function_under}
+use Rattle.pawk_syntax_tree.specs.Item.{part}
+use Rattle.pawk_syntax_check.specs.FunctionViews.{function_under}
 use Rattle.pawk_syntax_check.proofs.Mentions.{then_fit, fit_then, both_of}
 use Rattle.pawk_syntax_check.proofs.check.check.Goals as goal
 

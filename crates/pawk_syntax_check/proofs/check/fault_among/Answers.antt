@@ -1,9 +1,9 @@
 use Rattle.std.proofs.Common.{arith}
 use Rattle.std.proofs.lemmas.List.{take_all}
 use Rattle.std.proofs.lemmas.List.Folds.{list_all-map}
-use Rattle.pawk_syntax_program.specs.Item.{part}
-use Rattle.pawk_syntax_uses.specs.Views.{mention_view}
-use Rattle.pawk_syntax_uses.specs.FunctionViews.{function_under}
+use Rattle.pawk_syntax_tree.specs.Item.{part}
+use Rattle.pawk_syntax_check.specs.Views.{mention_view}
+use Rattle.pawk_syntax_check.specs.FunctionViews.{function_under}
 use Rattle.pawk_syntax_check.specs.Fits.{fits}
 use Rattle.pawk_syntax_check.proofs.check.fault_among.Goals as goal
 

@@ -1,8 +1,8 @@
 use Rattle.std.proofs.Common.{◌≡◌, ◌+◌, map, drop}
 use Rattle.std.specs.Prelude.{◌&&◌}
 use Rattle.std.specs.Option.{is_none}
-use Rattle.pawk_syntax_program.specs.Item.{part}
-use Rattle.pawk_syntax_uses.specs.FunctionViews.{function_under}
+use Rattle.pawk_syntax_tree.specs.Item.{part}
+use Rattle.pawk_syntax_check.specs.FunctionViews.{function_under}
 use Rattle.pawk_syntax_check.specs.Fits.{items_fit}
 use Rattle.pawk_syntax_check.proofs.check.fault_in.Given as goal
 

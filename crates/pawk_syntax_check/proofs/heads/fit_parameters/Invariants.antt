@@ -1,6 +1,6 @@
 use Rattle.std.proofs.Common.{◌≡◌, drop}
-use Rattle.pawk_syntax_program.specs.Item.{texts}
-use Rattle.pawk_syntax_uses.specs.FunctionViews.{function_under}
+use Rattle.pawk_syntax_tree.specs.Item.{texts}
+use Rattle.pawk_syntax_check.specs.FunctionViews.{function_under}
 use Rattle.pawk_syntax_check.specs.Names.{fit_parameters}
 use Rattle.pawk_syntax_check.proofs.heads.fit_parameters.Given as goal
 

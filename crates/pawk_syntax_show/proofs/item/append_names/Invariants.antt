@@ -1,5 +1,5 @@
 use Rattle.std.proofs.Common.{◌≡◌, ◌++◌, List, ℕ, drop}
-use Rattle.pawk_syntax_program.specs.Item.{texts}
+use Rattle.pawk_syntax_tree.specs.Item.{texts}
 use Rattle.pawk_syntax_show.specs.ProgramText.{other_names_text}
 use Rattle.pawk_syntax_show.proofs.item.append_names.Given as goal
 

@@ -1,6 +1,6 @@
 use Rattle.std.proofs.Common.{◌≡◌, ◌++◌, drop}
 use Rattle.std.specs.Prelude.{map}
-use Rattle.pawk_syntax_program.specs.Item.{part}
+use Rattle.pawk_syntax_tree.specs.Item.{part}
 use Rattle.pawk_syntax_show.specs.ProgramText.{program_text}
 use Rattle.pawk_syntax_show.proofs.item.show.Given as goal
 

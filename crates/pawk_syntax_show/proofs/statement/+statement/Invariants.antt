@@ -1,5 +1,5 @@
 use Rattle.std.proofs.Common.{◌≡◌, ◌++◌, List, ℕ, drop}
-use Rattle.pawk_syntax_program.specs.Item.{seen}
+use Rattle.pawk_syntax_tree.specs.Item.{seen}
 use Rattle.pawk_syntax_show.specs.ProgramText.{lines_text}
 use Rattle.pawk_syntax_show.proofs.statement.+statement.Given as goal
 

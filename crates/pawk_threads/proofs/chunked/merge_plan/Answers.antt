@@ -4,9 +4,9 @@ use Rattle.pawk_code.specs.ProgramViews.{code_view}
 use Rattle.pawk_input.specs.Input.{files_of}
 use Rattle.pawk_store.specs.StateViews.{state_of}
 use Rattle.pawk_admit.specs.Roles.{roles_view}
-use Rattle.pawk_join.specs.Merges.{merge, before_chunks}
-use Rattle.pawk_join.specs.MergeViews.{end_view}
-use Rattle.pawk_gather.specs.Results.{chunk_of}
+use Rattle.pawk_merge.specs.Merges.{merge, before_chunks}
+use Rattle.pawk_merge.specs.MergeViews.{end_view}
+use Rattle.pawk_merge_law.specs.Results.{chunk_of}
 use Rattle.pawk_threads.specs.Prologue.{end_of}
 use Rattle.pawk_threads.proofs.MergedLemmas.{law_of, merged, no_cutting, stopped, stop_told}
 use Rattle.pawk_threads.proofs.chunked.merge_plan.Goals as goal

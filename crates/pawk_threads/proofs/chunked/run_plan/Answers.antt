@@ -3,9 +3,9 @@ use Rattle.std.specs.Prelude.{MatchOption}
 use Rattle.pawk_code.specs.ProgramViews.{code_view}
 use Rattle.pawk_input.specs.Input.{files_of, items}
 use Rattle.pawk_admit.specs.Roles.{roles_view}
-use Rattle.pawk_join.specs.declared.merging.Merged.{Merged}
-use Rattle.pawk_gather.specs.Phases.{FaultsOrCreates}
-use Rattle.pawk_one.specs.Ends.{Answers}
+use Rattle.pawk_merge.specs.declared.merging.Merged.{Merged}
+use Rattle.pawk_merge_law.specs.Phases.{FaultsOrCreates}
+use Rattle.pawk_sequential.specs.RunEnds.{Answers}
 use Rattle.pawk_threads.specs.Prologue.{IsMerged, end_of}
 use Rattle.pawk_threads.specs.Routes.{phase_behind}
 use Rattle.pawk_threads.proofs.chunked.run_plan.Goals as goal

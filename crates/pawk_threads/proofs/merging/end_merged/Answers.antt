@@ -3,13 +3,13 @@ use Rattle.pawk_code.specs.ProgramViews.{code_view}
 use Rattle.pawk_store.specs.Globals.{Globals}
 use Rattle.pawk_store.specs.RecordStates.{special_value}
 use Rattle.pawk_store.specs.StateViews.{state_of}
-use Rattle.pawk_meaning.specs.Outputs.{in_a_row}
-use Rattle.pawk_meaning.specs.Records.{End}
-use Rattle.pawk_meaning.specs.Runs.{Finish}
-use Rattle.pawk_join.specs.MergeViews as merges
-use Rattle.pawk_gather.specs.Ends.{left_view}
-use Rattle.pawk_one.specs.Ends.{finish_view}
-use Rattle.pawk_gather.specs.Gathered.{behind_output}
+use Rattle.pawk_semantics.specs.Outputs.{in_a_row}
+use Rattle.pawk_semantics.specs.Records.{End}
+use Rattle.pawk_semantics.specs.Runs.{Finish}
+use Rattle.pawk_merge.specs.MergeViews as merges
+use Rattle.pawk_merge_law.specs.Ends.{left_view}
+use Rattle.pawk_sequential.specs.RunEnds.{finish_view}
+use Rattle.pawk_merge_law.specs.Gathered.{behind_output}
 use Rattle.pawk_threads.proofs.OutputLemmas.{gone_on}
 use Rattle.pawk_threads.proofs.merging.end_merged.Goals as goal
 
@@ -25,7 +25,7 @@ returns c =
       output = c.replace-before.new.dest.items;
       left = left;
     } in
-    let f : Finish Globals = finish_view c.run_behind_records.new.world c.run_behind_records.new.run c.in_ok-ending.ending in
+    let f : Finish Globals = finish_view c.run_after_records.new.world c.run_after_records.new.run c.in_ok-ending.ending in
     let x : End Globals = behind_output written (merges.end_view c.args.globals.now c.args.merged) in
     let same : x ≡ record e { output = out } = λ i. record {
       world = c.args.globals.now;

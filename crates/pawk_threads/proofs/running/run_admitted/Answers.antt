@@ -1,7 +1,7 @@
 use Rattle.std.proofs.Common.{◌≡◌, ◌≤◌, length, Some, None, ap, subst, ◌∙◌}
 use Rattle.pawk_code.specs.ProgramViews.{code_view}
 use Rattle.pawk_input.specs.Input.{files_of}
-use Rattle.pawk_meaning.specs.Runs.{take_separator}
+use Rattle.pawk_semantics.specs.Runs.{take_separator}
 use Rattle.pawk_admit.specs.Roles.{roles_view}
 use Rattle.pawk_threads.specs.Prologue.{Goes, end_of}
 use Rattle.pawk_threads.specs.Routes.{separator_of}

@@ -1,4 +1,4 @@
-use Rattle.pawk_pattern.specs.Spelled.{expression}
+use Rattle.pawk_ere_syntax.specs.Spelled.{expression}
 use Rattle.pawk_ere.proofs.loan.Loan.read.Goals as goal
 
 pub returns-clause-matcher : goal.returns-clause-matcher

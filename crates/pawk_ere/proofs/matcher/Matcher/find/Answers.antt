@@ -1,16 +1,16 @@
-use Rattle.pawk_machine.specs.Members.{members_of}
+use Rattle.pawk_ere_automaton.specs.Members.{members_of}
 use Rattle.std.proofs.Common.{ℕ, List, Option, None, Result, Ok, Err, IfOk, IfSome, subst, sym}
 use Rattle.std.specs.declared.alloc.AllocError.{AllocError}
 use Rattle.pawk_ere.specs.Answers.{IsAnswer, IsFor}
-use Rattle.pawk_pattern.specs.Pattern.{Pattern, Matches, IsFound}
+use Rattle.pawk_ere_syntax.specs.Pattern.{Pattern, Matches, IsFound}
 use Rattle.pawk_ere.specs.Runs.{IsRun, IsTurns}
 use Rattle.pawk_ere.specs.Words.{IsPrefilter}
-use Rattle.pawk_pattern.specs.Sets.{IsOnlyMember}
-use Rattle.pawk_machine.specs.declared.members.Members.{Members}
-use Rattle.pawk_machine.specs.Regex.{Takes}
-use Rattle.pawk_machine.specs.Tree.{regex_of}
-use Rattle.pawk_machine.specs.declared.node.Node.{Node}
-use Rattle.pawk_machine.proofs.Leftmost.{found_map, found_none}
+use Rattle.pawk_ere_syntax.specs.Sets.{IsOnlyMember}
+use Rattle.pawk_ere_automaton.specs.declared.members.Members.{Members}
+use Rattle.pawk_ere_automaton.specs.Regex.{Takes}
+use Rattle.pawk_ere_automaton.specs.Tree.{regex_of}
+use Rattle.pawk_ere_automaton.specs.declared.node.Node.{Node}
+use Rattle.pawk_ere_automaton.proofs.Leftmost.{found_map, found_none}
 use Rattle.pawk_ere.proofs.Needed.{none_filtered}
 use Rattle.pawk_ere.proofs.matcher.Matcher.find.Goals as goal
 

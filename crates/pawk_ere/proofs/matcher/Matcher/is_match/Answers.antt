@@ -1,16 +1,16 @@
-use Rattle.pawk_machine.specs.Members.{members_of}
+use Rattle.pawk_ere_automaton.specs.Members.{members_of}
 use Rattle.std.proofs.Common.{◌↔◌, ℕ, Bool, false, IsTrue, List, Result, Ok, Err, IfOk, IfSome, subst, sym}
 use Rattle.std.specs.declared.alloc.AllocError.{AllocError}
 use Rattle.pawk_ere.specs.Answers.{IsFor}
-use Rattle.pawk_pattern.specs.Pattern.{Pattern, Matches, HasMatch, NoneFrom}
+use Rattle.pawk_ere_syntax.specs.Pattern.{Pattern, Matches, HasMatch, NoneFrom}
 use Rattle.pawk_ere.specs.Runs.{IsRun, IsTurns}
 use Rattle.pawk_ere.specs.Words.{IsPrefilter}
-use Rattle.pawk_pattern.specs.Sets.{IsOnlyMember}
-use Rattle.pawk_machine.specs.declared.members.Members.{Members}
-use Rattle.pawk_machine.specs.Regex.{Takes}
-use Rattle.pawk_machine.specs.Tree.{regex_of}
-use Rattle.pawk_machine.specs.declared.node.Node.{Node}
-use Rattle.pawk_machine.proofs.Leftmost.{match_map}
+use Rattle.pawk_ere_syntax.specs.Sets.{IsOnlyMember}
+use Rattle.pawk_ere_automaton.specs.declared.members.Members.{Members}
+use Rattle.pawk_ere_automaton.specs.Regex.{Takes}
+use Rattle.pawk_ere_automaton.specs.Tree.{regex_of}
+use Rattle.pawk_ere_automaton.specs.declared.node.Node.{Node}
+use Rattle.pawk_ere_automaton.proofs.Leftmost.{match_map}
 use Rattle.pawk_ere.proofs.Needed.{none_filtered}
 use Rattle.pawk_ere.proofs.matcher.Matcher.is_match.Goals as goal
 
@@ -18,7 +18,7 @@ answers : (r : Result Bool AllocError) (e : Pattern) (node : Node) (text : List 
 answers (Ok told) e node text start for h = match_map (Takes (regex_of node) text) (Matches e text) start told (for.same text) h
 answers (Err why) e node text start for h = tt
 
--- nothing is told where there is no match
+-- nothing is reported where there is no match
 no_match : (R : ℕ → ℕ → Type 0) (start : ℕ) → NoneFrom R start → IsTrue false ↔ HasMatch R start
 no_match R start none = (λ h. cc, λ m. absurd (none m.0 m.1 m.2 m.3))
 

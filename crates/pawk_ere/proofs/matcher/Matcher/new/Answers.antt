@@ -1,9 +1,9 @@
 use Rattle.std.proofs.Common.{◌≡◌, sym, subst, ap, ◌∙◌}
-use Rattle.pawk_machine.specs.Expand.{expand}
-use Rattle.pawk_machine.specs.Regex.{Takes}
-use Rattle.pawk_pattern.specs.Spelled.{expression}
-use Rattle.pawk_machine.specs.Tree.{regex_of}
-use Rattle.pawk_machine.proofs.Turns.{expand_is, expand_if}
+use Rattle.pawk_ere_automaton.specs.Expand.{expand}
+use Rattle.pawk_ere_automaton.specs.Regex.{Takes}
+use Rattle.pawk_ere_syntax.specs.Spelled.{expression}
+use Rattle.pawk_ere_automaton.specs.Tree.{regex_of}
+use Rattle.pawk_ere_automaton.proofs.Turns.{expand_is, expand_if}
 use Rattle.pawk_ere.proofs.matcher.Matcher.new.Goals as goal
 
 pub returns : goal.returns

@@ -1,6 +1,6 @@
 use Rattle.std.proofs.Common.{◌≡◌, ℕ, ◌<◌, length-append, ◌++◌, length, take, refl, ap, sym, arith}
 use Rattle.std.proofs.lemmas.Result.{err_from_is_err_and}
-use Rattle.pawk_blocks.specs.Blocks.{joined}
+use Rattle.pawk_records.specs.Blocks.{joined}
 use Rattle.pawk_input.specs.Limits.{most_chunks}
 use Rattle.pawk_records.specs.Records.{records_by}
 use Rattle.pawk_records.specs.Begins.{BeginsAt}

@@ -1,5 +1,5 @@
 use Rattle.std.proofs.Common.{◌≡◌, ◌-◌, ◌<◌, ◌≤◌, ◌++◌, length, take, vec_len}
-use Rattle.pawk_blocks.specs.Blocks.{joined}
+use Rattle.pawk_records.specs.Blocks.{joined}
 use Rattle.pawk_input.specs.Limits.{most_chunks}
 use Rattle.pawk_records.specs.Records.{records_by}
 use Rattle.pawk_records.specs.Begins.{BeginsAt, begins_by}

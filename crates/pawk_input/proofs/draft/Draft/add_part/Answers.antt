@@ -2,7 +2,7 @@ use Rattle.std.proofs.Common.{◌+◌, ◌-◌, ap, ◌∙◌, arith}
 use Rattle.pawk_records.specs.Begins.{begins_at}
 use Rattle.pawk_records.specs.Separator.{rs_of}
 use Rattle.pawk_records.proofs.PlaceLemmas.{length-places_where}
-use Rattle.pawk_blocks.specs.Blocks.{joined}
+use Rattle.pawk_records.specs.Blocks.{joined}
 use Rattle.pawk_input.proofs.SizeLemmas.{part_begins}
 use Rattle.pawk_input.proofs.draft.Draft.add_part.Goals as goal
 

@@ -1,5 +1,5 @@
 use Rattle.std.proofs.Common.{ℕ, ◌<◌, List, length, arith}
-use Rattle.pawk_blocks.specs.Blocks.{joined}
+use Rattle.pawk_records.specs.Blocks.{joined}
 use Rattle.pawk_input.specs.Input.{file_at, files_of}
 use Rattle.pawk_input.specs.Plan.{sized, places_by_size}
 use Rattle.pawk_records.proofs.BeginsLemmas.{length-records_by}

@@ -1,5 +1,5 @@
 use Rattle.std.proofs.Common.{◌≡◌, ℕ, ◌<◌, List, length, take, drop, ap, sym, ◌∙◌, arith}
-use Rattle.pawk_blocks.specs.Blocks.{joined}
+use Rattle.pawk_records.specs.Blocks.{joined}
 use Rattle.pawk_input.specs.Input.{file_at, files_of}
 use Rattle.pawk_input.specs.Counts.{blocks_of}
 use Rattle.pawk_input.specs.Plan.{bytes_before, places_by_size, size_in_file, stepped}

@@ -1,7 +1,7 @@
 use Rattle.std.proofs.Common.{◌≡◌, ◌-◌, length, get_or, ap, sym, ◌∙◌, arith}
 use Rattle.std.proofs.lemmas.Option.{get_or_from_slice_get}
 use Rattle.pawk_records.specs.Records.{records_by}
-use Rattle.pawk_blocks.proofs.BlocksLemmas.{records_of_blocks}
+use Rattle.pawk_records.proofs.BlocksLemmas.{records_of_blocks}
 use Rattle.pawk_input.specs.Input.{files_of}
 use Rattle.pawk_input.specs.Plan.{chunk_bytes}
 use Rattle.pawk_input.specs.Walk.{block_records}

@@ -1,6 +1,6 @@
 use Rattle.std.proofs.Common.{[], ap, length, arith, ◌∙◌}
 use Rattle.pawk_records.specs.Separator.{rs_of}
-use Rattle.pawk_blocks.proofs.BlocksLemmas.{no_records}
+use Rattle.pawk_records.proofs.BlocksLemmas.{no_records}
 use Rattle.pawk_input.proofs.ItemsLemmas.{length-items_ahead_alone, next_piece}
 use Rattle.pawk_input.proofs.walk.Records.of_part.Goals as goal
 

@@ -1,7 +1,7 @@
 use Rattle.std.proofs.Common.{◌≡◌, ◌+◌, [], ◌∷◌, length, ap, sym, ◌∙◌, arith}
 use Rattle.pawk_records.specs.Separator.{rs_of}
-use Rattle.pawk_blocks.specs.Blocks.{joined}
-use Rattle.pawk_blocks.proofs.BlocksLemmas.{parts_all}
+use Rattle.pawk_records.specs.Blocks.{joined}
+use Rattle.pawk_records.proofs.BlocksLemmas.{parts_all}
 use Rattle.pawk_input.specs.Input.{files_of, total_size}
 use Rattle.pawk_input.specs.Lent.{lent_file}
 use Rattle.pawk_input.specs.Walk.{items_ahead}

@@ -5,7 +5,7 @@ use Rattle.pawk_fields.specs.FieldSeparator.{range_of}
 use Rattle.pawk_scalar.specs.Conversion.{text_of}
 use Rattle.pawk_scalar.specs.Value.{Val, lent_value}
 use Rattle.pawk_value.specs.Fault.TheVariants.{Length}
-use Rattle.pawk_split.specs.FieldsOf.{IfFault}
+use Rattle.pawk_fields.specs.FieldsOf.{IfFault}
 use Rattle.pawk_record.specs.declared.layout.Layout.{Layout}
 use Rattle.pawk_record.specs.Lines.{Adds, IsLaidOut, Replaces, before_at, values_of}
 use Rattle.pawk_record.specs.Records.{joined, with_value}
@@ -58,7 +58,7 @@ returns-in-Some-clause-fault c =
     let same = exchanged_line c.args.ofs.now (values_of old) i v c.in-Some.range old at c.requires.joined ∙ ap (joined c.args.ofs.now) (sym (set_there c.args.change.n v old c.in-Some.range c.requires.first at)) in
     subst (λ (s : List ℕ). IfErr c.replace.result (λ stop. IfFault stop (λ fault. (fault ≡ Length) × (16777216 < length s)))) same c.replace.ensures.fault
 
--- the number of the field behind the last one
+-- the number of the field after the last one
 last : (n : ℕ) (old : Layout) → 1 ≤ n → n ≤ length old.ranges.items + 1 → length old.ranges.items ≤ n - 1 → n - 1 ≡ length (values_of old)
 last n old first low high = let many = length-values old.text.items old.ranges.items old.kinds.items in omega (arith, many)
 

@@ -1,5 +1,5 @@
 use Rattle.std.proofs.Common.{◌++◌, ◌∙◌, sym, ap}
-use Rattle.pawk_pattern.proofs.Refused.{is_empty_of, not_empty}
+use Rattle.pawk_ere_syntax.proofs.Refused.{is_empty_of, not_empty}
 use Rattle.pawk_record.specs.Records.{unless_fault}
 use Rattle.pawk_record.specs.Splitting.{first_place}
 use Rattle.pawk_record.proofs.SplittingLemmas.{text_first}

@@ -1,6 +1,6 @@
 use Rattle.std.proofs.Common.{sym, refl, ap}
 use Rattle.std.proofs.lemmas.Result.{err_from_is_err_and}
-use Rattle.pawk_pattern.proofs.Refused.{is_empty_of, not_empty}
+use Rattle.pawk_ere_syntax.proofs.Refused.{is_empty_of, not_empty}
 use Rattle.pawk_record.specs.Splitting.{first_place}
 use Rattle.pawk_record.proofs.SplittingLemmas.{fault_map, text_first}
 use Rattle.pawk_record.proofs.ViewLemmas.{read_fault, read_line}

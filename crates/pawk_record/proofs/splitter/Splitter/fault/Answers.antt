@@ -1,4 +1,4 @@
-use Rattle.pawk_pattern.proofs.Refused.{is_empty_of, not_empty}
+use Rattle.pawk_ere_syntax.proofs.Refused.{is_empty_of, not_empty}
 use Rattle.pawk_record.proofs.SplittingLemmas.{bad_is_fault, empty_left, expression_is_left, plain_is_left}
 use Rattle.pawk_record.proofs.splitter.Splitter.fault.Goals as goal
 

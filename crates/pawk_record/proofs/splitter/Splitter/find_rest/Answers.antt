@@ -2,7 +2,7 @@ use Rattle.std.proofs.Common.{◌≡◌, ◌++◌, ◌∙◌, refl, ap, sym, map
 use Rattle.std.proofs.lemmas.Result.{on_ok_weaker}
 use Rattle.std.specs.Prelude.{is_none}
 use Rattle.pawk_fields.specs.FieldSeparator.{range_of}
-use Rattle.pawk_search.specs.FieldList.{fields_of}
+use Rattle.pawk_fields.specs.FieldList.{fields_of}
 use Rattle.pawk_record.specs.Splitting.{ranges_or_none}
 use Rattle.pawk_record.proofs.SplittingLemmas.{left_bad, left_expression, left_none, left_plain}
 use Rattle.pawk_record.proofs.splitter.Splitter.find_rest.Goals as goal

@@ -1,6 +1,6 @@
 use Rattle.std.proofs.Common.{Some, None, Ok, Err, map, refl}
 use Rattle.std.proofs.lemmas.Result.{err_from_is_err_and}
-use Rattle.pawk_syntax_program.specs.Item.{part}
+use Rattle.pawk_syntax_tree.specs.Item.{part}
 use Rattle.pawk_settings.specs.declared.refusal.SettingsRefusal.TheVariants.{Budget}
 use Rattle.pawk_settings.specs.SettingsViews.{asked, is_refused_under}
 use Rattle.pawk_settings.proofs.AnswerLemmas.{answer_by, fault_first, fault_last, budget_refused, budget_accepted}

@@ -1,5 +1,5 @@
 use Rattle.std.proofs.Common.{map, sym, subst}
-use Rattle.pawk_syntax_program.specs.Item.{part}
+use Rattle.pawk_syntax_tree.specs.Item.{part}
 use Rattle.pawk_syntax.specs.Spells.{IsSpelled}
 use Rattle.pawk_syntax.proofs.program.Program.tree.Goals as goal
 

@@ -1,2 +1,0 @@
-pub mod BlocksLemmas
-pub mod MendingLemmas

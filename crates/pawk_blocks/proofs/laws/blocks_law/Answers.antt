@@ -1,5 +1,0 @@
-use Rattle.pawk_blocks.proofs.BlocksLemmas.{blocks_law_lem}
-use Rattle.pawk_blocks.proofs.laws.blocks_law.Goals as goal
-
-pub returns : goal.returns
-returns c = blocks_law_lem c.args.rs.now c.args.blocks.now c.requires

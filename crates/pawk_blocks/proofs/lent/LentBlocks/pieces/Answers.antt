@@ -1,4 +1,0 @@
-use Rattle.pawk_blocks.proofs.lent.LentBlocks.pieces.Goals as goal
-
-pub returns-clause-mended : goal.returns-clause-mended
-returns-clause-mended c = λ rs h. c.of.ensures.mended rs (rw c.again.ensures h)

@@ -1,4 +1,0 @@
-pub mod Blocks
-pub mod Law
-pub mod Lent
-pub mod Mending

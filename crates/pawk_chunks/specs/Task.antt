@@ -1,0 +1,31 @@
+-- What the workers of a run share.
+use Rattle.std.specs.Prelude.{◌≡◌, ℕ, ◌≤◌, length}
+use Rattle.pawk_board.specs.Limits.{most_workers}
+use Rattle.pawk_input.specs.Input.{IsReady, files_of}
+use Rattle.pawk_input.specs.Plan.{IsPlanOf}
+use Rattle.pawk_input.specs.declared.cutting.Chunk.{Chunk}
+use Rattle.pawk_frozen.specs.Frozens.{Frozen}
+use Rattle.pawk_semantics.specs.Records.{End}
+use Rattle.pawk_chunks.specs.Chunks.{chunk_end, opening_view}
+use Rattle.pawk_chunks.specs.declared.chunk.Opening.{Opening}
+use Rattle.pawk_chunks.specs.declared.task.Chunked.{Chunked}
+use Rattle.pawk_chunks.specs.declared.task.Task.{Task}
+
+-- RS has at most one byte, the input is ready for it, and the plan is one of the input by it
+pub record IsChunked (s : Chunked) : Type 0 where
+  pub one_byte : length s.rs.now ≤ 1
+  pub ready : IsReady s.rs.now s.input.now
+  pub planned : IsPlanOf s.rs.now (files_of s.input.now) s.plan.now
+
+-- the board has as many chunks as the plan
+pub record IsTask (t : Task) : Type 0 where
+  pub source : IsChunked t.source
+  pub counted : t.board.now.chunks ≡ length t.source.plan.now
+
+-- how the records of a chunk end
+abbrev pub end_in : Opening → Chunked → Chunk → End Frozen
+end_in o s = chunk_end (opening_view o) s.rs.now (files_of s.input.now)
+
+-- a number of workers that may be asked for
+abbrev pub IsCrew : ℕ → Type 0
+IsCrew workers = (1 ≤ workers) × (workers ≤ most_workers)

@@ -1,5 +1,0 @@
-pub mod WorkerLemmas
-pub mod GatheringLemmas
-pub mod OrderLemmas
-pub mod States
-pub mod Tasks

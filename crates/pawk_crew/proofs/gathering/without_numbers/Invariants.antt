@@ -1,6 +1,0 @@
-use Rattle.std.proofs.Common.{◌≡◌, map}
-use Rattle.pawk_crew.specs.Worker.{Numbered}
-use Rattle.pawk_crew.proofs.gathering.without_numbers.Given as goal
-
-abbrev pub invariant-loop-result : goal.invariant-loop-result
-invariant-loop-result l = l.bare.items ≡ map (λ (r : Numbered). r.1) l.yielded

@@ -1,3 +1,0 @@
-pub mod Task
-pub mod Worker
-pub mod Shifts

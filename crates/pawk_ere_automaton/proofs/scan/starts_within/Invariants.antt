@@ -1,0 +1,31 @@
+use Rattle.std.proofs.Common.{length, ◌+◌, ◌-◌, ◌<◌, ◌≤◌}
+use Rattle.pawk_ere_automaton.specs.Table.{IsTable}
+use Rattle.pawk_ere_automaton.specs.Tree.{regex_of}
+use Rattle.pawk_ere_automaton.proofs.Walks.{KnowsAllAt, KnowsSomeAt, NoneEnded, NoneYet}
+use Rattle.pawk_ere_automaton.proofs.scan.starts_within.Given as goal
+
+abbrev pub invariant-loop-place : goal.invariant-loop-place
+invariant-loop-place l = record {
+  after : l.low ≤ l.place;
+  up_to : l.place ≤ l.high + 1;
+  table : IsTable (regex_of l.node) l.table;
+  within : l.at < length l.table.states.items;
+  knows : KnowsAllAt (regex_of l.node) l.text l.low l.place l.table.states.items l.at;
+  none : NoneYet (regex_of l.node) l.text l.low l.place l.low;
+}
+
+abbrev pub decreases-loop-place : goal.decreases-loop-place
+decreases-loop-place l = (l.high + 1) - l.place
+
+abbrev pub invariant-later : goal.invariant-later
+invariant-later l = record {
+  past : l.high < l.place;
+  inside : l.place ≤ length l.text;
+  table : IsTable (regex_of l.node) l.table;
+  within : l.at < length l.table.states.items;
+  knows : KnowsSomeAt (regex_of l.node) l.text l.low l.high l.place l.table.states.items l.at;
+  none : NoneEnded (regex_of l.node) l.text l.low l.high l.place;
+}
+
+abbrev pub decreases-later : goal.decreases-later
+decreases-later l = length l.text - l.place

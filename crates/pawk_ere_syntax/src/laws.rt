@@ -1,0 +1,52 @@
+// Laws about the definitions. The calls do nothing.
+
+ghost use Rattle.pawk_ere_syntax.specs.Bounds.{bound_at};
+ghost use Rattle.pawk_ere_syntax.specs.Brackets.{bracket_at};
+ghost use Rattle.pawk_ere_syntax.specs.Escapes.{escape_at};
+ghost use Rattle.pawk_ere_syntax.specs.Items.{IsBracket};
+ghost use Rattle.pawk_ere_syntax.specs.Limits.{greatest_bound, greatest_size};
+ghost use Rattle.pawk_ere_syntax.specs.Numerals.{IsBound, IsEscape};
+ghost use Rattle.pawk_ere_syntax.specs.Pattern.{Holds, Pattern};
+ghost use Rattle.pawk_ere_syntax.specs.Sets.{InSome, all_bytes, complement, none, only, with_ranges};
+ghost use Rattle.pawk_ere_syntax.specs.Tokens.{SpellsEre};
+ghost use Rattle.pawk_ere_syntax.specs.declared.token.EreToken.TheVariants.{Times};
+ghost use Rattle.std.specs.Prelude.{◌≡◌, ◌↔◌, ◌⊎◌, ◌<◌, ℕ, Bool, List, Option, Some};
+
+use crate::limits::{GREATEST_BOUND, GREATEST_SIZE};
+
+/// The limits of the program are those of the definitions.
+pub fn limits_are_defined()
+    ensures bound { GREATEST_BOUND ≡ greatest_bound }
+    ensures size { GREATEST_SIZE ≡ greatest_size }
+{}
+
+/// A text spells at most one expression.
+pub fn a_text_spells_one()
+    ensures { (bytes : List ℕ) (e f : Pattern) → SpellsEre bytes e → SpellsEre bytes f → e ≡ f }
+{}
+
+/// What sets hold: all bytes, none, one, those of ranges beside those of a set, those that a set lacks.
+pub fn sets_hold()
+    ensures all { (b : ℕ) → b < 256 → Holds all_bytes b }
+    ensures none { (b : ℕ) → b < 256 → Holds none b → ⊥ }
+    ensures one { (a b : ℕ) → a < 256 → b < 256 → Holds (only a) b ↔ (b ≡ a) }
+    ensures ranges { (rs : List (ℕ × ℕ)) (m : List Bool) (b : ℕ) → b < 256
+        → Holds (with_ranges rs m) b ↔ (Holds m b ⊎ InSome rs b) }
+    ensures outside { (m : List Bool) (b : ℕ) → b < 256 → Holds (complement m) b ↔ (Holds m b → ⊥) }
+{}
+
+/// What is read after a `[` is a bracket expression, item by item, and each is read so.
+pub fn brackets_are_items()
+    ensures { (s rest : List ℕ) (m : List Bool) → (bracket_at s ≡ Some (m, rest)) ↔ IsBracket s m rest }
+{}
+
+/// What is read after a `{` is a bound whose numbers its digits write in decimal, and each is read so.
+pub fn bounds_are_numerals()
+    ensures { (bytes rest : List ℕ) (least : ℕ) (most : Option ℕ)
+        → (bound_at bytes ≡ Some (Times least most, rest)) ↔ IsBound bytes least most rest }
+{}
+
+/// What is read after a backslash is a letter of the table, octal digits of the byte, or punctuation.
+pub fn escapes_are_bytes()
+    ensures { (s rest : List ℕ) (b : ℕ) → escape_at s ≡ Some (b, rest) → IsEscape s b rest }
+{}

@@ -1,0 +1,36 @@
+use Rattle.std.proofs.Common.{rules, arith, subst, sym, ◌∙◌, refl}
+use Rattle.std.proofs.lemmas.Grind.{common_steps}
+use Rattle.pawk_fields.proofs.WalkLemmas.{adds_none, adds_one, adds_all, needed_before}
+use Rattle.pawk_fields.proofs.append.push_ranges.Goals as goal
+
+pub loop-field-init : goal.loop-field-init
+loop-field-init g c = record {
+  adds = adds_none c.args.fields c.args.ranges.now.items;
+  front = grind (arith, common_steps);
+  long = search rules;
+  needs = λ h. h;
+  pattern = search rules;
+  finder = refl;
+}
+
+pub loop-field-preserved : goal.loop-field-preserved
+loop-field-preserved g c =
+    let i = c.loop-field.invariant in
+    let nearer = rw c.in-Some.is at c.in_ok-field.ensures.nearer in
+    let step = rw c.in-Some.is at c.in_ok-field.ensures.field in
+    record {
+      adds = adds_one c.args.fields c.loop-field.fields c.next_range.new.self c.args.ranges.now.items c.loop-field.ranges.items c.push.new.self.items c.in-Some.field i.adds step c.in_ok-push.ensures.items;
+      front = grind (arith, common_steps, i.front, i.long, c.in_ok-push.ensures.items);
+      long = omega (arith, i.long, c.in_ok-push.ensures.len);
+      needs = λ h. i.needs (needed_before c.loop-field.fields c.next_range.new.self c.in_ok-field.ensures.same nearer h);
+      pattern = search rules;
+      finder = c.in_ok-field.ensures.finder ∙ i.finder;
+    }
+
+pub next_range-requires : goal.next_range-requires
+next_range-requires g c =
+    let i = c.loop-field.invariant in
+    record { ready = λ needs. subst (λ f. g.F.Finder.answers_for f c.loop-field.fields.pattern) (sym i.finder) (subst (g.F.Finder.answers_for c.args.finder.now) (sym i.pattern) (c.requires.ready (i.needs needs))) }
+
+pub returns-clause-added : goal.returns-clause-added
+returns-clause-added g c = adds_all c.args.fields c.loop-field.fields c.args.ranges.now.items c.loop-field.ranges.items c.loop-field.invariant.adds (rw c.in_default.is at c.in_ok-field.ensures.field)

@@ -1,0 +1,17 @@
+use Rattle.std.proofs.Common.{◌≡◌, ◌≤◌, take, vec_len}
+use Rattle.pawk_fields.specs.FieldWalks.{NeedsFinder, most_left}
+use Rattle.pawk_fields.proofs.WalkLemmas.{Adds}
+use Rattle.pawk_fields.proofs.append.push_ranges.Given as goal
+
+abbrev pub invariant-loop-field : goal.invariant-loop-field
+invariant-loop-field g l = record {
+  adds : Adds l.initial.fields l.fields l.initial.ranges.items l.ranges.items;
+  front : take (vec_len l.initial.ranges) l.ranges.items ≡ l.initial.ranges.items;
+  long : vec_len l.initial.ranges ≤ vec_len l.ranges;
+  needs : NeedsFinder l.fields → NeedsFinder l.initial.fields;
+  pattern : l.fields.pattern ≡ l.initial.fields.pattern;
+  finder : l.finder ≡ l.initial.finder;
+}
+
+abbrev pub decreases-loop-field : goal.decreases-loop-field
+decreases-loop-field g l = most_left l.fields.next l.fields.text

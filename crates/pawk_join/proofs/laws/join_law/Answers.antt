@@ -1,5 +1,0 @@
-use Rattle.pawk_join.proofs.LawLemmas.{join_holds}
-use Rattle.pawk_join.proofs.laws.join_law.Goals as goal
-
-pub returns : goal.returns
-returns c = join_holds

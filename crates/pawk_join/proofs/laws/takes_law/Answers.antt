@@ -1,5 +1,0 @@
-use Rattle.pawk_join.proofs.LawLemmas.{takes_holds}
-use Rattle.pawk_join.proofs.laws.takes_law.Goals as goal
-
-pub returns : goal.returns
-returns c = takes_holds

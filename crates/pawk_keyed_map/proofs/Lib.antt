@@ -1,0 +1,2 @@
+pub mod EntriesLemmas
+pub mod PairsLemmas

@@ -1,9 +1,0 @@
-use Rattle.std.proofs.Common.{ap, ◌∙◌, sym}
-use Rattle.pawk_machine.specs.Regex.{Plus}
-use Rattle.pawk_machine.specs.Tree.{regex_of}
-use Rattle.pawk_machine.proofs.Begins.{plus_anchored}
-use Rattle.pawk_machine.proofs.hints.+is_anchored.Goals as goal
-
-pub returns-in-Plus : goal.returns-in-Plus
-returns-in-Plus t c = λ h.
-    plus_anchored (regex_of c.deref-in-Plus.result.now) (regex_of c.args.node.now) (ap regex_of c.in-Plus.is ∙ ap (λ x. Plus (regex_of x)) (sym c.deref-in-Plus.ensures)) (c.is_anchored-in-Plus.ensures h)

@@ -1,0 +1,45 @@
+//! The elements of an array.
+
+ghost use Rattle.std.specs.Prelude.{◌≡◌};
+ghost use Rattle.pawk_array.specs.Entries.{found, value_of};
+ghost use Rattle.pawk_frozen.specs.MarkViews.{mark_view};
+ghost use Rattle.pawk_merge.specs.Joins.{joined_element, takes};
+ghost use Rattle.pawk_merge.specs.Tables.{array_takes, with_element};
+ghost use Rattle.pawk_merge.specs.Tables as spec;
+ghost use Rattle.pawk_merge.specs.Stops.{Joins};
+
+use crate::cell::join_cell;
+use crate::stop::JoinStop;
+use pawk_array::AssociativeArray;
+use pawk_frozen::{CellMark, ElementMarks};
+
+/// Joins an element to what was noted of it; one that is missing is made first, unless nothing was.
+#[inline]
+fn join_element(elements: &mut AssociativeArray, key: &[u8], mark: CellMark) -> Result<(), JoinStop>
+    ensures { Joins (takes (mark_view mark) (value_of (found key.now elements.old)))
+        (λ _. elements.new ≡ with_element key.now
+        (joined_element (mark_view mark) (found key.now elements.old)) elements.old) result }
+{
+    elements.order_law();
+    if let CellMark::Blank = mark {
+        return Ok(());
+    }
+    let cell = elements.entry(key)?;
+    join_cell(cell, mark)
+}
+
+/// Joins the elements of an array to what was noted of them. Each key is looked up once.
+pub(crate) fn join_array(
+    elements: &mut AssociativeArray,
+    marks: ElementMarks,
+) -> Result<(), JoinStop>
+    ensures { Joins (array_takes marks elements.old)
+        (λ _. elements.new ≡ spec.join_array marks elements.old) result }
+{
+    let mut pairs = marks.into_pairs();
+    while let Some((key, mark)) = pairs.next() {
+        elements.order_law();
+        join_element(elements, key.text(), mark)?;
+    }
+    Ok(())
+}

@@ -1,0 +1,42 @@
+-- What the results of the chunks of a plan make together.
+use Rattle.std.specs.Prelude.{◌≡◌, ℕ, List, ◌++◌, map, MatchResult}
+use Rattle.pawk_input.specs.Input.{File, items}
+use Rattle.pawk_input.specs.Plan.{IsPlanOf}
+use Rattle.pawk_input.specs.declared.cutting.Chunk.{Chunk}
+use Rattle.pawk_store.specs.Globals.{Globals}
+use Rattle.pawk_semantics.specs.Records.{End}
+use Rattle.pawk_merge.specs.Merges.{before_chunks, merge}
+use Rattle.pawk_chunks.specs.declared.chunk.ChunkResult.{ChunkResult}
+use Rattle.pawk_chunks.specs.Chunks.{Opening, chunk_end, AreResults}
+use Rattle.pawk_merge_law.specs.Phases.{Phase, MayRun, in_order, FaultsOrCreates}
+use Rattle.pawk_merge_law.specs.Results.{chunk_of}
+
+-- the records after BEGIN, which wrote this
+abbrev pub phase_of : Opening → List ℕ → Phase
+phase_of o written = record {
+  code = o.code;
+  roles = o.roles;
+  eres = o.code.expressions;
+  budget = o.budget;
+  globals = o.globals;
+  state = o.state;
+  output = written;
+}
+
+-- an end with this in front of its output
+abbrev pub behind_output : List ℕ → End Globals → End Globals
+behind_output written e = record e { output = written ++ e.output }
+
+-- The results of the chunks of a plan are merged: then all records in order end with the same globals, record state and way of
+-- leaving, and their output is what BEGIN wrote and the outputs of the chunks after it. Or the merge stops; it does so
+-- exactly where the records in order end in a fault, or create an element of an array that is no reader array.
+abbrev pub ResultsLaw : Type 0
+ResultsLaw =
+    (o : Opening) (written : List ℕ) → MayRun (phase_of o written) → o.state.nr ≡ 0 →
+    (rs : List ℕ) (files : List File) (plan : List Chunk) → IsPlanOf rs files plan →
+    (results : List ChunkResult) → AreResults (chunk_end o rs files) plan results →
+    MatchResult (merge (map chunk_of results) (before_chunks o.globals o.state))
+    (λ e.
+    (in_order (phase_of o written) (items rs files) ≡ behind_output written e)
+    × ¬ FaultsOrCreates (phase_of o written) (items rs files))
+    (λ stop. FaultsOrCreates (phase_of o written) (items rs files))

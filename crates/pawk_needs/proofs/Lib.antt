@@ -1,2 +1,0 @@
-pub mod IdleLemmas
-pub mod PassLemmas

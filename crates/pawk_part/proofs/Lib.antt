@@ -1,2 +1,0 @@
-pub mod LeftLemmas
-mod RunLemmas

@@ -1,5 +1,0 @@
-use Rattle.std.proofs.Common.{length}
-use Rattle.pawk_pattern.proofs.class.+class_among.Given as goal
-
-abbrev pub decreases-class_among : goal.decreases-class_among
-decreases-class_among l = length l.classes.now

@@ -1,5 +1,0 @@
-use Rattle.pawk_pattern.proofs.Progress.{spells_one}
-use Rattle.pawk_pattern.proofs.laws.a_text_spells_one.Goals as goal
-
-pub returns : goal.returns
-returns c = spells_one

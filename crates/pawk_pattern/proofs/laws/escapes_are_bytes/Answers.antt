@@ -1,5 +1,0 @@
-use Rattle.pawk_pattern.proofs.EscapeNumerals.{escape_is}
-use Rattle.pawk_pattern.proofs.laws.escapes_are_bytes.Goals as goal
-
-pub returns : goal.returns
-returns c = escape_is

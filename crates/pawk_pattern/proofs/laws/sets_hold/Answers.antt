@@ -1,5 +1,0 @@
-use Rattle.pawk_pattern.proofs.Sets.{with_ranges_holds, complement_holds, only_holds, none_holds, all_holds}
-use Rattle.pawk_pattern.proofs.laws.sets_hold.Goals as goal
-
-pub returns : goal.returns
-returns c = record { all = all_holds; none = none_holds; one = only_holds; ranges = with_ranges_holds; outside = complement_holds }

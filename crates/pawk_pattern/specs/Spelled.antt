@@ -1,8 +1,0 @@
--- The expression that was read.
-use Rattle.pawk_pattern.specs.declared.ere.Ere.{Ere}
-use Rattle.pawk_pattern.specs.Pattern.{Pattern}
-use Rattle.pawk_pattern.specs.Tree.{pattern_of}
-
--- what an `Ere` is
-abbrev pub expression : Ere → Pattern
-expression e = pattern_of e.root

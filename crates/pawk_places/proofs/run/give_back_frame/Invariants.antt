@@ -1,5 +1,0 @@
-use Rattle.std.proofs.Common.{length}
-use Rattle.pawk_places.proofs.run.give_back_frame.Given as goal
-
-abbrev pub decreases-loop-parameter : goal.decreases-loop-parameter
-decreases-loop-parameter l = length l.frame.items

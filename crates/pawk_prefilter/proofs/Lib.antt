@@ -1,0 +1,3 @@
+pub mod IdleLemmas
+pub mod PassLemmas
+mod PassageLemmas

@@ -1,0 +1,177 @@
+//! The code of expressions.
+
+ghost use Rattle.std.specs.Prelude.{◌≡◌, IfOk};
+ghost use Rattle.pawk_code.specs.Expressions.{exprs, arguments as codes_of};
+ghost use Rattle.pawk_code.specs.ExpressionViews.{view, views, argument_views, format_view};
+ghost use Rattle.pawk_syntax_tree.specs.Tree.{trees, view as tree_view, views as tree_views};
+ghost use Rattle.pawk_resolve.specs.ScopeViews.{scope_view};
+ghost use Rattle.pawk_resolve.specs.Sorted as spec;
+ghost use Rattle.pawk_resolve.specs.Resolved.{resolved, resolved_all, resolved_arguments};
+
+use crate::small::small;
+use pawk_code::expression::{Argument, Expr, Format};
+use pawk_lex::token::Builtin;
+use pawk_resolve::builtin::{
+    Operand, argument, binary, builtin_of_one, builtin_of_three, builtin_of_two,
+};
+use pawk_resolve::lists::{call, element, formatted, member};
+use pawk_resolve::operation::operation_of;
+use pawk_resolve::scope::Scope;
+use pawk_resolve::sorted::{format, nothing, unary};
+use pawk_syntax_tree::tree::ExpressionTree as Tree;
+use std::alloc::{AllocError, Global};
+
+/// The code of an expression.
+#[cycle(expression)]
+pub fn expression<'t>(
+    scope: &Scope<'_, 't>,
+    alloc: Global,
+    tree: &'t Tree,
+) -> Result<Expr, AllocError>
+    ensures { IfOk result (λ e. view e ≡ resolved (scope_view scope.now) (tree_view tree.now)) }
+{
+    match tree {
+        Tree::Number(_) | Tree::String(_) | Tree::Ere(_) | Tree::Variable(_) => {
+            small(scope, alloc, tree)
+        }
+        Tree::Element(name, keys) => {
+            let keys = list(scope, alloc, keys)?;
+            Ok(element(scope.array(name.text.as_slice()), keys))
+        }
+        Tree::Unary(op, a) => Ok(unary(*op, operand(scope, alloc, a)?)),
+        Tree::Binary(op, a, b) => {
+            let left = operand(scope, alloc, a)?;
+            let code = operand(scope, alloc, b)?;
+            let right = Operand { tree: b, code };
+            binary(scope, alloc, operation_of(*op), left, right)
+        }
+        Tree::Choice(c, a, b) => {
+            let c = operand(scope, alloc, c)?;
+            let a = operand(scope, alloc, a)?;
+            Ok(Expr::Choice(c, a, operand(scope, alloc, b)?))
+        }
+        Tree::Member(keys, name) => {
+            let keys = list(scope, alloc, keys)?;
+            Ok(member(scope.array(name.text.as_slice()), keys))
+        }
+        Tree::Call(name, list) => {
+            let list = arguments(scope, alloc, list)?;
+            Ok(call(scope.globals.functions.slot(name.text.as_slice()), list))
+        }
+        Tree::Builtin(Builtin::Sprintf, _, arguments) => sprintf(scope, alloc, arguments),
+        Tree::Builtin(function, _, arguments) => builtin(scope, alloc, *function, arguments),
+    }
+}
+
+/// The code of an operand, in a box.
+#[cycle(expression)]
+fn operand<'t>(
+    scope: &Scope<'_, 't>,
+    alloc: Global,
+    tree: &'t Tree,
+) -> Result<Box<Expr>, AllocError>
+    ensures { IfOk result (λ e. view e.value ≡
+        resolved (scope_view scope.now) (tree_view tree.now)) }
+{
+    let e = expression(scope, alloc, tree)?;
+    Ok(Box::new(alloc, e)?)
+}
+
+/// The format that an expression is.
+#[cycle(expression)]
+pub fn format_of<'t>(
+    scope: &Scope<'_, 't>,
+    alloc: Global,
+    tree: &'t Tree,
+) -> Result<Format, AllocError>
+    ensures { IfOk result (λ f. format_view f ≡
+        spec.format_by (resolved (scope_view scope.now) (tree_view tree.now))) }
+{
+    format(alloc, operand(scope, alloc, tree)?)
+}
+
+/// `sprintf` of these, of which the first is the format.
+#[cycle(expression)]
+fn sprintf<'t>(
+    scope: &Scope<'_, 't>,
+    alloc: Global,
+    arguments: &'t [Tree],
+) -> Result<Expr, AllocError>
+    ensures { IfOk result (λ e. view e ≡
+        spec.sprintf_of (resolved_all (scope_view scope.now) (trees (tree_views arguments.now)))) }
+{
+    match arguments {
+        [] => Ok(nothing()),
+        [first, others @ ..] => {
+            let format = format_of(scope, alloc, first)?;
+            Ok(formatted(format, list(scope, alloc, others)?))
+        }
+    }
+}
+
+/// A call of a built-in function, by how many arguments are there.
+#[cycle(expression)]
+fn builtin<'t>(
+    scope: &Scope<'_, 't>,
+    alloc: Global,
+    function: Builtin,
+    arguments: &'t [Tree],
+) -> Result<Expr, AllocError>
+    ensures { IfOk result (λ e. view e ≡ spec.builtin_of_some (scope_view scope.now) function
+        (trees (tree_views arguments.now))
+        (resolved_all (scope_view scope.now) (trees (tree_views arguments.now)))) }
+{
+    match arguments {
+        [] => Ok(nothing()),
+        [a] => Ok(builtin_of_one(function, operand(scope, alloc, a)?)),
+        [a, b] => {
+            let first = operand(scope, alloc, a)?;
+            let code = operand(scope, alloc, b)?;
+            Ok(builtin_of_two(scope, function, first, Operand { tree: b, code }))
+        }
+        [a, b, c] => {
+            let code = operand(scope, alloc, a)?;
+            let first = Operand { tree: a, code };
+            let code = operand(scope, alloc, b)?;
+            let second = Operand { tree: b, code };
+            let code = operand(scope, alloc, c)?;
+            Ok(builtin_of_three(scope, function, first, second, Operand { tree: c, code }))
+        }
+        _ => Ok(nothing()),
+    }
+}
+
+/// The codes of the expressions of a list.
+#[cycle(expression)]
+pub fn list<'t>(
+    scope: &Scope<'_, 't>,
+    alloc: Global,
+    list: &'t [Tree],
+) -> Result<Vec<Expr>, AllocError>
+    ensures { IfOk result (λ codes. exprs (views codes.items) ≡
+        resolved_all (scope_view scope.now) (trees (tree_views list.now))) }
+{
+    let mut codes = Vec::new(alloc);
+    for tree in list {
+        codes.push(expression(scope, alloc, tree)?)?;
+    }
+    Ok(codes)
+}
+
+/// The codes of the arguments of a call.
+#[cycle(expression)]
+fn arguments<'t>(
+    scope: &Scope<'_, 't>,
+    alloc: Global,
+    list: &'t [Tree],
+) -> Result<Vec<Argument>, AllocError>
+    ensures { IfOk result (λ codes. codes_of (argument_views codes.items) ≡
+        resolved_arguments (scope_view scope.now) (trees (tree_views list.now))) }
+{
+    let mut codes = Vec::new(alloc);
+    for tree in list {
+        let code = expression(scope, alloc, tree)?;
+        codes.push(argument(scope, tree, code))?;
+    }
+    Ok(codes)
+}

@@ -1,3 +1,0 @@
-mod Counts
-mod Walks
-mod Shapes

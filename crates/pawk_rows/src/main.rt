@@ -1,0 +1,78 @@
+//! Reads rows from standard input, one a line, and answers each with a line. The first cell of a line is the topic, and what
+//! comes after its tab is the row, which the module of that name describes:
+//!
+//! | topic | answer |
+//! |---|---|
+//! | `ere` | why an expression is refused, and where it matches from a place on |
+//! | `fields` | the ranges of a record's fields |
+//! | `globals` | what the globals of a run have |
+//! | `input` | the records of blocks, and plans of chunks |
+//! | `lex` | the tokens of a text, with their spans |
+//! | `value` | each fault's number and name |
+//!
+//! A topic is known by its first letter. A line of another is answered with `no topic`.
+#![tactic(auto)]
+
+mod ere;
+mod fields;
+mod globals;
+mod input;
+mod lex;
+mod marks;
+mod pieces;
+mod text;
+
+use pawk_value::Fault;
+use std::alloc::{AllocError, Global};
+use std::io;
+use text::{answer_lines, first_and_rest, push_decimal};
+
+/// Each fault in the order of its number.
+const FAULTS: [Fault; 15] = [
+    Fault::Overflow,
+    Fault::Zero,
+    Fault::Inexact,
+    Fault::Exponent,
+    Fault::Numeral,
+    Fault::Rs,
+    Fault::Fs,
+    Fault::Field,
+    Fault::Status,
+    Fault::Steps,
+    Fault::Depth,
+    Fault::Length,
+    Fault::Negative,
+    Fault::Format,
+    Fault::Ere,
+];
+
+/// Adds the faults' numbers and names, with blanks between them.
+fn push_faults(out: &mut Vec<u8>) -> Result<(), AllocError> {
+    for fault in FAULTS {
+        out.extend_from_slice(if out.is_empty() { b"" } else { b" " })?;
+        push_decimal(u64::from(fault as u8), out)?;
+        out.extend_from_slice(b" ")?;
+        out.extend_from_slice(fault.name().as_bytes())?;
+    }
+    Ok(())
+}
+
+/// The answer to a line.
+fn answer(alloc: Global, line: &[u8]) -> Result<Vec<u8>, AllocError> {
+    let (topic, row) = first_and_rest(line);
+    let mut out = Vec::new(alloc);
+    match topic.first() {
+        Some(b'e') => ere::push_answer(alloc, row, &mut out)?,
+        Some(b'f') => fields::push_answer(alloc, row, &mut out)?,
+        Some(b'g') => globals::push_answer(alloc, row, &mut out)?,
+        Some(b'i') => input::push_answer(alloc, row, &mut out)?,
+        Some(b'l') => lex::push_answer(alloc, row, &mut out)?,
+        Some(b'v') => push_faults(&mut out)?,
+        _ => out.extend_from_slice(b"no topic")?,
+    }
+    Ok(out)
+}
+
+fn main(rt: HostRuntime) -> io::Result<()> {
+    answer_lines(&rt, answer)
+}

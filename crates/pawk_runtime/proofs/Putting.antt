@@ -1,0 +1,23 @@
+-- A text with its replacements that a place gets.
+use Rattle.std.proofs.Common.{◌≡◌, ℕ, ◌<◌, ◌≤◌, ◌==◌, false, refl, List, length, pos, Ok, Err, arith}
+use Rattle.std.proofs.lemmas.Bool.Decides.{nat_tests}
+use Rattle.pawk_value.specs.Value.{Text}
+use Rattle.pawk_value.specs.Fault.TheVariants.{Length}
+use Rattle.pawk_world.specs.Worlds.{Calls}
+use Rattle.pawk_semantics.specs.Builtins.{Replaced, within_limit}
+use Rattle.pawk_semantics.specs.Parts.{Moment, bind, give, settle}
+use Rattle.pawk_semantics.specs.Places.{Aim, write_at}
+use Rattle.pawk_semantics.specs.Meaning.{put_replaced}
+
+-- where some were replaced, the place gets the text, if it is not too long
+pub put_some : {S : Type 0} (calls : Calls S) (aim : Aim) (r : Replaced) (n : ℕ) (text : List ℕ) (m : Moment S) → 0 < n → r.count ≡ n → r.text ≡ text
+    → put_replaced calls aim r m ≡ bind (settle (within_limit text)) (λ t. bind (write_at calls aim (Text t)) (λ _. give (pos n))) m
+put_some calls aim r n text m some count is =
+    let there : (n == 0) ≡ false = grind (arith, nat_tests) in
+    rw (count, is, there) refl
+
+pub too_long : (text : List ℕ) → 16777216 < length text → within_limit text ≡ Err Length
+too_long text h = grind (arith, nat_tests)
+
+pub short : (text : List ℕ) → length text ≤ 16777216 → within_limit text ≡ Ok text
+short text h = grind (arith, nat_tests)

@@ -1,4 +1,0 @@
-pub mod Slots
-pub mod Tables
-pub mod Scopes
-pub mod ScopeViews

@@ -1,3 +1,0 @@
-pub mod ReadLemmas
-pub mod SearchLemmas
-pub mod FieldLemmas

@@ -1,4 +1,0 @@
-pub mod ReadEre
-pub mod Search
-pub mod FieldList
-pub mod Laws

@@ -1,0 +1,3 @@
+pub mod LeftLemmas
+mod RunLemmas
+pub mod FinishLemmas

@@ -1,0 +1,16 @@
+use Rattle.std.proofs.Common.{◌≡◌, None}
+use Rattle.pawk_code.specs.ProgramViews.{code_view}
+use Rattle.pawk_input.specs.Walk.{items_left}
+use Rattle.pawk_semantics.specs.Runs.{records_from}
+use Rattle.pawk_sequential.specs.declared.left.Left.TheVariants.{Through}
+use Rattle.pawk_sequential.specs.Ends.{end_view}
+use Rattle.pawk_sequential.proofs.records.run_each.Given as goal
+
+-- from where the walk is, the records that are left end as all of them do
+abbrev pub invariant-loop-item : goal.invariant-loop-item
+invariant-loop-item g l = record {
+  can_next : (goal.iterator-loop-item g).can_next l.item-iterator;
+  finite : (goal.iterator-loop-item g).is_finite l.item-iterator;
+  same : records_from g.W.World.calls (code_view l.job.code.now).expressions (code_view l.job.code.now) l.job.budget l.skip (end_view (g.W.World.state l.world) l.run l.left) (items_left l.item-iterator)
+      ≡ records_from g.W.World.calls (code_view l.job.code.now).expressions (code_view l.job.code.now) l.job.budget None (end_view (g.W.World.state l.fn.world) l.fn.run Through) (items_left l.fn.records);
+}

@@ -1,5 +1,0 @@
-pub mod Between
-pub mod FieldWalks
-pub mod FieldsOf
-pub mod Cut
-pub mod Law

@@ -1,2 +1,0 @@
-pub mod TreeBrackets
-pub mod ProgramBrackets

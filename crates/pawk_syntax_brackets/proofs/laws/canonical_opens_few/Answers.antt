@@ -1,5 +1,0 @@
-use Rattle.pawk_syntax_brackets.proofs.ProgramBrackets.{few_program}
-use Rattle.pawk_syntax_brackets.proofs.laws.canonical_opens_few.Goals as goal
-
-pub returns : goal.returns
-returns c = few_program

@@ -1,5 +1,0 @@
-//! How many brackets of a program text are open at once.
-#![tactic(auto)]
-
-pub mod brackets;
-pub mod laws;

@@ -1,4 +1,0 @@
-pub mod DerivedTrees
-pub mod DerivedPrograms
-pub mod CanonicalTokens
-pub mod Readings

@@ -1,5 +1,0 @@
-use Rattle.pawk_syntax_expressions.proofs.DerivedPrograms.{derived_program}
-use Rattle.pawk_syntax_expressions.proofs.laws.derivation_keeps_expressions.Goals as goal
-
-pub returns : goal.returns
-returns c = derived_program

@@ -1,2 +1,0 @@
-pub mod Expressions
-pub mod Reads

@@ -1,5 +1,0 @@
-use Rattle.pawk_syntax_kinds.proofs.Finding.{one_choice}
-use Rattle.pawk_syntax_kinds.proofs.kinds.kinds_are_unique.Goals as goal
-
-pub returns : goal.returns
-returns c = one_choice

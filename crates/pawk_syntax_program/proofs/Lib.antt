@@ -1,8 +1,0 @@
-pub mod StatementSound
-pub mod StatementKept
-pub mod StatementAgain
-pub mod ItemSound
-pub mod ItemAgain
-pub mod ItemKept
-pub mod ItemLow
-pub mod ProgramLaws

@@ -1,4 +1,0 @@
-//! Reads the tokens of statements.
-#![tactic(auto)]
-
-pub mod statement;

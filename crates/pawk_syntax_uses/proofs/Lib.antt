@@ -1,3 +1,0 @@
-pub mod Lists
-pub mod Shapes
-pub mod Tables

@@ -1,4 +1,0 @@
-pub mod Mentions
-pub mod Views
-pub mod Functions
-pub mod FunctionViews

@@ -1,4 +1,0 @@
-pub mod Bytes
-pub mod Vocabulary
-pub mod Tokens
-pub mod Refusals

@@ -1,0 +1,33 @@
+use Rattle.std.proofs.Common.{◌≡◌, length, All, ◌∷◌, sym, ap, ◌∙◌, subst, arith}
+use Rattle.std.proofs.lemmas.List.Elements.{All-same, All-head, All-tail, All-push}
+use Rattle.std.specs.declared.thread.PromisedHandle.{PromisedHandle}
+use Rattle.pawk_board.specs.Views.{SeatView}
+use Rattle.pawk_workers.proofs.labour.in_scope.Goals as goal
+
+pub loop-seat-preserved : goal.loop-seat-preserved
+loop-seat-preserved g c =
+    let P = λ (s : SeatView). s ≡ g.L.Labour.first c.args.task.now in
+    let K = λ (h : PromisedHandle g.row.S.Denot g.row.L.Denot). h.promise ≡ c.args.task.now in
+    let steps = c.in-Some-seat.ensures.steps.0 in
+    let left : All P (c.in-Some-seat.seat ∷ c.next.new.self.rest.items) = All-same P _ _ (sym steps) c.loop-seat.invariant.seats in
+    record {
+      seats = All-tail P _ _ left;
+      room = (let long = ap length steps in let len = c.push_reserved.ensures.len in let was = c.loop-seat.invariant.room in omega arith);
+      space = c.push_reserved.ensures.capacity ∙ c.loop-seat.invariant.space;
+      kept = subst (All K) (sym c.push_reserved.ensures.items) (All-push K c.loop-seat.handles.items c.in-Ok.handle c.loop-seat.invariant.kept c.in-Ok.ensures.ok);
+    }
+
+pub loop-handle-preserved : goal.loop-handle-preserved
+loop-handle-preserved g c =
+    let K = λ (h : PromisedHandle g.row.S.Denot g.row.L.Denot). h.promise ≡ c.args.task.now in
+    let W = g.L.Promise.kept_by c.args.task.now in
+    let handle = c.in-Some-handle.handle in
+    let steps = c.in-Some-handle.ensures.steps.0 in
+    let left : All K (handle ∷ c.next-in-loop-handle.new.self.rest.items) = All-same K _ _ (sym steps) c.loop-handle.invariant.kept in
+    let done : W c.join.result = subst (λ t. g.L.Promise.kept_by t c.join.result) (All-head K _ _ left) c.join.ensures in
+    record {
+      kept = All-tail K _ _ left;
+      room = (let long = ap length steps in let len = c.push_reserved-in-loop-handle.ensures.len in let was = c.loop-handle.invariant.room in omega arith);
+      space = c.push_reserved-in-loop-handle.ensures.capacity ∙ c.loop-handle.invariant.space;
+      shifts = subst (All W) (sym c.push_reserved-in-loop-handle.ensures.items) (All-push W c.loop-handle.shifts.items c.join.result c.loop-handle.invariant.shifts done);
+    }
