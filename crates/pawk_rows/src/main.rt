@@ -8,6 +8,7 @@
 //! | `globals` | what the globals of a run have |
 //! | `input` | the records of blocks, and plans of chunks |
 //! | `lex` | the tokens of a text, with their spans |
+//! | `record` | what a record has after a fault |
 //! | `value` | each fault's number and name |
 //!
 //! A topic is known by its first letter. A line of another is answered with `no topic`.
@@ -20,6 +21,7 @@ mod input;
 mod lex;
 mod marks;
 mod pieces;
+mod record;
 mod text;
 
 use pawk_value::Fault;
@@ -67,6 +69,7 @@ fn answer(alloc: Global, line: &[u8]) -> Result<Vec<u8>, AllocError> {
         Some(b'g') => globals::push_answer(alloc, row, &mut out)?,
         Some(b'i') => input::push_answer(alloc, row, &mut out)?,
         Some(b'l') => lex::push_answer(alloc, row, &mut out)?,
+        Some(b'r') => record::push_answer(alloc, row, &mut out)?,
         Some(b'v') => push_faults(&mut out)?,
         _ => out.extend_from_slice(b"no topic")?,
     }

@@ -20,6 +20,8 @@ mod devices;
 mod fixtures;
 #[cfg(test)]
 mod gates;
+#[cfg(test)]
+mod matchers;
 
 fn main(rt: HostRuntime) -> io::Result<()> {
     println!(rt; "rt test, in this folder, runs the tests")
