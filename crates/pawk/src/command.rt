@@ -3,11 +3,13 @@
 use crate::command_line::{CommandLine, read_words};
 use crate::explanations::explain_stop;
 use crate::outlet::Outlet;
-use crate::reports::{End, RunFailure, report_end, report_stop};
+use crate::reports::{End, RunFailure, UNWRITTEN, report_end, report_stop, report_words};
 use crate::script::read_script;
 use crate::whole::run_whole;
 use crate::words::unambiguous;
+use clap::Error;
 use pawk_explain::Script;
+use std::alloc::{AllocError, Global};
 use std::io;
 use std::io::{IsTerminal, Read, Write};
 use std::os::unix::fs::FileExt;
@@ -16,14 +18,14 @@ use std::sync::Wait;
 use std::thread::Threads;
 
 /// Does what was asked for with this program.
-fn do_script<R, I, O>(
+fn run_script<'a, R, I, O>(
     rt: &R,
-    line: &CommandLine<'_>,
+    line: &CommandLine<'a>,
     script: &Script<'_>,
     explains: bool,
     input: &mut I,
     output: &mut Outlet<O>,
-) -> Result<End, RunFailure>
+) -> Result<End, RunFailure<'a>>
 where
     R: Files + AllocGlobal + Threads + Wait + Clock,
     R::File: FileExt + Sync,
@@ -32,33 +34,63 @@ where
 {
     let end = run_whole(rt, line, script.text(), explains, input, output)?;
     if output.flush().is_err() {
-        return Err(RunFailure::Write);
+        return Err(RunFailure::from(UNWRITTEN));
     }
     Ok(end)
 }
 
+/// Writes the explanation of why nothing was run to its end, where there is memory for it.
+fn write_explanation<E: Write>(
+    alloc: Global,
+    line: &CommandLine<'_>,
+    script: &Script<'_>,
+    stop: RunFailure<'_>,
+    errors: &mut E,
+) -> io::Result<()> {
+    let mut lines = Vec::new(alloc);
+    match explain_stop(alloc, &mut lines, line, script, stop) {
+        Ok(()) => errors.write_all(lines.as_slice()),
+        Err(_) => Ok(()),
+    }
+}
+
 /// Reports why nothing was run to its end, with an explanation where it is asked for.
-fn report_with_explanation<R, O, E>(
+fn report_with_explanation<O: Write, E: Write + IsTerminal>(
+    alloc: Global,
+    line: &CommandLine<'_>,
+    script: &Script<'_>,
+    stop: RunFailure<'_>,
+    output: &Outlet<O>,
+    errors: &mut E,
+) -> io::Result<u8> {
+    let status = report_stop(stop, script, output, errors)?;
+    if line.tools.explains(errors) {
+        write_explanation(alloc, line, script, stop, errors)?;
+    }
+    Ok(status)
+}
+
+/// Does what was asked for with this program, and reports how it ended.
+fn do_script<R, I, O, E>(
     rt: &R,
     line: &CommandLine<'_>,
     script: &Script<'_>,
-    stop: &RunFailure,
+    input: &mut I,
     output: &mut Outlet<O>,
     errors: &mut E,
 ) -> io::Result<u8>
 where
-    R: AllocGlobal,
+    R: Files + AllocGlobal + Threads + Wait + Clock,
+    R::File: FileExt + Sync,
+    I: Read,
     O: Write,
     E: Write + IsTerminal,
 {
-    let alloc = rt.alloc();
-    let status = report_stop(alloc, stop, script, output, errors)?;
-    if line.tools.explains(errors)
-        && let Ok(lines) = explain_stop(alloc, line, script, stop)
-    {
-        errors.write_all(lines.as_slice())?;
+    let explains = line.tools.explains(errors);
+    match run_script(rt, line, script, explains, input, output) {
+        Ok(end) => report_end(&end, line.tools.why, errors),
+        Err(stop) => report_with_explanation(rt.alloc(), line, script, stop, output, errors),
     }
-    Ok(status)
 }
 
 /// Does what was asked for, and reports how it ended.
@@ -76,29 +108,13 @@ where
     O: Write,
     E: Write + IsTerminal,
 {
-    let script = match read_script(rt, &line.program, input) {
-        Ok(script) => script,
+    match read_script(rt, &line.program, input) {
+        Ok(script) => do_script(rt, line, &script, input, output, errors),
         Err(stop) => {
             let none = Script::new(rt.alloc());
-            return report_with_explanation(rt, line, &none, &stop, output, errors);
+            report_with_explanation(rt.alloc(), line, &none, stop, output, errors)
         }
-    };
-    let explains = line.tools.explains(errors);
-    match do_script(rt, line, &script, explains, input, output) {
-        Ok(end) => report_end(&end, line.tools.why, errors),
-        Err(stop) => report_with_explanation(rt, line, &script, &stop, output, errors),
     }
-}
-
-/// Reports why the words were not read.
-fn report_words<R: AllocGlobal, O: Write, E: Write>(
-    rt: &R,
-    stop: &RunFailure,
-    output: &mut Outlet<O>,
-    errors: &mut E,
-) -> io::Result<u8> {
-    let alloc = rt.alloc();
-    report_stop(alloc, stop, &Script::new(alloc), output, errors)
 }
 
 /// Does what the words ask for, and reports how it ended.
@@ -116,12 +132,13 @@ where
     O: Write,
     E: Write + IsTerminal,
 {
-    let Ok(words) = unambiguous(rt.alloc(), words) else {
-        return report_words(rt, &RunFailure::Memory, output, errors);
+    let alloc = rt.alloc();
+    let Ok(words) = unambiguous(alloc, words) else {
+        return report_words(alloc, &Error::from(AllocError), output, errors);
     };
-    match read_words(rt.alloc(), words.as_slice()) {
+    match read_words(alloc, words.as_slice()) {
         Ok(line) => do_line(rt, &line, input, output, errors),
-        Err(stop) => report_words(rt, &stop, output, errors),
+        Err(error) => report_words(alloc, &error, output, errors),
     }
 }
 

@@ -2,9 +2,8 @@
 
 ghost use Rattle.std.specs.Prelude.{◌<◌, ◌≤◌};
 
-use crate::reports::RunFailure;
 use clap::error::ErrorKind;
-use clap::{Arg, ArgAction, ArgMatches, Command, value_parser};
+use clap::{Arg, ArgAction, ArgMatches, Command, Error, value_parser};
 use std::alloc::{AllocError, Global};
 use std::io::IsTerminal;
 
@@ -241,10 +240,7 @@ fn program_source<'a>(
 ) -> Result<Option<ProgramSource<'a>>, AllocError> {
     match matches.get_strs("program-file") {
         Some(names) => Ok(Some(ProgramSource::Files(Vec::from_slice(alloc, names)?))),
-        None => match matches.get_str("program") {
-            Some(text) => Ok(Some(ProgramSource::Word(text))),
-            None => Ok(None),
-        },
+        None => Ok(matches.get_str("program").map(ProgramSource::Word)),
     }
 }
 
@@ -267,11 +263,11 @@ fn are_plain(matches: &ArgMatches<'_>) -> bool {
     is_plain(matches, "workers") && is_plain(matches, "chunk") && is_plain(matches, "steps")
 }
 
-/// What is reported of words at fault; `Memory` where it cannot be.
-fn fault(command: &mut Command<'_>, kind: ErrorKind, text: &str) -> RunFailure {
+/// What is reported of words at fault, or that memory was refused.
+fn fault(command: &mut Command<'_>, kind: ErrorKind, text: &str) -> Error {
     match command.error(kind, text) {
-        Ok(error) => RunFailure::Line(error),
-        Err(AllocError) => RunFailure::Memory,
+        Ok(error) => error,
+        Err(refusal) => Error::from(refusal),
     }
 }
 
@@ -324,7 +320,7 @@ fn read_by<'a>(
     alloc: Global,
     command: &mut Command<'a>,
     words: &'a [String],
-) -> Result<CommandLine<'a>, RunFailure> {
+) -> Result<CommandLine<'a>, Error> {
     let matches = command.try_get_matches_from_mut(words)?;
     match program_source(alloc, &matches)? {
         Some(program) if are_plain(&matches) => Ok(line_of(alloc, &matches, program)?),
@@ -339,11 +335,8 @@ fn read_by<'a>(
 /// Reads the words, of which the first is the program's name, as [`unambiguous`](crate::words::unambiguous)
 /// writes them.
 ///
-/// `Line` comes where the words are at fault or ask for help, `Memory` where memory was refused.
-pub(crate) fn read_words<'a>(
-    alloc: Global,
-    words: &'a [String],
-) -> Result<CommandLine<'a>, RunFailure> {
+/// An error comes where the words are at fault or ask for help, or where memory was refused.
+pub(crate) fn read_words<'a>(alloc: Global, words: &'a [String]) -> Result<CommandLine<'a>, Error> {
     let mut command = definition(alloc)?;
     read_by(alloc, &mut command, words)
 }

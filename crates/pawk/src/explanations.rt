@@ -10,9 +10,10 @@ use pawk_explain::{
 use pawk_input::Input;
 use pawk_lex::lexer::Lexer;
 use pawk_lex::token::{Mark, TokenValue as Token};
+use pawk_par::StreamRefusal;
 use pawk_settings::{Settings, SettingsRefusal};
 use pawk_store::{Content, Named, Specials};
-use pawk_syntax::parse;
+use pawk_syntax::{Program, parse};
 use pawk_threads::{Ending, Place, Route};
 use pawk_value::{Value, push_text_lent};
 use std::alloc::{AllocError, Global};
@@ -31,56 +32,74 @@ fn refused_value<'a>(
     line: &CommandLine<'a>,
     text: &[u8],
 ) -> Result<Option<Origin<'a>>, AllocError> {
+    let pairs = assignments(alloc, line)?;
     let Ok(program) = parse(alloc, text) else {
         return Ok(None);
     };
-    let pairs = assignments(alloc, line)?;
-    for (number, pair) in pairs.chunks(1).enumerate() {
-        if Settings::new(alloc, program.tree(), pair, line.steps).is_err() {
-            return Ok(origin(line, number));
-        }
+    match first_refused(alloc, &program, pairs.as_slice(), line.steps) {
+        Some(number) => Ok(origin(line, number)),
+        None => Ok(None),
     }
-    Ok(None)
 }
 
-/// Explains why an assignment is refused.
+/// The number of the first assignment that is refused beside a program, counted from 0.
+fn first_refused(
+    alloc: Global,
+    program: &Program,
+    pairs: &[(Vec<u8>, Vec<u8>)],
+    steps: u64,
+) -> Option<usize> {
+    for (number, pair) in pairs.chunks(1).enumerate() {
+        if Settings::new(alloc, program.tree(), pair, steps).is_err() {
+            return Some(number);
+        }
+    }
+    None
+}
+
+/// Appends the explanation of why an assignment is refused.
 fn explain_settings(
     alloc: Global,
+    lines: &mut Vec<u8>,
     line: &CommandLine<'_>,
     text: &[u8],
     refusal: SettingsRefusal,
-) -> Result<Vec<u8>, AllocError> {
+) -> Result<(), AllocError> {
     match refused_value(alloc, line, text)? {
-        Some(origin) => explain_setting(alloc, refusal, origin),
-        None => Ok(Vec::new(alloc)),
+        Some(origin) => explain_setting(lines, refusal, origin),
+        None => Ok(()),
     }
 }
 
-/// Explains why the file of this name could not be read.
-fn explain_file(alloc: Global, name: &str, cause: ReadCause) -> Result<Vec<u8>, AllocError> {
-    let words = match cause {
+/// What is reported about a file of this name that could not be read.
+fn words_of(name: &str, cause: ReadCause) -> &'static str {
+    match cause {
         ReadCause::Missing if name.contains('=') =>
             "  there is no such file; an assignment is made by -v, before the program\n",
         ReadCause::Missing => "  there is no such file\n",
         ReadCause::Directory => "  it is a directory\n",
         ReadCause::Forbidden => "  you may not read it\n",
         ReadCause::Other => "",
-    };
-    Vec::from_slice(alloc, words.as_bytes())
+    }
 }
 
-/// Explains why nothing was run to its end.
+/// Appends the explanation of why nothing was run to its end.
 pub(crate) fn explain_stop(
     alloc: Global,
+    lines: &mut Vec<u8>,
     line: &CommandLine<'_>,
     script: &Script<'_>,
-    stop: &RunFailure,
-) -> Result<Vec<u8>, AllocError> {
+    stop: RunFailure<'_>,
+) -> Result<(), AllocError> {
     match stop {
-        RunFailure::Program(refusal) => explain_program(alloc, script, *refusal),
-        RunFailure::Settings(refusal) => explain_settings(alloc, line, script.text(), *refusal),
-        RunFailure::Read(name, cause) => explain_file(alloc, name.as_str(), *cause),
-        _ => Ok(Vec::new(alloc)),
+        RunFailure::Refused(StreamRefusal::Program(why)) => {
+            explain_program(alloc, lines, script, why)
+        }
+        RunFailure::Refused(StreamRefusal::Settings(why)) => {
+            explain_settings(alloc, lines, line, script.text(), why)
+        }
+        RunFailure::Read(name, cause) => lines.extend_from_slice(words_of(name, cause).as_bytes()),
+        _ => Ok(()),
     }
 }
 
@@ -94,23 +113,31 @@ struct ProgramWalk {
 }
 
 impl ProgramWalk {
-    /// Where it is after a mark.
-    fn after(self, mark: Mark) -> ProgramWalk {
-        match mark {
-            Mark::Begin => ProgramWalk {
+    /// Where it is after a token.
+    fn after(self, token: &Token) -> ProgramWalk {
+        match token {
+            Token::Mark(Mark::Begin) => ProgramWalk {
                 depth: self.depth,
                 is_begin: true,
             },
-            Mark::LeftBrace => ProgramWalk {
+            Token::Mark(Mark::LeftBrace) => ProgramWalk {
                 depth: self.depth.saturating_add(1),
                 is_begin: self.is_begin,
             },
-            Mark::RightBrace => ProgramWalk {
+            Token::Mark(Mark::RightBrace) => ProgramWalk {
                 depth: self.depth.saturating_sub(1),
                 is_begin: self.is_begin && self.depth > 1,
             },
             _ => self,
         }
+    }
+}
+
+/// Whether a token is the name RS.
+fn is_separator(token: &Token) -> bool {
+    match token {
+        Token::Name(name) => name.as_slice() == b"RS".as_slice(),
+        _ => false,
     }
 }
 
@@ -126,15 +153,10 @@ fn names_separator_after_begin(alloc: Global, text: &[u8]) -> bool {
         let Ok(Some(token)) = lexer.next() else {
             return false;
         };
-        match &token.value {
-            Token::Mark(mark) => walk = walk.after(*mark),
-            Token::Name(name) => {
-                if !walk.is_begin && name.as_slice() == b"RS".as_slice() {
-                    return true;
-                }
-            }
-            _ => {}
+        if !walk.is_begin && is_separator(&token.value) {
+            return true;
         }
+        walk = walk.after(&token.value);
     }
     false
 }
@@ -207,31 +229,33 @@ fn record_place<'a>(
     }))
 }
 
-/// Explains which way a run went.
-fn explain_route(alloc: Global, route: Route) -> Result<Vec<u8>, AllocError> {
+/// Appends the explanation of which way a run went.
+fn explain_route(lines: &mut Vec<u8>, route: Route) -> Result<(), AllocError> {
     match route {
-        Route::NoMain => explain_no_main(alloc),
-        Route::NotAdmitted(reason) => explain_reason(alloc, reason),
-        Route::Redo => explain_redo(alloc),
-        Route::Parallel => explain_parallel(alloc),
+        Route::NoMain => explain_no_main(lines),
+        Route::NotAdmitted(reason) => explain_reason(lines, reason),
+        Route::Redo => explain_redo(lines),
+        Route::Parallel => explain_parallel(lines),
     }
 }
 
-/// Explains how a run of the program of this text ended, and where `why` says so which way it went.
+/// Appends the explanation of how a run of the program of this text ended, and where `why` says so of which way it went.
 pub(crate) fn explain_end(
     alloc: Global,
+    lines: &mut Vec<u8>,
     text: &[u8],
     why: bool,
     remains: Remains<'_>,
     input: &mut Input,
-) -> Result<Vec<u8>, AllocError> {
-    let mut lines = Vec::new(alloc);
+) -> Result<(), AllocError> {
     if why {
-        lines.append(&mut explain_route(alloc, remains.route)?)?;
+        explain_route(lines, remains.route)?;
     }
-    if let Ending::Fault(fault, place) = remains.ending {
-        let record = record_place(alloc, text, place, remains, input)?;
-        lines.append(&mut explain_fault(alloc, fault, record)?)?;
+    match remains.ending {
+        Ending::Fault(fault, place) => {
+            let record = record_place(alloc, text, place, remains, input)?;
+            explain_fault(lines, fault, record)
+        }
+        _ => Ok(()),
     }
-    Ok(lines)
 }

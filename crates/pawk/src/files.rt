@@ -5,6 +5,7 @@ use crate::script::STANDARD_INPUT;
 use crate::stripes::{count_readers, read_stripes};
 use pawk_device::{ReadStop, Reader, read_all};
 use pawk_input::{Blocks, Input, TooLarge};
+use pawk_par::StreamRefusal;
 use std::alloc::Global;
 use std::fs::File;
 use std::io::Read;
@@ -73,36 +74,53 @@ where
 }
 
 /// Reads a stream to its end; a second time it is at its end.
-pub(crate) fn read_stream<I: Read>(alloc: Global, input: &mut I) -> Result<Vec<u8>, RunFailure> {
+pub(crate) fn read_stream<I: Read>(alloc: Global, input: &mut I) -> Result<Vec<u8>, StreamRefusal> {
     match read_all(alloc, &mut Reader::new(input)) {
         Ok(bytes) => Ok(bytes),
-        Err(ReadStop::Memory) => Err(RunFailure::Memory),
-        Err(ReadStop::Failed) => Err(RunFailure::Stream),
-        Err(ReadStop::TooLarge) => Err(RunFailure::Input),
+        Err(ReadStop::Memory) => Err(StreamRefusal::Memory),
+        Err(ReadStop::Failed) => Err(StreamRefusal::Read),
+        Err(ReadStop::TooLarge) => Err(StreamRefusal::Input),
     }
 }
 
-/// Reads a file to its end, by at most `workers` threads: its name in the program, which is empty for
-/// standard input, and its bytes.
-fn read_input<R, I>(
+/// Reads standard input to its end; in the program it has no name.
+fn read_standard<I: Read>(
+    alloc: Global,
+    input: &mut I,
+) -> Result<(Vec<u8>, Blocks), StreamRefusal> {
+    let bytes = read_stream(alloc, input)?;
+    Ok((Vec::new(alloc), Blocks::whole(alloc, bytes)?))
+}
+
+/// Reads a file to its end, by at most `workers` threads: its name and its bytes.
+fn read_named<R>(rt: &R, name: &str, workers: usize) -> io::Result<(Vec<u8>, Blocks)>
+where
+    R: Files + AllocGlobal + Threads + Wait,
+    R::File: FileExt + Sync,
+{
+    let bytes = Vec::from_slice(rt.alloc(), name.as_bytes())?;
+    Ok((bytes, read_blocks(rt, name, workers)?))
+}
+
+/// Reads a file to its end, by at most `workers` threads, or standard input where the name is `-`: its name in the
+/// program and its bytes.
+fn read_input<'a, R, I>(
     rt: &R,
-    name: &str,
+    name: &'a str,
     workers: usize,
     input: &mut I,
-) -> Result<(Vec<u8>, Blocks), RunFailure>
+) -> Result<(Vec<u8>, Blocks), RunFailure<'a>>
 where
     R: Files + AllocGlobal + Threads + Wait,
     R::File: FileExt + Sync,
     I: Read,
 {
-    let alloc = rt.alloc();
     if name == STANDARD_INPUT {
-        let bytes = read_stream(alloc, input)?;
-        return Ok((Vec::new(alloc), Blocks::whole(alloc, bytes)?));
+        return Ok(read_standard(rt.alloc(), input)?);
     }
-    match read_blocks(rt, name, workers) {
-        Ok(blocks) => Ok((Vec::from_slice(alloc, name.as_bytes())?, blocks)),
-        Err(error) => Err(RunFailure::read(alloc, name, &error)),
+    match read_named(rt, name, workers) {
+        Ok(file) => Ok(file),
+        Err(error) => Err(RunFailure::read(name, &error)),
     }
 }
 
@@ -110,12 +128,12 @@ where
 /// name is `-`. The first that cannot be read is reported.
 ///
 /// POSIX.1-2017, awk, "OPERANDS" and "STDIN".
-pub(crate) fn read_inputs<R, I>(
+pub(crate) fn read_inputs<'a, R, I>(
     rt: &R,
-    names: &[&str],
+    names: &[&'a str],
     workers: usize,
     input: &mut I,
-) -> Result<Input, RunFailure>
+) -> Result<Input, RunFailure<'a>>
 where
     R: Files + AllocGlobal + Threads + Wait,
     R::File: FileExt + Sync,
@@ -127,6 +145,6 @@ where
     }
     match Input::from_blocks(files) {
         Ok(input) => Ok(input),
-        Err(TooLarge) => Err(RunFailure::Input),
+        Err(TooLarge) => Err(RunFailure::Refused(StreamRefusal::Input)),
     }
 }

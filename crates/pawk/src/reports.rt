@@ -6,7 +6,7 @@ use clap::Error;
 use clap::error::ErrorKind;
 use pawk_explain::Script;
 use pawk_par::{SettingsRefusal, StreamRefusal, SyntaxRefusal};
-use pawk_threads::{Ending, Place, Refusal, Route};
+use pawk_threads::{Ending, Place, Route};
 use std::alloc::{AllocError, AllocFailed, Global};
 use std::io;
 use std::io::Write;
@@ -32,103 +32,48 @@ impl ReadCause {
     }
 }
 
+/// Output that could not be written; how much of it was written is not reported.
+pub(crate) const UNWRITTEN: StreamRefusal = StreamRefusal::Write(0);
+
 /// Why nothing was run to its end.
-#[derive(Drop)]
-pub(crate) enum RunFailure {
-    /// Memory was refused.
-    Memory,
-    /// A worker could not be started.
-    Thread,
-    /// The cutting has no plan.
-    Cutting,
-    /// The input is too large.
-    Input,
-    /// The text is no program that is read.
-    Program(SyntaxRefusal),
-    /// An assignment or the budget is refused.
-    Settings(SettingsRefusal),
-    /// A file of this name, as messages show it, could not be read, for this cause.
-    Read(String, ReadCause),
-    /// Standard input could not be read.
-    Stream,
-    /// The output could not be written.
-    Write,
-    /// The command line is at fault, or asks for help.
-    Line(Error),
+#[derive(Clone, Copy)]
+pub(crate) enum RunFailure<'a> {
+    /// The run was refused, or standard input or the output failed.
+    Refused(StreamRefusal),
+    /// The file of this name could not be read, for this cause.
+    Read(&'a str, ReadCause),
 }
 
-impl From<AllocError> for RunFailure {
-    fn from(_error: AllocError) -> RunFailure {
-        RunFailure::Memory
+impl<'a> From<StreamRefusal> for RunFailure<'a> {
+    fn from(refusal: StreamRefusal) -> RunFailure<'a> {
+        RunFailure::Refused(refusal)
     }
 }
 
-impl<T: Drop> From<AllocFailed<T>> for RunFailure {
-    fn from(_error: AllocFailed<T>) -> RunFailure {
-        RunFailure::Memory
+impl<'a> From<AllocError> for RunFailure<'a> {
+    fn from(error: AllocError) -> RunFailure<'a> {
+        RunFailure::Refused(StreamRefusal::from(error))
     }
 }
 
-impl From<Error> for RunFailure {
-    fn from(error: Error) -> RunFailure {
-        if error.kind() == ErrorKind::OutOfMemory {
-            RunFailure::Memory
-        } else {
-            RunFailure::Line(error)
-        }
+impl<'a, T: Drop> From<AllocFailed<T>> for RunFailure<'a> {
+    fn from(_error: AllocFailed<T>) -> RunFailure<'a> {
+        RunFailure::Refused(StreamRefusal::Memory)
     }
 }
 
-impl From<Refusal> for RunFailure {
-    fn from(refusal: Refusal) -> RunFailure {
-        match refusal {
-            Refusal::Memory => RunFailure::Memory,
-            Refusal::Thread => RunFailure::Thread,
-            Refusal::Cutting => RunFailure::Cutting,
-        }
-    }
-}
-
-impl From<StreamRefusal> for RunFailure {
-    fn from(refusal: StreamRefusal) -> RunFailure {
-        match refusal {
-            StreamRefusal::Memory => RunFailure::Memory,
-            StreamRefusal::Thread => RunFailure::Thread,
-            StreamRefusal::Cutting => RunFailure::Cutting,
-            StreamRefusal::Program(why) => RunFailure::Program(why),
-            StreamRefusal::Settings(why) => RunFailure::Settings(why),
-            StreamRefusal::Read => RunFailure::Stream,
-            StreamRefusal::Write(_) => RunFailure::Write,
-            StreamRefusal::Input => RunFailure::Input,
-        }
-    }
-}
-
-/// A file's name as messages show it: with `?` for each control character.
-fn printable(alloc: Global, name: &str) -> Result<String, AllocError> {
-    let mut text = String::with_capacity(alloc, name.len())?;
-    for character in name.chars() {
-        text.push(if character.is_control() {
-            '?'
-        } else {
-            character
-        })?;
-    }
-    Ok(text)
-}
-
-impl RunFailure {
-    /// A file that could not be read, or `Memory` where the name cannot be kept or the error says so.
-    pub(crate) fn read(alloc: Global, name: &str, error: &io::Error) -> RunFailure {
+impl<'a> RunFailure<'a> {
+    /// A file that could not be read, or a refusal of memory where the error says so.
+    pub(crate) fn read(name: &'a str, error: &io::Error) -> RunFailure<'a> {
         if error.kind() == io::ErrorKind::OutOfMemory {
-            return RunFailure::Memory;
+            return RunFailure::Refused(StreamRefusal::Memory);
         }
-        match printable(alloc, name) {
-            Ok(name) => RunFailure::Read(name, ReadCause::of(error)),
-            Err(_) => RunFailure::Memory,
-        }
+        RunFailure::Read(name, ReadCause::of(error))
     }
 }
+
+/// What is reported where memory was refused.
+const NO_MEMORY: &[u8] = b"pawk: refused: memory\n";
 
 /// The exit status of a run whose output nobody reads any more: what a shell shows where the signal PIPE
 /// ended a program.
@@ -137,26 +82,49 @@ const CLOSED: u8 = 141;
 /// Reports why nothing was run to its end, and gives the exit status. The script is what was read of the
 /// program's text.
 pub(crate) fn report_stop<O: Write, E: Write>(
-    alloc: Global,
-    stop: &RunFailure,
+    stop: RunFailure<'_>,
     script: &Script<'_>,
-    output: &mut Outlet<O>,
+    output: &Outlet<O>,
     errors: &mut E,
 ) -> io::Result<u8> {
     match stop {
-        RunFailure::Memory => errors.write_all(b"pawk: refused: memory\n")?,
-        RunFailure::Thread => errors.write_all(b"pawk: refused: thread\n")?,
-        RunFailure::Cutting => errors.write_all(b"pawk: refused: cutting\n")?,
-        RunFailure::Input => errors.write_all(b"pawk: refused: input\n")?,
-        RunFailure::Program(refusal) => report_program(*refusal, script, errors)?,
-        RunFailure::Settings(refusal) => report_settings(*refusal, errors)?,
-        RunFailure::Read(name, _) => writeln!(errors, "pawk: cannot read {name}")?,
-        RunFailure::Stream => errors.write_all(b"pawk: cannot read \n")?,
-        RunFailure::Write if output.is_closed() => return Ok(CLOSED),
-        RunFailure::Write => errors.write_all(b"pawk: cannot write\n")?,
-        RunFailure::Line(error) => return report_line(alloc, error, output, errors),
+        RunFailure::Refused(StreamRefusal::Write(_)) if output.is_closed() => return Ok(CLOSED),
+        RunFailure::Refused(refusal) => report_refusal(refusal, script, errors)?,
+        RunFailure::Read(name, _) => report_unread(name, errors)?,
     }
     Ok(2)
+}
+
+/// Reports a refusal, or that standard input or the output failed.
+fn report_refusal<E: Write>(
+    refusal: StreamRefusal,
+    script: &Script<'_>,
+    errors: &mut E,
+) -> io::Result<()> {
+    match refusal {
+        StreamRefusal::Memory => errors.write_all(NO_MEMORY),
+        StreamRefusal::Thread => errors.write_all(b"pawk: refused: thread\n"),
+        StreamRefusal::Cutting => errors.write_all(b"pawk: refused: cutting\n"),
+        StreamRefusal::Input => errors.write_all(b"pawk: refused: input\n"),
+        StreamRefusal::Program(why) => report_program(why, script, errors),
+        StreamRefusal::Settings(why) => report_settings(why, errors),
+        StreamRefusal::Read => errors.write_all(b"pawk: cannot read \n"),
+        StreamRefusal::Write(_) => errors.write_all(b"pawk: cannot write\n"),
+    }
+}
+
+/// Reports that the file of this name could not be read: with `?` for each control character of it.
+fn report_unread<E: Write>(name: &str, errors: &mut E) -> io::Result<()> {
+    errors.write_all(b"pawk: cannot read ")?;
+    for character in name.chars() {
+        let shown = if character.is_control() {
+            '?'
+        } else {
+            character
+        };
+        write!(errors, "{shown}")?;
+    }
+    errors.write_all(b"\n")
 }
 
 fn report_program<E: Write>(
@@ -170,7 +138,7 @@ fn report_program<E: Write>(
             let place = script.place(place);
             writeln!(errors, "pawk: program refused: {number} at byte {place}")
         }
-        None => errors.write_all(b"pawk: refused: memory\n"),
+        None => errors.write_all(NO_MEMORY),
     }
 }
 
@@ -179,17 +147,22 @@ fn report_settings<E: Write>(refusal: SettingsRefusal, errors: &mut E) -> io::Re
     writeln!(errors, "pawk: bad assignment: {number}")
 }
 
-/// Reports a fault of the command line; it begins as every message does.
-fn report_fault_of_line<E: Write>(alloc: Global, error: &Error, errors: &mut E) -> io::Result<u8> {
-    match format!(in alloc; "{error}") {
-        Ok(text) => {
-            let fault = text.as_str();
-            let rest = fault.strip_prefix("error: ").unwrap_or(fault);
-            write!(errors, "pawk: {rest}")?;
-        }
-        Err(_) => errors.write_all(b"pawk: refused: memory\n")?,
+/// The text of a fault of the command line, which begins as every message does.
+fn text_of_fault(alloc: Global, error: &Error) -> Result<String, AllocError> {
+    if error.kind() == ErrorKind::OutOfMemory {
+        return Err(AllocError);
     }
-    Ok(2)
+    format!(in alloc; "{error}")
+}
+
+/// Reports a fault of the command line; it begins as every message does.
+fn report_fault_of_words<E: Write>(alloc: Global, error: &Error, errors: &mut E) -> io::Result<()> {
+    let Ok(text) = text_of_fault(alloc, error) else {
+        return errors.write_all(NO_MEMORY);
+    };
+    let fault = text.as_str();
+    errors.write_all(b"pawk: ")?;
+    errors.write_all(fault.strip_prefix("error: ").unwrap_or(fault).as_bytes())
 }
 
 /// Writes help or the version, which were asked for.
@@ -198,15 +171,17 @@ fn write_help<O: Write>(error: &Error, output: &mut O) -> io::Result<()> {
     output.flush()
 }
 
-/// Reports the command line's own text: help that was asked for goes to the output.
-fn report_line<O: Write, E: Write>(
+/// Reports why the words of the command line were not read, and gives the exit status: help that was asked for goes to
+/// the output.
+pub(crate) fn report_words<O: Write, E: Write>(
     alloc: Global,
     error: &Error,
     output: &mut Outlet<O>,
     errors: &mut E,
 ) -> io::Result<u8> {
     if error.use_stderr() {
-        return report_fault_of_line(alloc, error, errors);
+        report_fault_of_words(alloc, error, errors)?;
+        return Ok(2);
     }
     if write_help(error, output).is_ok() {
         return Ok(0);
@@ -262,7 +237,7 @@ fn report_ending<E: Write>(ending: Ending, errors: &mut E) -> io::Result<u8> {
             Ok(2)
         }
         Ending::Disallowed => {
-            errors.write_all(b"pawk: refused: memory\n")?;
+            errors.write_all(NO_MEMORY)?;
             Ok(2)
         }
     }

@@ -10,22 +10,30 @@ use std::rt::Files;
 /// The name that standard input has among files.
 pub(crate) const STANDARD_INPUT: &str = "-";
 
+/// Reads a file, or standard input.
+fn read_text<'a, R: Files + AllocGlobal, I: Read>(
+    rt: &R,
+    name: &'a str,
+    input: &mut I,
+) -> Result<Vec<u8>, RunFailure<'a>> {
+    if name == STANDARD_INPUT {
+        return Ok(read_stream(rt.alloc(), input)?);
+    }
+    match read_file(rt, name) {
+        Ok(text) => Ok(text),
+        Err(error) => Err(RunFailure::read(name, &error)),
+    }
+}
+
 /// Appends the text of a file, or of standard input.
 fn append_file<'a, R: Files + AllocGlobal, I: Read>(
     rt: &R,
     script: &mut Script<'a>,
     name: &'a str,
     input: &mut I,
-) -> Result<(), RunFailure> {
-    let alloc = rt.alloc();
-    if name == STANDARD_INPUT {
-        let text = read_stream(alloc, input)?;
-        return Ok(script.append_file(name, text.as_slice())?);
-    }
-    match read_file(rt, name) {
-        Ok(text) => Ok(script.append_file(name, text.as_slice())?),
-        Err(error) => Err(RunFailure::read(alloc, name, &error)),
-    }
+) -> Result<(), RunFailure<'a>> {
+    let text = read_text(rt, name, input)?;
+    Ok(script.append_file(name, text.as_slice())?)
 }
 
 /// The program's text, out of the words or of its files, in which CR LF ends a line as LF does.
@@ -35,7 +43,7 @@ pub(crate) fn read_script<'a, R: Files + AllocGlobal, I: Read>(
     rt: &R,
     source: &ProgramSource<'a>,
     input: &mut I,
-) -> Result<Script<'a>, RunFailure> {
+) -> Result<Script<'a>, RunFailure<'a>> {
     let alloc = rt.alloc();
     match source {
         ProgramSource::Word(text) => Ok(Script::of_word(alloc, text.as_bytes())?),

@@ -26,7 +26,7 @@ const PART: usize = 32_768;
 const PIECE: usize = 4_096;
 
 /// How much more capacity a block has than its stripe: for the rest of a record that goes on in the next one.
-const ROOM_BEHIND: usize = 65_536;
+const ROOM_AFTER: usize = 65_536;
 
 /// How many threads read a file of this size, where at most `workers` may work.
 pub(crate) fn count_readers(size: usize, workers: usize) -> usize {
@@ -83,7 +83,7 @@ struct Rooms {
 
 /// A block with space for one of these stripes.
 fn block_for(alloc: Global, stripes: Stripes) -> Result<Block, AllocError> {
-    Block::with_capacity(alloc, stripes.each.saturating_add(ROOM_BEHIND))
+    Block::with_capacity(alloc, stripes.each.saturating_add(ROOM_AFTER))
 }
 
 impl Rooms {

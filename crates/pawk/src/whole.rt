@@ -7,12 +7,12 @@ use crate::command_line::{CommandLine, Tools};
 use crate::explanations::{Remains, explain_end};
 use crate::files::read_inputs;
 use crate::listing::append_globals;
-use crate::reports::{End, RunFailure};
+use crate::reports::{End, RunFailure, UNWRITTEN};
 use crate::script::STANDARD_INPUT;
 use crate::statistics::{ChunkCount, Moment, Moments, Statistics};
 use pawk_code::program::Code;
 use pawk_input::Input;
-use pawk_par::{Reader, Request, Writer, prepare, run_streams};
+use pawk_par::{Reader, Request, StreamRefusal, Writer, prepare, run_streams};
 use pawk_settings::Assignment;
 use pawk_store::Names;
 use pawk_syntax::{SyntaxRefusal, parse, show};
@@ -124,6 +124,11 @@ struct Wishes {
 }
 
 impl Wishes {
+    /// Whether the program and its settings are read, and nothing is run.
+    fn run_nothing(self) -> bool {
+        self.tools.check || self.tools.show
+    }
+
     /// Whether more is asked for than the output, the route and the fault.
     fn are_more(self) -> bool {
         self.explains || self.tools.globals || self.tools.statistics
@@ -168,6 +173,65 @@ struct Shown {
     lines: Vec<u8>,
 }
 
+impl Shown {
+    /// What a run that left this shows, beside these lines.
+    fn new(outcome: Outcome, route: Route, lines: Vec<u8>) -> Shown {
+        Shown {
+            output: outcome.output,
+            ending: outcome.ending,
+            route,
+            records: outcome.specials.nr,
+            lines,
+        }
+    }
+
+    /// Writes the output, and gives the end of the run.
+    fn write<O: Write>(self, output: &mut O) -> Result<End, StreamRefusal> {
+        if write_parts(output, self.output).is_err() {
+            return Err(UNWRITTEN);
+        }
+        Ok(End {
+            ending: self.ending,
+            route: Some(self.route),
+            lines: self.lines,
+            statistics: None,
+        })
+    }
+}
+
+/// Appends the lines that follow the report of a run: how it ended, in words, and the final variables.
+fn append_more(
+    alloc: Global,
+    lines: &mut Vec<u8>,
+    ready: Ready<'_>,
+    outcome: &Outcome,
+    route: Route,
+    input: &mut Input,
+) -> Result<(), AllocError> {
+    let specials = &outcome.specials;
+    let globals = outcome.globals.list(alloc, ready.names(), specials)?;
+    if ready.wishes.explains {
+        let remains = Remains {
+            ending: outcome.ending,
+            route,
+            globals: globals.as_slice(),
+            specials,
+        };
+        explain_end(
+            alloc,
+            lines,
+            ready.request.text,
+            ready.wishes.tools.why,
+            remains,
+            input,
+        )?;
+    }
+    if ready.wishes.tools.globals {
+        append_globals(lines, globals.as_slice())?;
+    }
+    Ok(())
+}
+
 /// The lines that follow the report of a run.
 fn more_lines(
     alloc: Global,
@@ -177,29 +241,8 @@ fn more_lines(
     input: &mut Input,
 ) -> Result<Vec<u8>, AllocError> {
     let mut lines = Vec::new(alloc);
-    if !ready.wishes.are_more() {
-        return Ok(lines);
-    }
-    let globals = outcome
-        .globals
-        .list(alloc, ready.names(), &outcome.specials)?;
-    if ready.wishes.explains {
-        let remains = Remains {
-            ending: outcome.ending,
-            route,
-            globals: globals.as_slice(),
-            specials: &outcome.specials,
-        };
-        lines = explain_end(
-            alloc,
-            ready.request.text,
-            ready.wishes.tools.why,
-            remains,
-            input,
-        )?;
-    }
-    if ready.wishes.tools.globals {
-        append_globals(&mut lines, globals.as_slice())?;
+    if ready.wishes.are_more() {
+        append_more(alloc, &mut lines, ready, outcome, route, input)?;
     }
     Ok(lines)
 }
@@ -211,7 +254,7 @@ fn show_run<R: Threads + Wait>(
     ready: Ready<'_>,
     gate: &ChunkCount,
     input: &mut Input,
-) -> Result<Shown, RunFailure>
+) -> Result<Shown, StreamRefusal>
     requires sized { IsSized ready.request.cutting.now }
     requires workers { IsCrew ready.request.workers }
 {
@@ -222,23 +265,17 @@ fn show_run<R: Threads + Wait>(
     let assignments = ready.assignments;
     let (outcome, report) = run(rt, alloc, ready.job(), assignments, input, way, gate)?;
     let lines = more_lines(alloc, ready, &outcome, report.route, input)?;
-    Ok(Shown {
-        output: outcome.output,
-        ending: outcome.ending,
-        route: report.route,
-        records: outcome.specials.nr,
-        lines,
-    })
+    Ok(Shown::new(outcome, report.route, lines))
 }
 
 /// The input of a program: the files that are named, or standard input; none where no record is read.
-fn open_inputs<R, I>(
+fn open_inputs<'a, R, I>(
     rt: &R,
-    line: &CommandLine<'_>,
+    line: &CommandLine<'a>,
     text: &[u8],
     job: Job<'_>,
     input: &mut I,
-) -> Result<Input, RunFailure>
+) -> Result<Input, RunFailure<'a>>
 where
     R: Files + AllocGlobal + Threads + Wait,
     R::File: FileExt + Sync,
@@ -249,7 +286,8 @@ where
     }
     let workers = readers(line, text);
     if line.files.is_empty() {
-        return read_inputs(rt, &[STANDARD_INPUT], workers, input);
+        let standard: &'a str = STANDARD_INPUT;
+        return read_inputs(rt, &[standard], workers, input);
     }
     read_inputs(rt, line.files.as_slice(), workers, input)
 }
@@ -263,15 +301,52 @@ fn size_of(input: &Input) -> u64 {
     size
 }
 
-/// Runs what is ready over its input, and writes its output. The reading of the input began at this moment.
-fn run_ready<R, I, O>(
+/// Runs what is ready over this input, and writes its output. The reading of the input began at this moment.
+fn run_inputs<R: Threads + Wait + AllocGlobal + Clock, O: Write>(
     rt: &R,
     line: &CommandLine<'_>,
     ready: Ready<'_>,
     start: Moment,
+    input: &mut Input,
+    output: &mut O,
+) -> Result<End, StreamRefusal>
+    requires sized { IsSized ready.request.cutting.now }
+    requires workers { IsCrew ready.request.workers }
+{
+    let read = Moment::now(rt);
+    let gate = ChunkCount::new();
+    let shown = show_run(rt, rt.alloc(), ready, &gate, input)?;
+    let ran = Moment::now(rt);
+    let (route, records) = (shown.route, shown.records);
+    let mut end = shown.write(output)?;
+    if ready.wishes.tools.statistics {
+        end.statistics = Some(Statistics {
+            route,
+            workers: if gate.get() == 0 { 1 } else { line.workers },
+            chunks: gate.get(),
+            records,
+            bytes: size_of(input),
+            moments: Moments {
+                start,
+                read,
+                ran,
+                written: Moment::now(rt),
+            },
+        });
+    }
+    Ok(end)
+}
+
+/// Runs what is ready over the files that are named, or over standard input, and writes its output. The reading of the
+/// input begins at this moment.
+fn run_ready<'a, R, I, O>(
+    rt: &R,
+    line: &CommandLine<'a>,
+    ready: Ready<'_>,
+    start: Moment,
     input: &mut I,
     output: &mut O,
-) -> Result<End, RunFailure>
+) -> Result<End, RunFailure<'a>>
 where
     R: Files + AllocGlobal + Threads + Wait + Clock,
     R::File: FileExt + Sync,
@@ -281,60 +356,7 @@ where
     requires workers { IsCrew ready.request.workers }
 {
     let mut inputs = open_inputs(rt, line, ready.request.text, ready.job(), input)?;
-    let read = Moment::now(rt);
-    let gate = ChunkCount::new();
-    let shown = show_run(rt, rt.alloc(), ready, &gate, &mut inputs)?;
-    let ran = Moment::now(rt);
-    if write_parts(output, shown.output).is_err() {
-        return Err(RunFailure::Write);
-    }
-    let statistics = Statistics {
-        route: shown.route,
-        workers: if gate.get() == 0 { 1 } else { line.workers },
-        chunks: gate.get(),
-        records: shown.records,
-        bytes: size_of(&inputs),
-        moments: Moments {
-            start,
-            read,
-            ran,
-            written: Moment::now(rt),
-        },
-    };
-    Ok(End {
-        ending: shown.ending,
-        route: Some(shown.route),
-        lines: shown.lines,
-        statistics: ready.wishes.tools.statistics.then_some(statistics),
-    })
-}
-
-/// Runs a request over the files that are named, or over standard input, and writes its output.
-fn run_files<R, I, O>(
-    rt: &R,
-    line: &CommandLine<'_>,
-    request: Request<'_>,
-    wishes: Wishes,
-    input: &mut I,
-    output: &mut O,
-) -> Result<End, RunFailure>
-where
-    R: Files + AllocGlobal + Threads + Wait + Clock,
-    R::File: FileExt + Sync,
-    I: Read,
-    O: Write,
-    requires sized { IsSized request.cutting.now }
-    requires workers { IsCrew request.workers }
-{
-    let start = Moment::now(rt);
-    let (code, settings) = prepare(rt.alloc(), &request)?;
-    let ready = Ready {
-        request,
-        wishes,
-        code: &code,
-        assignments: settings.assignments(),
-    };
-    run_ready(rt, line, ready, start, input, output)
+    Ok(run_inputs(rt, line, ready, start, &mut inputs, output)?)
 }
 
 /// Runs a request over a stream, and writes its output.
@@ -344,7 +366,7 @@ fn run_stream<R: Threads + Wait, I: Read, O: Write>(
     request: Request<'_>,
     input: &mut I,
     output: &mut O,
-) -> Result<End, RunFailure>
+) -> Result<End, StreamRefusal>
     requires sized { IsSized request.cutting.now }
     requires workers { IsCrew request.workers }
 {
@@ -359,30 +381,28 @@ fn run_stream<R: Threads + Wait, I: Read, O: Write>(
     })
 }
 
-/// Writes the canonical text of a program.
-fn write_program<O: Write>(alloc: Global, text: &[u8], output: &mut O) -> Result<(), RunFailure> {
-    let program = match parse(alloc, text) {
-        Ok(program) => program,
-        Err(SyntaxRefusal::Memory) => return Err(RunFailure::Memory),
-        Err(refusal) => return Err(RunFailure::Program(refusal)),
-    };
-    let canonical = show(alloc, &program)?;
-    if output.write_all(canonical.as_slice()).is_err() {
-        return Err(RunFailure::Write);
+/// The canonical text of a program.
+fn canonical(alloc: Global, text: &[u8]) -> Result<Vec<u8>, StreamRefusal> {
+    match parse(alloc, text) {
+        Ok(program) => Ok(show(alloc, &program)?),
+        Err(SyntaxRefusal::Memory) => Err(StreamRefusal::Memory),
+        Err(why) => Err(StreamRefusal::Program(why)),
     }
-    Ok(())
 }
 
-/// Reads a request's program and its settings, and writes the program where that is asked for.
+/// Writes the canonical text of a program that was read, where that is asked for, and runs nothing.
 fn check<O: Write>(
     alloc: Global,
     tools: Tools,
-    request: Request<'_>,
+    text: &[u8],
     output: &mut O,
-) -> Result<End, RunFailure> {
-    let _ = prepare(alloc, &request)?;
-    if tools.show {
-        write_program(alloc, request.text, output)?;
+) -> Result<End, StreamRefusal> {
+    if tools.show
+        && output
+            .write_all(canonical(alloc, text)?.as_slice())
+            .is_err()
+    {
+        return Err(UNWRITTEN);
     }
     Ok(End {
         ending: Ending::Status(0),
@@ -392,39 +412,90 @@ fn check<O: Write>(
     })
 }
 
-/// Does with the program of this text what is asked for: reads it alone, or runs it over the files that are
-/// named, or where there are none over standard input, and writes its output.
-pub(crate) fn run_whole<R, I, O>(
+/// Reads a request's program and its settings, and runs it over the files that are named, or over standard input, or
+/// runs nothing where that is asked for.
+fn run_files<'a, R, I, O>(
     rt: &R,
-    line: &CommandLine<'_>,
-    text: &[u8],
-    explains: bool,
+    line: &CommandLine<'a>,
+    request: Request<'_>,
+    wishes: Wishes,
     input: &mut I,
     output: &mut O,
-) -> Result<End, RunFailure>
+) -> Result<End, RunFailure<'a>>
+where
+    R: Files + AllocGlobal + Threads + Wait + Clock,
+    R::File: FileExt + Sync,
+    I: Read,
+    O: Write,
+    requires sized { IsSized request.cutting.now }
+    requires workers { IsCrew request.workers }
+{
+    let start = Moment::now(rt);
+    let (code, settings) = prepare(rt.alloc(), &request)?;
+    if wishes.run_nothing() {
+        return Ok(check(rt.alloc(), wishes.tools, request.text, output)?);
+    }
+    let ready = Ready {
+        request,
+        wishes,
+        code: &code,
+        assignments: settings.assignments(),
+    };
+    run_ready(rt, line, ready, start, input, output)
+}
+
+/// Does with the program of this text what is asked for, with these assignments: reads it alone, or runs it over the
+/// files that are named, or where there are none over standard input, and writes its output.
+fn run_assigned<'a, R, I, O>(
+    rt: &R,
+    line: &CommandLine<'a>,
+    text: &[u8],
+    assigns: &[(Vec<u8>, Vec<u8>)],
+    wishes: Wishes,
+    input: &mut I,
+    output: &mut O,
+) -> Result<End, RunFailure<'a>>
 where
     R: Files + AllocGlobal + Threads + Wait + Clock,
     R::File: FileExt + Sync,
     I: Read,
     O: Write,
 {
-    let alloc = rt.alloc();
-    let assigns = assignments(alloc, line)?;
     let cutting = Cutting::Size(line.chunk);
     let request = Request {
         text,
-        assigns: assigns.as_slice(),
+        assigns,
         budget: line.steps,
         cutting: &cutting,
         workers: usize::from(line.workers),
     };
-    let tools = line.tools;
-    let wishes = Wishes { tools, explains };
-    if tools.check || tools.show {
-        check(alloc, tools, request, output)
-    } else if line.files.is_empty() && !wishes.are_more() {
-        run_stream(rt, alloc, request, input, output)
+    if line.files.is_empty() && !wishes.are_more() && !wishes.run_nothing() {
+        Ok(run_stream(rt, rt.alloc(), request, input, output)?)
     } else {
         run_files(rt, line, request, wishes, input, output)
     }
+}
+
+/// Does with the program of this text what is asked for: reads it alone, or runs it over the files that are
+/// named, or where there are none over standard input, and writes its output.
+pub(crate) fn run_whole<'a, R, I, O>(
+    rt: &R,
+    line: &CommandLine<'a>,
+    text: &[u8],
+    explains: bool,
+    input: &mut I,
+    output: &mut O,
+) -> Result<End, RunFailure<'a>>
+where
+    R: Files + AllocGlobal + Threads + Wait + Clock,
+    R::File: FileExt + Sync,
+    I: Read,
+    O: Write,
+{
+    let assigns = assignments(rt.alloc(), line)?;
+    let wishes = Wishes {
+        tools: line.tools,
+        explains,
+    };
+    run_assigned(rt, line, text, assigns.as_slice(), wishes, input, output)
 }

@@ -59,20 +59,20 @@ less_by (suc n) h (x ∷ xs) (y ∷ ys) p q below =
           let no = stays_below n (h * 256 + y) (h * 256 + x) ys xs (other_bytes y ys q) (other_bytes x xs p) (omega (arith, above)) in
           absurd (omega (arith, below, no))
 
-head_behind : (bs : List ℕ) → head_of bs ≡ behind 8 0 bs
-head_behind [] = refl
-head_behind (a ∷ []) = omega arith
-head_behind (a ∷ b ∷ []) = omega arith
-head_behind (a ∷ b ∷ c ∷ []) = omega arith
-head_behind (a ∷ b ∷ c ∷ d ∷ []) = omega arith
-head_behind (a ∷ b ∷ c ∷ d ∷ e ∷ []) = omega arith
-head_behind (a ∷ b ∷ c ∷ d ∷ e ∷ f ∷ []) = omega arith
-head_behind (a ∷ b ∷ c ∷ d ∷ e ∷ f ∷ g ∷ []) = omega arith
-head_behind (a ∷ b ∷ c ∷ d ∷ e ∷ f ∷ g ∷ h ∷ more) = omega arith
+head_after : (bs : List ℕ) → head_of bs ≡ behind 8 0 bs
+head_after [] = refl
+head_after (a ∷ []) = omega arith
+head_after (a ∷ b ∷ []) = omega arith
+head_after (a ∷ b ∷ c ∷ []) = omega arith
+head_after (a ∷ b ∷ c ∷ d ∷ []) = omega arith
+head_after (a ∷ b ∷ c ∷ d ∷ e ∷ []) = omega arith
+head_after (a ∷ b ∷ c ∷ d ∷ e ∷ f ∷ []) = omega arith
+head_after (a ∷ b ∷ c ∷ d ∷ e ∷ f ∷ g ∷ []) = omega arith
+head_after (a ∷ b ∷ c ∷ d ∷ e ∷ f ∷ g ∷ h ∷ more) = omega arith
 
 -- where the first bytes as numbers differ, the texts are in their order
 pub head_less : (xs ys : List ℕ) → AreBytes xs → AreBytes ys → head_of xs < head_of ys → order xs ys ≡ Less
-head_less xs ys p q below = less_by 8 0 xs ys p q (omega (arith, below, head_behind xs, head_behind ys))
+head_less xs ys p q below = less_by 8 0 xs ys p q (omega (arith, below, head_after xs, head_after ys))
 
 pub head_greater : (xs ys : List ℕ) → AreBytes xs → AreBytes ys → head_of ys < head_of xs → order xs ys ≡ Greater
 head_greater xs ys p q below = total.antisymm xs ys ∙ ap ordering_reverse (head_less ys xs q p below)

@@ -6,7 +6,7 @@ use Rattle.pawk_ere_automaton.specs.Expand.{expand}
 use Rattle.pawk_ere_automaton.specs.Regex.{Regex}
 use Rattle.pawk_ere_automaton.proofs.Shift.{forward, within}
 use Rattle.pawk_ere_automaton.proofs.Turns.{expand_if}
-use Rattle.pawk_ere.specs.Kept.{IsAnswerOfText}
+use Rattle.pawk_ere.specs.Caches.{IsAnswerOfText}
 use Rattle.pawk_value.specs.Fault.{Fault}
 use Rattle.pawk_value.specs.Fault.TheVariants as faults
 use Rattle.pawk_scalar.specs.declared.faults.Stop.{Stop}

@@ -85,8 +85,8 @@ none_up_to s t from end some before none k low high at = elim (cases_lt k from) 
 ]
 
 -- it occurs at a place just where the text from there begins with it
-pub occurs_behind : (s t : List ℕ) (k : ℕ) → k ≤ length s → OccursAt (drop k s) t 0 → OccursAt s t k
-occurs_behind s t k le at = record {
+pub occurs_after : (s t : List ℕ) (k : ℕ) → k ≤ length s → OccursAt (drop k s) t 0 → OccursAt s t k
+occurs_after s t k le at = record {
   fits = omega (arith, at.fits, length-drop k s);
   reads = λ j below. sym (get_or-drop k s j 0) ∙ byte_at (drop k s) t 0 j j at (omega arith) below;
 }

@@ -12,7 +12,7 @@ use Rattle.pawk_ere_automaton.specs.Table.{ends_with}
 use Rattle.pawk_fields.specs.Search.{find, first_match, last_end, longest_end, match_or}
 use Rattle.pawk_fields.proofs.SearchLemmas.{cons_at, nil_at, find_law_lem}
 use Rattle.pawk_semantics.specs.Builtins.{Replaced, replaced, replaced_at, replacement, replace_from, replace_here, replace_end, onto, one_more}
-use Rattle.pawk_builtins.specs.ReplaceWalks.{replaced_behind, from_behind, is_behind, match_replaced, found_replaced, is_used, IsAhead, IsNextReplaced, IsLaidOut}
+use Rattle.pawk_builtins.specs.ReplaceWalks.{replaced_after, from_after, is_past, match_replaced, found_replaced, is_used, IsAhead, IsNextReplaced, IsLaidOut}
 use Rattle.pawk_builtins.specs.Replaces.{Left}
 use Rattle.pawk_ere.specs.Answers.{IsAnswer}
 use Rattle.pawk_builtins.proofs.MatchLemmas.{find_inside, first_within}
@@ -130,23 +130,23 @@ slice_none s i j h = let n : j - i ≡ 0 = omega arith in ap (λ n. take n (drop
 
 module _ (e : Pattern) (r s : List ℕ) where
   abbrev From : ℕ → Bool → Replaced
-  From p behind = replaced_behind e r s p behind
+  From p behind = replaced_after e r s p behind
 
   abbrev TailIs : ℕ × ℕ → List ℕ → Type 0
   TailIs m rest = Tail (expand e) r m.0 m.1 rest ≡ record {
-    text = replacement (slice_range s m.0 m.1) r ++ (slice_range s m.1 (from_behind s m) ++ (From (from_behind s m) (is_behind s m)).text);
-    count = (From (from_behind s m) (is_behind s m)).count + 1;
+    text = replacement (slice_range s m.0 m.1) r ++ (slice_range s m.1 (from_after s m) ++ (From (from_after s m) (is_past s m)).text);
+    count = (From (from_after s m) (is_past s m)).count + 1;
   }
 
   -- what is written after a match, at another place with the same meaning
-  same_from : (m : ℕ × ℕ) (from : ℕ) (behind : Bool) → from_behind s m ≡ from → is_behind s m ≡ behind → (t : Replaced) →
+  same_from : (m : ℕ × ℕ) (from : ℕ) (behind : Bool) → from_after s m ≡ from → is_past s m ≡ behind → (t : Replaced) →
       t ≡ record { text = replacement (slice_range s m.0 m.1) r ++ (slice_range s m.1 from ++ (From from behind).text); count = (From from behind).count + 1 } →
       t ≡ record {
-        text = replacement (slice_range s m.0 m.1) r ++ (slice_range s m.1 (from_behind s m) ++ (From (from_behind s m) (is_behind s m)).text);
-        count = (From (from_behind s m) (is_behind s m)).count + 1;
+        text = replacement (slice_range s m.0 m.1) r ++ (slice_range s m.1 (from_after s m) ++ (From (from_after s m) (is_past s m)).text);
+        count = (From (from_after s m) (is_past s m)).count + 1;
       }
   same_from m from behind f b t h = subst
-      (λ (n : ℕ). t ≡ record { text = replacement (slice_range s m.0 m.1) r ++ (slice_range s m.1 n ++ (From n (is_behind s m)).text); count = (From n (is_behind s m)).count + 1 }) (sym f)
+      (λ (n : ℕ). t ≡ record { text = replacement (slice_range s m.0 m.1) r ++ (slice_range s m.1 n ++ (From n (is_past s m)).text); count = (From n (is_past s m)).count + 1 }) (sym f)
       (subst (λ (v : Bool). t ≡ record { text = replacement (slice_range s m.0 m.1) r ++ (slice_range s m.1 from ++ (From from v).text); count = (From from v).count + 1 }) (sym b) h)
 
   -- the text ends after an empty match
@@ -155,8 +155,8 @@ module _ (e : Pattern) (r s : List ℕ) where
   tail_end i end is =
       let no : ltb i i ≡ false = le-ltb i i (omega arith) in
       let last : ltb i (length s) ≡ false = le-ltb i (length s) (omega arith) in
-      let f : from_behind s (i, i) ≡ i = cond-false _ _ _ no ∙ cond-false _ _ _ last in
-      let b : is_behind s (i, i) ≡ true = ap (λ v. v || not (ltb i (length s))) no ∙ ap (λ v. not v) last in
+      let f : from_after s (i, i) ≡ i = cond-false _ _ _ no ∙ cond-false _ _ _ last in
+      let b : is_past s (i, i) ≡ true = ap (λ v. v || not (ltb i (length s))) no ∙ ap (λ v. not v) last in
       let empty = slice_none s i i (omega arith) in
       let over : From i true ≡ record { text = []; count = 0 } = ap (λ t. replace_from (expand e) r i 0 true t) is in
       same_from (i, i) i true f b _
@@ -168,8 +168,8 @@ module _ (e : Pattern) (r s : List ℕ) where
   tail_some : (i j b : ℕ) (rest : List ℕ) → i < j → j ≤ length s → drop i s ≡ b ∷ rest → TailIs (i, j) (b ∷ rest)
   tail_some i j b rest lt high is =
       let yes : ltb i j ≡ true = lt-ltb i j lt in
-      let f : from_behind s (i, j) ≡ j = cond-true _ _ _ yes in
-      let v : is_behind s (i, j) ≡ true = ap (λ v. v || not (ltb j (length s))) yes in
+      let f : from_after s (i, j) ≡ j = cond-true _ _ _ yes in
+      let v : is_past s (i, j) ≡ true = ap (λ v. v || not (ltb j (length s))) yes in
       let empty = slice_none s j j (omega arith) in
       let at = cons_at s i b rest (omega arith) is in
       let place : suc i + (j - i - 1) ≡ j = omega arith in
@@ -192,8 +192,8 @@ module _ (e : Pattern) (r s : List ℕ) where
   tail_none i b rest lt is =
       let no : ltb i i ≡ false = le-ltb i i (omega arith) in
       let more : ltb i (length s) ≡ true = lt-ltb i (length s) lt in
-      let f : from_behind s (i, i) ≡ i + 1 = cond-false _ _ _ no ∙ cond-true _ _ _ more in
-      let v : is_behind s (i, i) ≡ false = ap (λ v. v || not (ltb i (length s))) no ∙ ap (λ v. not v) more in
+      let f : from_after s (i, i) ≡ i + 1 = cond-false _ _ _ no ∙ cond-true _ _ _ more in
+      let v : is_past s (i, i) ≡ false = ap (λ v. v || not (ltb i (length s))) no ∙ ap (λ v. not v) more in
       let empty = slice_none s i i (omega arith) in
       let at = cons_at s i b rest (omega arith) is in
       let one : i + 1 - i ≡ 1 = omega arith in
@@ -239,13 +239,13 @@ next_plain e s p behind (Some m) w is counts r =
     ∙ ap (λ t. onto (slice_range s p m.0) t) (ap (Tail (expand e) r m.0 m.1) rest ∙ tail_is e r s m at.ordered at.high))
 
 -- the empty match where another ended is passed over
-passed : (e : Pattern) (s : List ℕ) (p : ℕ) (m : ℕ × ℕ) (b : ℕ) (rest : List ℕ) → p ≤ length s → drop p s ≡ b ∷ rest → find e s p ≡ Some m → m.1 ≡ p → (r : List ℕ) → replaced_behind e r s p true ≡ onto (b ∷ []) (replaced_behind e r s (p + 1) false)
+passed : (e : Pattern) (s : List ℕ) (p : ℕ) (m : ℕ × ℕ) (b : ℕ) (rest : List ℕ) → p ≤ length s → drop p s ≡ b ∷ rest → find e s p ≡ Some m → m.1 ≡ p → (r : List ℕ) → replaced_after e r s p true ≡ onto (b ∷ []) (replaced_after e r s (p + 1) false)
 unfolding find first_match replace_from
 passed e s p m b rest w is found same r =
     ap (λ t. replace_from (expand e) r p 0 true t) is
     ∙ (go (longest_end (expand e) p (b ∷ rest)) (ap (λ t. first_match (expand e) p t) (sym is) ∙ found) ∙ ap (onto (b ∷ [])) next)
   where
-    next : replace_from (expand e) r (suc p) 0 false rest ≡ replaced_behind e r s (p + 1) false
+    next : replace_from (expand e) r (suc p) 0 false rest ≡ replaced_after e r s (p + 1) false
     next =
         let n : suc p ≡ p + 1 = omega arith in
         ap (λ n. replace_from (expand e) r n 0 false rest) n ∙ ap (λ t. replace_from (expand e) r (p + 1) 0 false t) (sym (cons_at s p b rest w is).behind)
@@ -281,31 +281,31 @@ next_passed e s p m o w found same is r = go (drop p s) refl
     join b rest h None is = join_none s p b rest (omega arith) h
     join b rest h (Some n) is =
         let at = find_inside e s (p + 1) n (omega arith) is in
-        let rest_of = match_replaced r s (p + 1) n (replaced_behind e r s (from_behind s n) (is_behind s n)) in
+        let rest_of = match_replaced r s (p + 1) n (replaced_after e r s (from_after s n) (is_past s n)) in
         ap (λ t. record {
-          text = t ++ (replacement (slice_range s n.0 n.1) r ++ (slice_range s n.1 (from_behind s n) ++ (replaced_behind e r s (from_behind s n) (is_behind s n)).text));
-          count = (replaced_behind e r s (from_behind s n) (is_behind s n)).count + 1;
+          text = t ++ (replacement (slice_range s n.0 n.1) r ++ (slice_range s n.1 (from_after s n) ++ (replaced_after e r s (from_after s n) (is_past s n)).text));
+          count = (replaced_after e r s (from_after s n) (is_past s n)).count + 1;
         }) (join_slice s p b n.0 rest at.after (omega arith) h)
 
-    go : (t : List ℕ) → drop p s ≡ t → replaced_behind e r s p true ≡ found_replaced e r s p o
+    go : (t : List ℕ) → drop p s ≡ t → replaced_after e r s p true ≡ found_replaced e r s p o
     go [] h = absurd (let n = length-drop p s in let k : length (drop p s) ≡ 0 = ap length h in omega arith)
     go (b ∷ rest) h = passed e s p m b rest (omega arith) h found same r
         ∙ (ap (onto (b ∷ [])) (next_plain e s (p + 1) false o (omega arith) is (λ m h no. absurd cc) r) ∙ join b rest h o is)
 
 -- ---- the text that is written
 
-pub laid_first : (e : Pattern) (r s : List ℕ) → IsLaidOut (replaced All e r s) s [] 0 0 0 (replaced_behind e r s 0 false)
+pub laid_first : (e : Pattern) (r s : List ℕ) → IsLaidOut (replaced All e r s) s [] 0 0 0 (replaced_after e r s 0 false)
 laid_first e r s = record { text = refl; number = sym (zero-add _) }
 
 -- a match more
 pub laid_more : (e : Pattern) (r s : List ℕ) (whole : Replaced) (out : List ℕ) (place from count : ℕ) (behind : Bool) (m : ℕ × ℕ) → place ≤ from → from ≤ m.0 →
-    IsLaidOut whole s out place from count (replaced_behind e r s from behind) → IsNextReplaced e s from behind (Some m) →
-    IsLaidOut whole s (out ++ slice_range s place m.0 ++ replacement (slice_range s m.0 m.1) r) m.1 (from_behind s m) (count + 1) (replaced_behind e r s (from_behind s m) (is_behind s m))
+    IsLaidOut whole s out place from count (replaced_after e r s from behind) → IsNextReplaced e s from behind (Some m) →
+    IsLaidOut whole s (out ++ slice_range s place m.0 ++ replacement (slice_range s m.0 m.1) r) m.1 (from_after s m) (count + 1) (replaced_after e r s (from_after s m) (is_past s m))
 laid_more e r s whole out place from count behind m low high laid next =
     let gives = next r in
-    let rest = replaced_behind e r s (from_behind s m) (is_behind s m) in
+    let rest = replaced_after e r s (from_after s m) (is_past s m) in
     let there = replacement (slice_range s m.0 m.1) r in
-    let later = slice_range s m.1 (from_behind s m) ++ rest.text in
+    let later = slice_range s m.1 (from_after s m) ++ rest.text in
     let texts = ap (λ (x : Replaced). x.text) gives in
     let counts = ap (λ (x : Replaced). x.count) gives in
     record {
@@ -325,7 +325,7 @@ laid_more e r s whole out place from count behind m low high laid next =
 
 -- no match more
 pub laid_all : (e : Pattern) (r s : List ℕ) (whole : Replaced) (out : List ℕ) (place from count : ℕ) (behind : Bool) → place ≤ from →
-    IsLaidOut whole s out place from count (replaced_behind e r s from behind) → IsNextReplaced e s from behind None → (whole.count ≡ count) × (whole.text ≡ out ++ drop place s)
+    IsLaidOut whole s out place from count (replaced_after e r s from behind) → IsNextReplaced e s from behind None → (whole.count ≡ count) × (whole.text ≡ out ++ drop place s)
 laid_all e r s whole out place from count behind low laid next =
     let gives = next r in
     let texts = ap (λ (x : Replaced). x.text) gives in
@@ -337,16 +337,16 @@ pub count_within : (e : Pattern) (r s : List ℕ) → (replaced All e r s).count
 count_within e r s = count_from (expand e) r s 0 0 false
 
 pub laid_step : (e : Pattern) (r s : List ℕ) (whole : Replaced) (out : List ℕ) (place from count : ℕ) (behind : Bool) (m : ℕ × ℕ) (new : List ℕ) (next : ℕ × Bool) → place ≤ from → IsAhead s from behind m →
-    IsLaidOut whole s out place from count (replaced_behind e r s from behind) → IsNextReplaced e s from behind (Some m) →
-    new ≡ out ++ slice_range s place m.0 ++ replacement (slice_range s m.0 m.1) r → next ≡ (from_behind s m, is_behind s m) →
-    IsLaidOut whole s new m.1 next.0 (count + 1) (replaced_behind e r s next.0 next.1)
+    IsLaidOut whole s out place from count (replaced_after e r s from behind) → IsNextReplaced e s from behind (Some m) →
+    new ≡ out ++ slice_range s place m.0 ++ replacement (slice_range s m.0 m.1) r → next ≡ (from_after s m, is_past s m) →
+    IsLaidOut whole s new m.1 next.0 (count + 1) (replaced_after e r s next.0 next.1)
 laid_step e r s whole out place from count behind m new next low ahead laid found is goes_on =
-    subst (λ (t : List ℕ). IsLaidOut whole s t m.1 next.0 (count + 1) (replaced_behind e r s next.0 next.1)) (sym is)
-    (subst (λ (b : ℕ × Bool). IsLaidOut whole s (out ++ slice_range s place m.0 ++ replacement (slice_range s m.0 m.1) r) m.1 b.0 (count + 1) (replaced_behind e r s b.0 b.1)) (sym goes_on)
+    subst (λ (t : List ℕ). IsLaidOut whole s t m.1 next.0 (count + 1) (replaced_after e r s next.0 next.1)) (sym is)
+    (subst (λ (b : ℕ × Bool). IsLaidOut whole s (out ++ slice_range s place m.0 ++ replacement (slice_range s m.0 m.1) r) m.1 b.0 (count + 1) (replaced_after e r s b.0 b.1)) (sym goes_on)
     (laid_more e r s whole out place from count behind m low ahead.after laid found))
 
 pub count_more : (e : Pattern) (r s out : List ℕ) (place from count : ℕ) (behind : Bool) (m : ℕ × ℕ) →
-    IsLaidOut (replaced All e r s) s out place from count (replaced_behind e r s from behind) → IsNextReplaced e s from behind (Some m) → count + 1 ≤ length s + 1
+    IsLaidOut (replaced All e r s) s out place from count (replaced_after e r s from behind) → IsNextReplaced e s from behind (Some m) → count + 1 ≤ length s + 1
 count_more e r s out place from count behind m laid found =
     let most = count_within e r s in
     let counts = ap (λ (x : Replaced). x.count) (found r) in

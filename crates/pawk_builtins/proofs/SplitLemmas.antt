@@ -16,7 +16,7 @@ use Rattle.pawk_fields.specs.Law.{AreInOrder}
 use Rattle.pawk_fields.proofs.BetweenLemmas.{some_inside}
 use Rattle.pawk_fields.proofs.LawLemmas.{split_law_lem}
 use Rattle.pawk_fields.specs.Search.{longest_end}
-use Rattle.pawk_fields.specs.FieldList.{end_beyond, separator_end, cut_or_on, fields_behind}
+use Rattle.pawk_fields.specs.FieldList.{end_beyond, separator_end, cut_or_on, fields_after}
 use Rattle.pawk_fields.proofs.SearchLemmas.{IsCons, cons_at, nil_at, IsLongestOrNone, longest_end_is}
 use Rattle.pawk_fields.proofs.FieldLemmas.{fields_law_lem}
 use Rattle.pawk_semantics.specs.Builtins.{pattern_of_text, pieces_at, pieces_by, pieces_between}
@@ -87,13 +87,13 @@ module _ (e : Pattern) (s : List ℕ) where
       go (Some end) l = at end l (ltb p end) refl
 
   abbrev Only : ℕ → ℕ → List ℕ → List (ℕ × ℕ) → Type 0
-  Only begin p rest fields = fields ≡ fields_behind (expand e) false begin p rest
+  Only begin p rest fields = fields ≡ fields_after (expand e) false begin p rest
 
   abbrev None_before : ℕ → ℕ → Type 0
   None_before begin p = (k : ℕ) → begin ≤ k → k < p → StartsNone Separates k
 
   only_fields : (rest : List ℕ) (begin p : ℕ) (fields : List (ℕ × ℕ)) → p ≤ length s → drop p s ≡ rest → None_before begin p → AreFields Separates s begin fields → Only begin p rest fields
-  unfolding fields_behind
+  unfolding fields_after
   only_fields rest begin p [] w is none a = absurd a
   only_fields [] begin p (f ∷ fs) w is none a = ⊎_elim
       (λ x. let end : f.1 ≡ p = omega (arith, nil_at s p w is, x.1) in
@@ -115,7 +115,7 @@ module _ (e : Pattern) (s : List ℕ) where
       goes_on : (begin ≤ p) → StartsNone Separates p → None_before begin (p + 1)
       goes_on ge l k low less = ⊎_elim (λ x. none k low x) (λ x. let same : p ≡ k = omega arith in subst (StartsNone Separates) same l) (cases_lt k p)
 
-      cut : GoesOn → begin ≤ p → (o : Option ℕ) → IsLongestOrNone Separates p o → f ∷ fs ≡ cut_or_on begin p (λ next. fields_behind (expand e) false next (p + 1) rest) o
+      cut : GoesOn → begin ≤ p → (o : Option ℕ) → IsLongestOrNone Separates p o → f ∷ fs ≡ cut_or_on begin p (λ next. fields_after (expand e) false next (p + 1) rest) o
       cut on ge None l = on begin later at.behind (goes_on ge l) (f ∷ fs) a
       cut on ge (Some end) l = ⊎_elim (λ x. absurd (x.0 p ge end l.matches))
           (λ m.
@@ -131,7 +131,7 @@ module _ (e : Pattern) (s : List ℕ) where
           ∙ ap (λ l. (begin, p) ∷ l) (on end later at.behind (λ k low less. absurd (omega arith)) fs (subst (λ q. AreFields Separates s q fs) next m.2))))
           a.1
 
-      before : GoesOn → (v : Bool) → ltb p begin ≡ v → f ∷ fs ≡ cond v (fields_behind (expand e) false begin (p + 1) rest) (cut_or_on begin p (λ next. fields_behind (expand e) false next (p + 1) rest) (separator_end (expand e) false p (b ∷ rest)))
+      before : GoesOn → (v : Bool) → ltb p begin ≡ v → f ∷ fs ≡ cond v (fields_after (expand e) false begin (p + 1) rest) (cut_or_on begin p (λ next. fields_after (expand e) false next (p + 1) rest) (separator_end (expand e) false p (b ∷ rest)))
       before on true h = let lt = ltb-true p begin h in on begin later at.behind (λ k low less. absurd (omega arith)) (f ∷ fs) a
       before on false h = cut on (ltb-false p begin h) (separator_end (expand e) false p (b ∷ rest)) (separator_is p b rest w is)
 

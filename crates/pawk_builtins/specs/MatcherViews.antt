@@ -2,7 +2,7 @@
 use Rattle.std.specs.Prelude.{◌≡◌, ◌↔◌, ℕ, Bool, List, Option, Result, Ok, Err, IfSome, IsTrue, is_some, length, ◌≤◌}
 use Rattle.std.specs.List.{All}
 use Rattle.std.specs.declared.ops.Range.{Range}
-use Rattle.pawk_ere.specs.Kept.{IsOfItsText}
+use Rattle.pawk_ere.specs.Caches.{IsOfItsText}
 use Rattle.pawk_ere.specs.declared.loan.Loan.{Loan}
 use Rattle.pawk_ere_syntax.specs.Pattern.{Pattern, Matches, HasMatch}
 use Rattle.pawk_ere_syntax.specs.Tokens.{SpellsEre}

@@ -1,7 +1,7 @@
 //! The pieces of a text between matches.
 
 ghost use Rattle.std.specs.Prelude.{◌≡◌, ◌≤◌, length, IfErr, IfOk, IfSome};
-ghost use Rattle.pawk_ere.specs.Kept.{IsOfItsText, IsOfText};
+ghost use Rattle.pawk_ere.specs.Caches.{IsOfItsText, IsOfText};
 ghost use Rattle.pawk_fields.specs.FieldsOf.{TellsNone};
 ghost use Rattle.pawk_builtins.specs.MatcherViews.{AreBetweenMatches, AreInside, AreOfTheirTexts};
 

@@ -2,7 +2,7 @@
 
 ghost use Rattle.std.specs.Prelude.{◌≡◌, ◌≤◌, ◌<◌, ◌+◌, ◌^◌, [], length, map, slice_range, IfErr, IfOk, IfSome};
 ghost use Rattle.std.specs.List.{All};
-ghost use Rattle.pawk_ere.specs.Kept.{IsAnswerOfText};
+ghost use Rattle.pawk_ere.specs.Caches.{IsAnswerOfText};
 ghost use Rattle.pawk_fields.specs.FieldsOf.{TellsNone};
 ghost use Rattle.pawk_semantics.specs.Builtins.{found_by, replaced_by, pieces_by, pieces_between, fixed_at};
 ghost use Rattle.pawk_builtins.specs.ExpressionViews.{expression_of, texts_of};

@@ -7,10 +7,10 @@ ghost use Rattle.pawk_fields.specs.Search as search;
 ghost use Rattle.pawk_semantics.specs.Builtins.{replaced};
 ghost use Rattle.pawk_semantics.specs.Builtins as spec;
 ghost use Rattle.pawk_builtins.specs.ReplaceWalks as spec_walks;
-ghost use Rattle.pawk_builtins.specs.ReplaceWalks.{from_behind, is_behind, IsAhead, IsNextReplaced};
+ghost use Rattle.pawk_builtins.specs.ReplaceWalks.{from_after, is_past, IsAhead, IsNextReplaced};
 ghost use Rattle.pawk_builtins.specs.Replaces.{Left};
 ghost use Rattle.pawk_builtins.specs.MatcherViews.{AreOfTheirTexts, IsReplaced};
-ghost use Rattle.pawk_ere.specs.Kept.{IsOfItsText};
+ghost use Rattle.pawk_ere.specs.Caches.{IsOfItsText};
 ghost use Rattle.pawk_fields.specs.FieldsOf.{TellsNone};
 
 use crate::replacement::{push_piece, push_replacement};
@@ -56,9 +56,9 @@ fn next_match(
 }
 
 /// Where matches are looked for after a match, and whether an empty one there is none.
-fn place_behind(text: &[u8], begin: usize, end: usize) -> (usize, bool)
+fn place_past(text: &[u8], begin: usize, end: usize) -> (usize, bool)
     requires { end ≤ length text.now }
-    ensures place { result ≡ (from_behind text.now (begin, end), is_behind text.now (begin, end)) }
+    ensures place { result ≡ (from_after text.now (begin, end), is_past text.now (begin, end)) }
     ensures within { (end ≤ result.0) × (result.0 ≤ length text.now) }
 {
     if begin < end {
@@ -111,7 +111,7 @@ fn replace_all(
         push_match(out, text, place, found, replacement)?;
         count += 1;
         place = found.1;
-        (from, behind) = place_behind(text, found.0, found.1);
+        (from, behind) = place_past(text, found.0, found.1);
     }
     if count > 0 {
         out.extend_from_slice(&text[place..])?;

@@ -1,7 +1,7 @@
 //! Places for matchers.
 
 ghost use Rattle.std.specs.Prelude.{◌≡◌, ℕ, List, true, IfErr, IfOk, IfSome, IsSomeAnd, OnOk};
-ghost use Rattle.pawk_ere.specs.Kept.{IsAnswerOfText, IsOfItsText, IsOfText};
+ghost use Rattle.pawk_ere.specs.Caches.{IsAnswerOfText, IsOfItsText, IsOfText};
 ghost use Rattle.pawk_ere_syntax.specs.Refusals.{Tells};
 ghost use Rattle.pawk_ere_syntax.specs.Tokens.{SpellsNone};
 ghost use Rattle.pawk_fields.specs.FieldsOf.{TellsNone};

@@ -4,7 +4,7 @@ use denote.Param.Send.{IsSend, IsSync, sendable}
 use Rattle.std.proofs.Crossing.{crosses}
 use Rattle.pawk_sequential.specs.contracts.job.Job as Job
 use Rattle.pawk_chunks.specs.contracts.chunk.Opening as Opening
-use Rattle.pawk_chunks.specs.contracts.chunk.ChunkResult as ChunkResult
+use Rattle.pawk_merge.specs.contracts.chunk_result.ChunkResult as ChunkResult
 use Rattle.pawk_chunks.specs.contracts.task.Chunked as Chunked
 use Rattle.pawk_chunks.specs.contracts.task.Task as Task
 use Rattle.pawk_chunks.specs.contracts.shifts.Shift as Shift
@@ -14,7 +14,7 @@ use Rattle.pawk_board.proofs.board.BoardSeat.TheSendSync as seat
 use Rattle.pawk_frozen.proofs.table.Table.TheSendSync as table
 use Rattle.pawk_input.proofs.files.Input.TheSendSync as input
 use Rattle.pawk_input.proofs.plan.Plan.TheSendSync as plan
-use Rattle.pawk_sequential.proofs.left.Left.TheSendSync as left
+use Rattle.pawk_semantics.proofs.left.Left.TheSendSync as left
 use Rattle.pawk_store.proofs.globals.Globals.TheSendSync as globals
 use Rattle.pawk_code.proofs.Sharing.{code_row_sync}
 use Rattle.pawk_chunks.proofs.States.{state_row_sync, state_send}

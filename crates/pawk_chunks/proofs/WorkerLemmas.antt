@@ -6,7 +6,7 @@ use Rattle.std.proofs.lemmas.List.Elements.{All-nil, All-push, All-weaker, Conta
 use Rattle.pawk_board.proofs.Cuts.{all_back}
 use Rattle.pawk_board.specs.declared.hand.Hand.{Hand}
 use Rattle.pawk_board.specs.History.{drew, tells, sees}
-use Rattle.pawk_chunks.specs.declared.chunk.ChunkResult.{ChunkResult}
+use Rattle.pawk_merge.specs.declared.chunk_result.ChunkResult.{ChunkResult}
 use Rattle.pawk_chunks.specs.Worker.{Numbered, Mark, Skips, Runs, RanOrSeen, HasWorked, numbers, stopping, marked, ran_of, stops}
 
 -- what a worker has done so far

@@ -9,11 +9,11 @@ use Rattle.pawk_store.specs.Globals.{Globals}
 use Rattle.pawk_store.specs.RecordStates.{RecordState}
 use Rattle.pawk_store.specs.StateViews.{state_of}
 use Rattle.pawk_admit.specs.Roles.{Roles, roles_view}
-use Rattle.pawk_frozen.specs.Frozens.{Frozen, begun, calls}
+use Rattle.pawk_frozen.specs.Frozens.{Frozen, blank_world, calls}
 use Rattle.pawk_semantics.specs.Records.{End, through}
 use Rattle.pawk_semantics.specs.Runs.{records_from}
-use Rattle.pawk_sequential.specs.Ends.{left_view}
-use Rattle.pawk_chunks.specs.declared.chunk.ChunkResult.{ChunkResult}
+use Rattle.pawk_semantics.specs.LeftViews.{left_view}
+use Rattle.pawk_merge.specs.declared.chunk_result.ChunkResult.{ChunkResult}
 use Rattle.pawk_chunks.specs.declared.chunk.Opening.{Opening as CodeOpening}
 
 -- What the chunks of a run begin with: the program, the steps that each record may take, the globals and the record state
@@ -41,7 +41,7 @@ chunk_state nr state = record state { line = record { text = []; fields = [] }; 
 -- a chunk begins with the globals and the record state that BEGIN left; nothing is noted, and nothing written
 abbrev pub chunk_begin : Globals → Roles → ℕ → RecordState → End Frozen
 chunk_begin fixed roles nr state = record {
-  world = begun fixed roles;
+  world = blank_world fixed roles;
   state = chunk_state nr state;
   output = [];
   left = through;

@@ -12,11 +12,12 @@ ghost use Rattle.pawk_chunks.specs.Chunks.{Leaves, chunk_begin, chunk_end, openi
 ghost use Rattle.pawk_chunks.specs.Chunks as spec;
 
 use pawk_admit::Roles;
-use pawk_frozen::{Frozen, Table};
+use pawk_frozen::Frozen;
 use pawk_input::{Input, Plan, Records};
+use pawk_merge::ChunkResult;
 use pawk_record::Record;
 use pawk_runtime::Run;
-use pawk_sequential::{Job, Left, run_records};
+use pawk_sequential::{Job, run_records};
 use pawk_store::{Globals, RecordState};
 use std::alloc::{AllocError, Global};
 
@@ -30,17 +31,6 @@ pub struct Opening<'p, 'a> {
     pub roles: &'p Roles,
     /// The record state that `BEGIN` left, with `RS` taken.
     pub state: &'p RecordState<'a>,
-}
-
-/// What a chunk leaves.
-#[derive(Drop)]
-pub struct ChunkResult<'a> {
-    pub output: Vec<u8>,
-    /// What the chunk noted of globals.
-    pub table: Table,
-    /// How its last record was left.
-    pub left: Left,
-    pub state: RecordState<'a>,
 }
 
 /// A copy of a text, if there is one.

@@ -7,10 +7,11 @@ ghost use Rattle.pawk_chunks.specs.Chunks.{AreResults};
 ghost use Rattle.pawk_chunks.specs.Shifts.{limit_of, results_of};
 ghost use Rattle.pawk_chunks.specs.Task.{IsChunked, IsCrew, end_in};
 
+use crate::Opening;
 use crate::shifts::{Shift, all_work};
 use crate::task::{Chunked, Task};
-use crate::{ChunkResult, Opening};
 use pawk_board::{Board, BoardSeat};
+use pawk_merge::ChunkResult;
 use pawk_workers::{CrewRefusal, Gate};
 use std::alloc::{AllocError, Global};
 use std::sync::Wait;

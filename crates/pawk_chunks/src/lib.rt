@@ -9,10 +9,10 @@ mod shifts;
 mod task;
 mod worker;
 
-pub use chunk::{ChunkResult, Opening, run_chunk};
+pub use chunk::{Opening, run_chunk};
 pub use gathering::run_chunks;
 pub use limits::STACK_BYTES;
-pub use pawk_sequential::Left;
+pub use pawk_merge::ChunkResult;
 pub use pawk_workers::{CrewRefusal, Gate, Open};
 pub use shifts::{Shift, all_work};
 pub use task::{Chunked, Task};

@@ -5,11 +5,11 @@ ghost use Rattle.pawk_board.specs.Views.{fresh};
 ghost use Rattle.pawk_chunks.specs.Shifts.{Worked};
 ghost use Rattle.pawk_chunks.specs.Task.{IsTask};
 
-use crate::ChunkResult;
 use crate::limits::STACK_BYTES;
 use crate::task::Task;
 use crate::worker::work;
 use pawk_board::BoardSeat;
+use pawk_merge::ChunkResult;
 use pawk_workers::{CrewRefusal, Gate, Labour, all_labour};
 use std::alloc::{AllocError, Global};
 use std::sync::Wait;

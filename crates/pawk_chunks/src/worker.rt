@@ -5,10 +5,11 @@ ghost use Rattle.pawk_board.specs.Claims.{IsUndone, HasClaimed};
 ghost use Rattle.pawk_chunks.specs.Task.{IsTask};
 ghost use Rattle.pawk_chunks.specs.Worker.{HasWorked, IsResultOf, Runs, Skips, stops};
 
+use crate::run_chunk;
 use crate::task::Task;
-use crate::{ChunkResult, run_chunk};
 use pawk_board::{BoardSeat, Claim};
-use pawk_sequential::Left;
+use pawk_merge::ChunkResult;
+use pawk_semantics::Left;
 use pawk_workers::Gate;
 use std::alloc::{AllocError, Global};
 

@@ -12,7 +12,7 @@ use Rattle.pawk_admit.specs.declared.role.Role.{Role}
 use Rattle.pawk_admit.specs.declared.role.Role.TheVariants.{Fixed, Adder, Setter, Reader}
 use Rattle.pawk_admit.specs.Roles.{Roles}
 use Rattle.pawk_frozen.specs.Marks.{Mark, blank, created, mark_or_blank, blank_table, mark_at, with_mark}
-use Rattle.pawk_frozen.specs.Frozens.{Frozen, begun, noted}
+use Rattle.pawk_frozen.specs.Frozens.{Frozen, blank_world, noted}
 use Rattle.pawk_semantics.specs.Lockstep.{resource_of_cell}
 use Rattle.pawk_commute.specs.Traces.{Event, Traced, same_cell, mark_after, mark_from}
 use Rattle.pawk_commute.specs.Settings.{Setting, role_of_cell, Extends, Agrees, entry_at, FitsIfOk, MayBegin}
@@ -54,7 +54,7 @@ pub blank_cell : (c : Cell) (n m : ℕ) → mark_at c (blank_table n m) ≡ blan
 blank_cell (scalar k) n m = blank_scalar n k
 blank_cell (element k key) n m = ap (λ es. mark_or_blank (find order key es)) (blank_array m k)
 
-pub begins_alike : (i : Setting) → MayBegin i → Alike i (record { globals = i.start; trace = [] }) (begun i.fixed i.roles)
+pub begins_alike : (i : Setting) → MayBegin i → Alike i (record { globals = i.start; trace = [] }) (blank_world i.fixed i.roles)
 begins_alike i h = record {
   agrees = h.agrees;
   fixed = refl;
@@ -67,7 +67,7 @@ begins_alike i h = record {
   lawful = tt;
 }
   where
-    at : (c : Cell) → mark_at c (begun i.fixed i.roles).table ≡ blank
+    at : (c : Cell) → mark_at c (blank_world i.fixed i.roles).table ≡ blank
     at c = blank_cell c (length i.fixed.scalars) (length i.fixed.arrays)
 
 pub begins_again : (i : Setting) (s : Traced) (t : Frozen) → MayBegin i → Alike i s t → MayBegin (record i { start = s.globals })

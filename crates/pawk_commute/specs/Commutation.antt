@@ -15,7 +15,7 @@ use Rattle.pawk_store.specs.RecordStates.{RecordState}
 use Rattle.pawk_admit.specs.declared.role.Role.TheVariants.{Fixed, Adder}
 use Rattle.pawk_admit.specs.Roles.{role_of_array}
 use Rattle.pawk_frozen.specs.Marks.{Mark, blank, summed, last_put, created, with_amount, mark_at}
-use Rattle.pawk_frozen.specs.Frozens.{Frozen, begun, signed_amount, is_sum}
+use Rattle.pawk_frozen.specs.Frozens.{Frozen, blank_world, signed_amount, is_sum}
 use Rattle.pawk_frozen.specs.Frozens as frozen
 use Rattle.pawk_semantics.specs.Records.{through, fault, clash, End}
 use Rattle.pawk_semantics.specs.Runs.{records_from}
@@ -75,7 +75,7 @@ store_opening i state = record {
 }
 
 abbrev pub chunk_opening : Setting → RecordState → End Frozen
-chunk_opening i state = record { world = begun i.fixed i.roles; state = state; output = []; left = through }
+chunk_opening i state = record { world = blank_world i.fixed i.roles; state = state; output = []; left = through }
 
 -- a fault that is an add's own: of the conversion of what is at its cell, or of the range of the sum
 abbrev pub IsOwnFault : Sign → Result ℤ Fault → Result ℤ Fault → Fault → Type 0

@@ -9,7 +9,7 @@ use Rattle.lru.specs.LruCache.{LruCache, lru_cache, put_entries}
 use Rattle.lru.proofs.CallerLemmas.{Contains-remove_entry, Contains-lookup_entry, Contains-put_entries}
 use Rattle.pawk_ere_automaton.specs.declared.node.Node.{Node}
 use Rattle.pawk_ere.specs.Answers.{IsAnswer, IsFor}
-use Rattle.pawk_ere.specs.Kept.{AreOfTexts, IsAnswerOfText, IsOfText}
+use Rattle.pawk_ere.specs.Caches.{AreOfTexts, IsAnswerOfText, IsOfText}
 use Rattle.pawk_ere_syntax.specs.Pattern.{Pattern}
 
 abbrev Entry : Type 0

@@ -80,8 +80,8 @@ occurs_ahead s needle from k o le = record {
       ap (slice_index s) there ∙ sym (get_or-drop from s (k + j) 0) ∙ o.reads j lt;
 }
 
-pub occurs_behind : (s needle : List ℕ) (from i : ℕ) → OccursAt s needle i → from ≤ i → from ≤ length s → OccursAt (drop from s) needle (i - from)
-occurs_behind s needle from i o le within' = record {
+pub occurs_after : (s needle : List ℕ) (from i : ℕ) → OccursAt s needle i → from ≤ i → from ≤ length s → OccursAt (drop from s) needle (i - from)
+occurs_after s needle from i o le within' = record {
   fits = let f = o.fits in omega (arith, length-drop from s);
   reads = λ j lt.
       let there : from + ((i - from) + j) ≡ i + j = omega arith in
@@ -95,7 +95,7 @@ literal_none e s needle from le all is =
     found_none e s from (λ k ge j m.
     let o = ((is s k j).0 m).0 in
     let f = o.fits in
-    none (k - from) (omega arith) (omega (arith, length-drop from s)) (occurs_behind s needle from k o ge le))
+    none (k - from) (omega arith) (omega (arith, length-drop from s)) (occurs_after s needle from k o ge le))
 
 -- the first place where the bytes of a literal occur
 pub literal_some : (e : Regex) (s needle : List ℕ) (from ahead : ℕ) → from ≤ length s → OccursAt (take (length s - from) (drop from s)) needle ahead → ((k : ℕ) → 0 ≤ k → k < ahead → OccursAt (take (length s - from) (drop from s)) needle k → ⊥) → IsLiteral e needle → IsFound (Takes e s) from (Some (from + ahead, (from + ahead) + length needle))
@@ -105,7 +105,7 @@ literal_some e s needle from ahead le at all is =
     found_first e s from (from + ahead) ((from + ahead) + length needle) (omega arith)
     (λ k ge lt j m.
     let o = ((is s k j).0 m).0 in
-    before (k - from) (omega arith) (omega arith) (occurs_behind s needle from k o ge le))
+    before (k - from) (omega arith) (omega arith) (occurs_after s needle from k o ge le))
     (record {
       matches = (is s (from + ahead) ((from + ahead) + length needle)).1 (occurs_ahead s needle from ahead here le, refl);
       longest = λ l m. let x = ((is s (from + ahead) l).0 m).1 in omega arith;

@@ -6,4 +6,4 @@ pub mod Runs
 pub mod Words
 pub mod Holding
 pub mod Answers
-pub mod Kept
+pub mod Caches

@@ -1,6 +1,6 @@
 // A cache of the expressions that were read.
 
-ghost use Rattle.pawk_ere.specs.Kept.{AreOfTexts, IsAnswerOfText, IsOfItsText, IsOfText};
+ghost use Rattle.pawk_ere.specs.Caches.{AreOfTexts, IsAnswerOfText, IsOfItsText, IsOfText};
 ghost use Rattle.pawk_ere_syntax.specs.Pattern.{Pattern};
 ghost use Rattle.pawk_ere_syntax.specs.Refusals.{Tells};
 ghost use Rattle.pawk_ere_syntax.specs.Tokens.{SpellsEre};
@@ -29,7 +29,7 @@ impl Model for Cache {
 
     ghost Value = { ℕ };
 
-    ghost use Rattle.pawk_ere.specs.Kept.{AreOfTexts, IsOfItsText};
+    ghost use Rattle.pawk_ere.specs.Caches.{AreOfTexts, IsOfItsText};
 
     ghost view = { λ c. c.others.cap };
 

@@ -1,6 +1,6 @@
 // A matcher with the text of its expression.
 
-ghost use Rattle.pawk_ere.specs.Kept.{IsOfText};
+ghost use Rattle.pawk_ere.specs.Caches.{IsOfText};
 ghost use Rattle.pawk_ere_syntax.specs.Pattern.{Pattern};
 ghost use Rattle.pawk_ere_syntax.specs.Refusals.{Tells};
 ghost use Rattle.pawk_ere_syntax.specs.Tokens.{SpellsEre};

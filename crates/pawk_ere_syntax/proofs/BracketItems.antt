@@ -3,7 +3,7 @@ use Rattle.std.proofs.Common.{◌≡◌, ◌↔◌, ℕ, zero, suc, ◌+◌, ◌
 use Rattle.pawk_ere_syntax.specs.declared.bracket.BracketItem.{BracketItem}
 use Rattle.pawk_ere_syntax.specs.declared.class.Class.{Class}
 use Rattle.pawk_ere_syntax.specs.Escapes.{letter, is_octal, is_punctuation, octal_more, escape_of, escape_at}
-use Rattle.pawk_ere_syntax.specs.Brackets.{all_classes, begins, bracket_at, class_among, class_at, class_item, class_name, class_or, from_point, goes_on, item_at, item_ranges, items, and_then, outside, point_at, range_to, rest_behind}
+use Rattle.pawk_ere_syntax.specs.Brackets.{all_classes, begins, bracket_at, class_among, class_at, class_item, class_name, class_or, from_point, goes_on, item_at, item_ranges, items, and_then, outside, point_at, range_to, rest_after}
 use Rattle.pawk_ere_syntax.specs.Items.{ends, Items, with_items, IsBracket}
 use Rattle.pawk_ere_syntax.specs.Sets.{none, with_ranges, complement}
 use Rattle.std.proofs.Math.Nat.{le_refl, le_trans}
@@ -22,22 +22,22 @@ leaves_more : {A : Type 0} (n m : ℕ) (x : Option (A × List ℕ)) → n ≤ m 
 leaves_more n m None le l = tt
 leaves_more n m (Some x) le l = omega arith
 
-behind_leaves : (name bytes rest : List ℕ) → rest_behind name bytes ≡ Some rest → length rest ≤ length bytes
-behind_leaves [] bytes rest h = let e = ap length (some_inj bytes rest h) in omega arith
-behind_leaves (n ∷ ns) [] rest h = cc
-behind_leaves (n ∷ ns) (c ∷ more) rest h = go (c == n) h (λ same. behind_leaves ns more rest same)
+after_leaves : (name bytes rest : List ℕ) → rest_after name bytes ≡ Some rest → length rest ≤ length bytes
+after_leaves [] bytes rest h = let e = ap length (some_inj bytes rest h) in omega arith
+after_leaves (n ∷ ns) [] rest h = cc
+after_leaves (n ∷ ns) (c ∷ more) rest h = go (c == n) h (λ same. after_leaves ns more rest same)
   where
-    go : (b : Bool) → cond b (rest_behind ns more) None ≡ Some rest → (rest_behind ns more ≡ Some rest → length rest ≤ length more) → length rest ≤ length (c ∷ more)
+    go : (b : Bool) → cond b (rest_after ns more) None ≡ Some rest → (rest_after ns more ≡ Some rest → length rest ≤ length more) → length rest ≤ length (c ∷ more)
     go true h again = let e = again h in omega arith
     go false h again = cc
 
 class_leaves : (cs : List Class) (bytes : List ℕ) → Leaves (length bytes) (class_among cs bytes)
 class_leaves [] bytes = tt
-class_leaves (c ∷ cs) bytes = go (rest_behind (class_name c) bytes) refl (class_leaves cs bytes)
+class_leaves (c ∷ cs) bytes = go (rest_after (class_name c) bytes) refl (class_leaves cs bytes)
   where
-    go : (o : Option (List ℕ)) → rest_behind (class_name c) bytes ≡ o → Leaves (length bytes) (class_among cs bytes) → Leaves (length bytes) (class_or c o (class_among cs bytes))
+    go : (o : Option (List ℕ)) → rest_after (class_name c) bytes ≡ o → Leaves (length bytes) (class_among cs bytes) → Leaves (length bytes) (class_or c o (class_among cs bytes))
     go None is l = l
-    go (Some rest) is l = behind_leaves (class_name c) bytes rest is
+    go (Some rest) is l = after_leaves (class_name c) bytes rest is
 
 item_leaves : (n : ℕ) (o : Option (Class × List ℕ)) → Leaves n o → Leaves n (class_item o)
 item_leaves n None l = l

@@ -51,10 +51,10 @@ class_name Control = codes "cntrl:]"
 class_name HexDigit = codes "xdigit:]"
 
 -- what follows the name, if the text begins with it
-abbrev pub rest_behind : List ℕ → List ℕ → Option (List ℕ)
-rest_behind [] bytes = Some bytes
-rest_behind (n ∷ ns) [] = None
-rest_behind (n ∷ ns) (c ∷ rest) = if c == n then rest_behind ns rest else None
+abbrev pub rest_after : List ℕ → List ℕ → Option (List ℕ)
+rest_after [] bytes = Some bytes
+rest_after (n ∷ ns) [] = None
+rest_after (n ∷ ns) (c ∷ rest) = if c == n then rest_after ns rest else None
 
 -- the class, if its name was there, or else the other
 abbrev pub class_or : Class → Option (List ℕ) → Option (Class × List ℕ) → Option (Class × List ℕ)
@@ -64,7 +64,7 @@ class_or c (Some rest) other = Some (c, rest)
 -- the first of these classes whose name the text begins with, and what follows
 abbrev pub class_among : List Class → List ℕ → Option (Class × List ℕ)
 class_among [] bytes = None
-class_among (c ∷ cs) bytes = class_or c (rest_behind (class_name c) bytes) (class_among cs bytes)
+class_among (c ∷ cs) bytes = class_or c (rest_after (class_name c) bytes) (class_among cs bytes)
 
 abbrev pub class_item : Option (Class × List ℕ) → Option (BracketItem × List ℕ)
 class_item None = None

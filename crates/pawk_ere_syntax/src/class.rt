@@ -1,6 +1,6 @@
 // Character classes.
 
-ghost use Rattle.pawk_ere_syntax.specs.Brackets.{class_among, class_name, class_ranges, rest_behind};
+ghost use Rattle.pawk_ere_syntax.specs.Brackets.{class_among, class_name, class_ranges, rest_after};
 ghost use Rattle.std.specs.Prelude.{◌≡◌, ◌+◌, ◌≤◌, length, None, Some, IfSome, MatchOption};
 
 /// A character class, in the POSIX locale (XBD 7.3.1).
@@ -79,15 +79,15 @@ impl Class {
 }
 
 /// What follows the name, if the text begins with it.
-fn rest_behind<'a>(name: &[u8], text: &'a [u8]) -> Option<&'a [u8]>
-    ensures value { let wanted = rest_behind name.now text.now in
+fn rest_after<'a>(name: &[u8], text: &'a [u8]) -> Option<&'a [u8]>
+    ensures value { let wanted = rest_after name.now text.now in
         MatchOption result (wanted ≡ None) (λ rest. wanted ≡ Some rest.now) }
     ensures shorter { IfSome result (λ rest. length rest.now + length name.now ≡ length text.now) }
 {
     match name {
         [] => Some(text),
         [n, names @ ..] => match text {
-            [c, rest @ ..] if *c == *n => rest_behind(names, rest),
+            [c, rest @ ..] if *c == *n => rest_after(names, rest),
             _ => None,
         },
     }
@@ -101,7 +101,7 @@ pub fn class_among<'a>(classes: &[Class], text: &'a [u8]) -> Option<(Class, &'a 
 {
     match classes {
         [] => None,
-        [class, others @ ..] => match rest_behind(class.name(), text) {
+        [class, others @ ..] => match rest_after(class.name(), text) {
             Some(rest) => Some((*class, rest)),
             None => class_among(others, text),
         },

@@ -1,7 +1,7 @@
 pub mod Weights
 pub mod Rows
 pub mod Shapes
-pub mod Behind
+pub mod AppendedText
 pub mod Bodies
 pub mod Turns
 pub mod Calls

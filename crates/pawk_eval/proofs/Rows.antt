@@ -13,7 +13,7 @@ use Rattle.pawk_code.specs.ExpressionViews.{view, views, argument_view, argument
 use Rattle.pawk_code.specs.StatementViews.{seen, stmt_view}
 use Rattle.pawk_semantics.specs.Parts.{Hold, value, Moment, halts, Part, give, then_do, as_text}
 use Rattle.pawk_semantics.specs.Meaning.{eval, texts_of, values_of, argument_of, arguments_of}
-use Rattle.pawk_eval.proofs.Behind.{text_halts}
+use Rattle.pawk_eval.proofs.AppendedText.{text_halts}
 use Rattle.pawk_eval.proofs.Weights.{weight, row_weight, argument_weight, arguments_weight, statement_weight, body_weight}
 
 pub expr_in_row : (es : List Expr) (i : ℕ) (e : Expr) → i < length es → weight (view (get_or es i e)) + 3 < row_weight (exprs (views es))

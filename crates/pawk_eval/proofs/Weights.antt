@@ -3,6 +3,9 @@ use Rattle.std.proofs.Common.{◌≡◌, ℕ, zero, suc, ◌+◌, ◌*◌, ◌<�
 use Rattle.pawk_code.specs.Expressions.{Expr, leaf, numeric, test, textual, read, choice, assign, call, Exprs, none, more, Place, to_global, to_local, to_element, to_field, Numeric, arithmetic, signed, change, step, function, split, replace, find, NumericFunction, length_of, index_of, whole, Test, compare, both, either, negation, matches, member, Textual, join, suffix, substring, letters, formatted, Pattern, fixed_pattern, spelled_by, FieldsBy, by_fs, by_fixed, by_value, Format, fixed_format, format_of, Argument, pass, pass_array, Arguments, no_arguments, more_arguments}
 use Rattle.pawk_code.specs.Statements.{Simple, drop, set, add, count, print, printf, delete, clear, Leave, break, continue, next_record, next_file, exit, return, Head, Stmt, simple, leave, when, choose, repeat, do_while, loop, walk, Stmts, done, next}
 use Rattle.pawk_code.specs.Programs.{Function}
+use Rattle.pawk_code.specs.ExpressionViews.{view}
+use Rattle.pawk_eval.specs.declared.amount.Amount.{Amount}
+use Rattle.pawk_eval.specs.declared.amount.Amount.TheVariants as amount
 
 abbrev mutual
   pub weight : Expr → ℕ
@@ -28,7 +31,7 @@ abbrev mutual
   pub numeric_weight : Numeric → ℕ
   numeric_weight (arithmetic op a b) = weight a + weight b + 5
   numeric_weight (signed s a) = weight a + 4
-  numeric_weight (change op p e) = place_weight p + weight e + 4
+  numeric_weight (change op p e) = place_weight p + weight e + 5
   numeric_weight (step s p) = place_weight p + 2
   numeric_weight (function f) = function_weight f + 1
   numeric_weight (split e a by) = weight e + separator_weight by + 5
@@ -76,10 +79,14 @@ abbrev mutual
   arguments_weight no_arguments = 1
   arguments_weight (more_arguments a as') = argument_weight a + arguments_weight as' + 1
 
+abbrev pub amount_weight : Amount → ℕ
+amount_weight amount.One = 0
+amount_weight (amount.Of e) = weight (view e.now) + 3
+
 abbrev pub simple_weight : Simple → ℕ
 simple_weight (drop e) = weight e + 2
 simple_weight (set p e) = place_weight p + weight e + 3
-simple_weight (add s p e) = place_weight p + weight e + 5
+simple_weight (add s p e) = place_weight p + weight e + 6
 simple_weight (count s p) = place_weight p + 3
 simple_weight (print calm es) = row_weight es + 3
 simple_weight (printf f calm es) = format_weight f + row_weight es + 3

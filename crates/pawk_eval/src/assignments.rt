@@ -2,33 +2,32 @@
 //!
 //! POSIX.1-2017, awk, "Expressions in awk".
 
-ghost use Rattle.std.specs.Prelude.{◌≤◌, Ok, pos};
-ghost use Rattle.pawk_code.specs.Expressions.{exprs};
-ghost use Rattle.pawk_code.specs.ExpressionViews.{place_view, view, views};
+ghost use Rattle.std.specs.Prelude.{◌≤◌};
+ghost use Rattle.pawk_code.specs.ExpressionViews.{place_view, view};
 ghost use Rattle.pawk_code.specs.Statements as actions;
 ghost use Rattle.pawk_semantics.specs.Parts.{bind};
-ghost use Rattle.pawk_semantics.specs.Meaning.{act, aim_of, subscripts};
-ghost use Rattle.pawk_semantics.specs.Places.{add_at, array_at, element_of};
+ghost use Rattle.pawk_semantics.specs.Meaning.{act, aim_of};
+ghost use Rattle.pawk_semantics.specs.Places.{add_at};
 ghost use Rattle.pawk_runtime.specs.Moments.{moment};
 ghost use Rattle.pawk_runtime.specs.Yields.{Yields};
+ghost use Rattle.pawk_eval.specs.Amounts.{amount_of};
 ghost use Rattle.pawk_eval.specs.Contexts.{enter_of, eres_of};
 
+use crate::amount::{Amount, amount_number};
 use crate::context::Context;
 use crate::expressions::{eval, number};
 use crate::numbers::numeric;
-use crate::places::{key, place};
+use crate::places::place;
 use pawk_code::expression::{Expr, Lvalue};
-use pawk_code::name::Array;
 use pawk_code::word::Sign;
 use pawk_runtime::{
-    ArrayReference, Run, add_leaf_at_field, add_to_key, add_to_number, add_to_parameter,
-    add_to_place, assign_in_place, field_element, give_back, give_back_target, leaf_element,
-    plain_number, set_at_number, table_of, take_buffer, tally_at_field, write_place,
+    Run, add_to_number, add_to_place, assign_in_place, give_back, give_back_target, leaf_add,
+    leaf_set, leaf_tally, numeric_element, table_of, take_buffer, write_place,
 };
 use pawk_value::{ValueRef, lend_held};
 use pawk_world::{Halt, World};
 
-/// Adds the number of an expression to a place, or takes it away.
+/// Adds an amount to a place, or takes it away.
 #[cycle(evaluate)]
 #[inline(always)]
 pub(crate) fn add<W: World>(
@@ -36,29 +35,39 @@ pub(crate) fn add<W: World>(
     depth: u64,
     sign: Sign,
     to: &Lvalue,
-    e: &Expr,
+    amount: Amount<'_>,
     world: &mut W,
     run: &mut Run<'_>,
 ) -> Result<(), Halt>
     ensures left { run.new.left ≤ run.old.left }
     ensures outcome { Yields (λ _. tt)
-        (act W.calls (eres_of context.entry) (enter_of W.calls context.entry depth)
-        (actions.add sign (place_view to.now) (view e.now))
+        (bind (aim_of W.calls (eres_of context.entry) (enter_of W.calls context.entry depth)
+        (place_view to.now)) (λ aim. bind
+        (amount_of W.calls (eres_of context.entry) (enter_of W.calls context.entry depth)
+        amount.entry) (add_at W.calls sign aim))
         (moment (W.state world.old) run.old)) result (moment (W.state world.new) run.new) }
 {
-    if let Lvalue::Global(slot) = to {
-        let amount = number(context, depth, e, world, run)?;
-        return world.add_scalar(*slot, sign, amount);
-    }
-    if let Some((array, n)) = field_element(to) {
-        if let Expr::Leaf(amount) = e {
-            return add_leaf_at_field(sign, table_of(&run.frame, array), n, amount, world, run);
+    match amount {
+        Amount::One => {
+            if let Some(answer) = leaf_tally(sign, to, world, run) {
+                return answer;
+            }
+        }
+        Amount::Of(e) => {
+            if let Lvalue::Global(slot) = to {
+                let number = number(context, depth, e, world, run)?;
+                return world.add_scalar(*slot, sign, number);
+            }
+            if let Some(answer) = leaf_add(sign, to, e, world, run) {
+                return answer;
+            }
         }
     }
-    add_elsewhere(context, depth, sign, to, e, world, run)
+    add_elsewhere(context, depth, sign, to, amount, world, run)
 }
 
-/// Adds the number of an expression to a place that is stored first, or takes it away.
+/// Adds an amount to a place that is stored first, or takes it away. A key that is a number is not
+/// copied.
 #[cycle(evaluate)]
 #[inline(never)]
 pub(crate) fn add_elsewhere<W: World>(
@@ -66,103 +75,28 @@ pub(crate) fn add_elsewhere<W: World>(
     depth: u64,
     sign: Sign,
     to: &Lvalue,
-    e: &Expr,
-    world: &mut W,
-    run: &mut Run<'_>,
-) -> Result<(), Halt>
-    ensures left { run.new.left ≤ run.old.left }
-    ensures outcome { Yields (λ _. tt)
-        (act W.calls (eres_of context.entry) (enter_of W.calls context.entry depth)
-        (actions.add sign (place_view to.now) (view e.now))
-        (moment (W.state world.old) run.old)) result (moment (W.state world.new) run.new) }
-{
-    let target = place(context, depth, to, world, run)?;
-    let amount = number(context, depth, e, world, run)?;
-    add_to_place(sign, &target, amount, world, run)?;
-    give_back_target(&mut run.spare, target);
-    Ok(())
-}
-
-/// Adds 1 to a place, or takes it away.
-#[cycle(evaluate)]
-#[inline(always)]
-pub(crate) fn tally<W: World>(
-    context: Context<'_>,
-    depth: u64,
-    sign: Sign,
-    to: &Lvalue,
+    amount: Amount<'_>,
     world: &mut W,
     run: &mut Run<'_>,
 ) -> Result<(), Halt>
     ensures left { run.new.left ≤ run.old.left }
     ensures outcome { Yields (λ _. tt)
         (bind (aim_of W.calls (eres_of context.entry) (enter_of W.calls context.entry depth)
-        (place_view to.now)) (λ aim. add_at W.calls sign aim (Ok (pos 1)))
+        (place_view to.now)) (λ aim. bind
+        (amount_of W.calls (eres_of context.entry) (enter_of W.calls context.entry depth)
+        amount.entry) (add_at W.calls sign aim))
         (moment (W.state world.old) run.old)) result (moment (W.state world.new) run.new) }
 {
-    if let Lvalue::Global(slot) = to {
-        return world.add_scalar(*slot, sign, Ok(1));
-    }
-    if let Lvalue::Local(number) = to {
-        return add_to_parameter(sign, *number, Ok(1), world, run);
-    }
-    if let Some((array, n)) = field_element(to) {
-        return tally_at_field(sign, table_of(&run.frame, array), n, world, run);
-    }
-    if let Lvalue::Element(array, keys) = to {
-        return tally_element(context, depth, sign, *array, keys, world, run);
-    }
-    tally_elsewhere(context, depth, sign, to, world, run)
-}
-
-/// Adds 1 to a place that is stored first, or takes it away.
-#[cycle(evaluate)]
-#[inline(never)]
-pub(crate) fn tally_elsewhere<W: World>(
-    context: Context<'_>,
-    depth: u64,
-    sign: Sign,
-    to: &Lvalue,
-    world: &mut W,
-    run: &mut Run<'_>,
-) -> Result<(), Halt>
-    ensures left { run.new.left ≤ run.old.left }
-    ensures outcome { Yields (λ _. tt)
-        (bind (aim_of W.calls (eres_of context.entry) (enter_of W.calls context.entry depth)
-        (place_view to.now)) (λ aim. add_at W.calls sign aim (Ok (pos 1)))
-        (moment (W.state world.old) run.old)) result (moment (W.state world.new) run.new) }
-{
-    let target = place(context, depth, to, world, run)?;
-    add_to_place(sign, &target, Ok(1), world, run)?;
-    give_back_target(&mut run.spare, target);
-    Ok(())
-}
-
-/// Adds 1 to an element of an array, or takes it away. A key that is a number is not copied.
-#[cycle(evaluate)]
-pub(crate) fn tally_element<W: World>(
-    context: Context<'_>,
-    depth: u64,
-    sign: Sign,
-    array: Array,
-    keys: &[Expr],
-    world: &mut W,
-    run: &mut Run<'_>,
-) -> Result<(), Halt>
-    ensures left { run.new.left ≤ run.old.left }
-    ensures outcome { Yields (λ _. tt)
-        (bind (subscripts W.calls (eres_of context.entry) (enter_of W.calls context.entry depth)
-        (exprs (views keys.now)))
-        (λ key m. add_at W.calls sign (element_of (array_at m.frame array) key) (Ok (pos 1)) m)
-        (moment (W.state world.old) run.old)) result (moment (W.state world.new) run.new) }
-{
-    if let [Expr::Numeric(n)] = keys {
+    if let Some((array, n)) = numeric_element(to) {
         let key = numeric(context, depth, n, world, run)?;
-        return add_to_number(sign, table_of(&run.frame, array), key, Ok(1), world, run);
+        let table = table_of(&run.frame, array);
+        let number = amount_number(context, depth, amount, world, run)?;
+        return add_to_number(sign, table, key, number, world, run);
     }
-    let key = key(context, depth, keys, world, run)?;
-    add_to_key(sign, table_of(&run.frame, array), &key, Ok(1), world, run)?;
-    give_back(&mut run.spare, key);
+    let target = place(context, depth, to, world, run)?;
+    let number = amount_number(context, depth, amount, world, run)?;
+    add_to_place(sign, &target, number, world, run)?;
+    give_back_target(&mut run.spare, target);
     Ok(())
 }
 
@@ -213,16 +147,8 @@ pub(crate) fn set_elsewhere<W: World>(
         (actions.set (place_view to.now) (view e.now))
         (moment (W.state world.old) run.old)) result (moment (W.state world.new) run.new) }
 {
-    if let Some((array, key)) = leaf_element(to) {
-        if let Expr::Leaf(value) = e {
-            if let ArrayReference::Global(slot) = table_of(&run.frame, array) {
-                if let Some(key) = plain_number(key, world, run) {
-                    if let Some(value) = plain_number(value, world, run) {
-                        return set_at_number(slot, key, value, world, run);
-                    }
-                }
-            }
-        }
+    if let Some(answer) = leaf_set(to, e, world, run) {
+        return answer;
     }
     let target = place(context, depth, to, world, run)?;
     let mut bytes = take_buffer(run.alloc, &mut run.spare);

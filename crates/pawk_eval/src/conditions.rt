@@ -20,12 +20,11 @@ use crate::operands::operand;
 use crate::places::key;
 use pawk_builtins::{EreReference, related, same_truth};
 use pawk_code::expression::{Expr, Pattern, Test};
-use pawk_code::leaf::Leaf;
 use pawk_code::name::Array;
 use pawk_code::word::Relation;
 use pawk_runtime::{
-    Run, compare_leaves, compare_number, element_exists, field_exists, find_first, give_back,
-    matches_field, number_exists, plain_number, quick_test, related_numbers, table_of, take_buffer,
+    Run, compare_leaves, compare_number, element_exists, find_first, give_back, leaf_member,
+    plain_number, quick_test, related_numbers, table_of, take_buffer,
 };
 use pawk_value::lend_held;
 use pawk_world::{Halt, World};
@@ -154,8 +153,7 @@ pub(crate) fn compare_values<W: World>(
     Ok(holds)
 }
 
-/// Whether a text matches, or, where no match is wanted, does not match. A field that is held
-/// against an expression between slashes is not copied.
+/// Whether a text matches, or, where no match is wanted, does not match.
 ///
 /// POSIX.1-2017, awk, "Regular Expressions".
 #[cycle(evaluate)]
@@ -175,16 +173,6 @@ pub(crate) fn matches<W: World>(
         (codes.matches wanted (view e.now) (pattern_view pattern.now))
         (moment (W.state world.old) run.old)) result (moment (W.state world.new) run.new) }
 {
-    if let Pattern::Fixed(_) = pattern {
-        if let Expr::Leaf(Leaf::Field(n)) = e {
-            let expression = EreReference {
-                eres: context.code.expressions.as_slice(),
-                pattern,
-                text: &[],
-            };
-            return matches_field(expression, wanted, *n, world, run);
-        }
-    }
     let text = text(context, depth, e, world, run)?;
     let ere = operand(context, depth, pattern, world, run)?;
     let expression = EreReference {
@@ -217,13 +205,8 @@ pub(crate) fn member<W: World>(
         (codes.member array (exprs (views keys.now)))
         (moment (W.state world.old) run.old)) result (moment (W.state world.new) run.new) }
 {
-    if let [Expr::Leaf(leaf)] = keys {
-        if let Leaf::Field(n) = leaf {
-            return field_exists(table_of(&run.frame, array), *n, world, run);
-        }
-        if let Some(key) = plain_number(leaf, world, run) {
-            return number_exists(table_of(&run.frame, array), key, world, run);
-        }
+    if let Some(answer) = leaf_member(array, keys, world, run) {
+        return answer;
     }
     let key = key(context, depth, keys, world, run)?;
     let exists = element_exists(table_of(&run.frame, array), &key, world, run)?;

@@ -20,12 +20,10 @@ use crate::numbers::numeric;
 use crate::places::place;
 use crate::strings::textual;
 use pawk_code::expression::{Argument, Expr, Lvalue};
-use pawk_code::leaf::Leaf;
 use pawk_runtime::{
-    LEVELS, Run, field_element, field_element_number, give_back, give_back_target, give_back_value,
-    leaf_copy, leaf_text, leaf_truth, leaf_value, lent_number, plain_test, plain_value,
-    push_field_element, push_place_text, quick_field, read_field_element, read_number, read_place,
-    table_of, take_buffer, value_with, write_place,
+    Run, give_back, give_back_target, give_back_value, leaf_copy, leaf_read, leaf_read_number,
+    leaf_read_text, leaf_text, leaf_truth, leaf_value, lent_number, plain_test, plain_value,
+    push_place_text, read_number, read_place, take_buffer, value_with, write_place,
 };
 use pawk_value::{
     Fault, Held, Value, ValueRef, hold, lend, lend_held, push_text_lent, to_num_lent, truth_lent,
@@ -93,8 +91,8 @@ pub(crate) fn read<W: World>(
         (codes.read (place_view from.now))
         (moment (W.state world.old) run.old)) result (moment (W.state world.new) run.new) }
 {
-    if let Some((array, n)) = field_element(from) {
-        return read_field_element(table_of(&run.frame, array), n, out, world, run);
+    if let Some(answer) = leaf_read(from, out, world, run) {
+        return answer;
     }
     let target = place(context, depth, from, world, run)?;
     let held = read_place(&target, out, world, run)?;
@@ -273,13 +271,8 @@ pub(crate) fn number_at<W: World>(
         (codes.read (place_view from.now)))
         (moment (W.state world.old) run.old)) result (moment (W.state world.new) run.new) }
 {
-    if let Lvalue::Field(index) = from {
-        if let Some(field) = quick_field(index, LEVELS, world, run) {
-            return lent_number(&Leaf::Field(field), world, run);
-        }
-    }
-    if let Some((array, n)) = field_element(from) {
-        return field_element_number(table_of(&run.frame, array), n, world, run);
+    if let Some(answer) = leaf_read_number(from, world, run) {
+        return answer;
     }
     let target = place(context, depth, from, world, run)?;
     let number = read_number(&target, world, run)?;
@@ -379,13 +372,8 @@ pub(crate) fn text_at<W: World>(
         (codes.read (place_view from.now)))
         (moment (W.state world.old) run.old)) result (moment (W.state world.new) run.new) }
 {
-    if let Lvalue::Field(index) = from {
-        if let Some(field) = quick_field(index, LEVELS, world, run) {
-            return leaf_text(&Leaf::Field(field), out, world, run);
-        }
-    }
-    if let Some((array, n)) = field_element(from) {
-        return push_field_element(table_of(&run.frame, array), n, out, world, run);
+    if let Some(answer) = leaf_read_text(from, out, world, run) {
+        return answer;
     }
     let target = place(context, depth, from, world, run)?;
     push_place_text(&target, out, world, run)?;

@@ -4,6 +4,7 @@
 //! rare arms are not cleared in hot functions (counted by bench/).
 #![tactic(auto)]
 
+mod amount;
 mod assignments;
 mod conditions;
 mod context;

@@ -14,11 +14,14 @@ ghost use Rattle.pawk_code.specs.ExpressionViews.{
 };
 ghost use Rattle.pawk_world.specs.Sums.{arith_by};
 ghost use Rattle.pawk_semantics.specs.Parts.{as_number, bind, settle};
-ghost use Rattle.pawk_semantics.specs.Meaning.{eval, function_of, number_of};
+ghost use Rattle.pawk_semantics.specs.Meaning.{aim_of, eval, function_of, number_of};
+ghost use Rattle.pawk_semantics.specs.Places.{change_at};
 ghost use Rattle.pawk_runtime.specs.Moments.{moment};
 ghost use Rattle.pawk_runtime.specs.Yields.{Yields};
+ghost use Rattle.pawk_eval.specs.Amounts.{amount_of};
 ghost use Rattle.pawk_eval.specs.Contexts.{enter_of, eres_of, replacement_view};
 
+use crate::amount::{Amount, amount_number};
 use crate::context::Context;
 use crate::expressions::{number, text};
 use crate::operands::operand;
@@ -26,13 +29,11 @@ use crate::places::place;
 use crate::replacement::Replacement;
 use pawk_builtins::{EreReference, step_side, step_sign};
 use pawk_code::expression::{Expr, FieldsBy, Lvalue, Numeric, NumericFunction, Pattern};
-use pawk_code::leaf::Leaf;
 use pawk_code::name::Array;
-use pawk_code::word::Step;
 use pawk_runtime::{
-    LEVELS, Run, SplitSeparator, arithmetic_after, change_place, combine, find_first,
-    find_in_field, give_back, give_back_target, leaf_length, place_in, place_in_leaf, quick_number,
-    result_of, set_match_place, split_into, substitute, table_of,
+    LEVELS, Run, SplitSeparator, arithmetic_after, change_place, combine, find_first, give_back,
+    give_back_target, leaf_find, leaf_function, place_in, quick_number, result_of, set_match_place,
+    split_into, substitute, table_of,
 };
 use pawk_value::Op;
 use pawk_world::{Halt, World, op_of};
@@ -58,8 +59,15 @@ pub(crate) fn numeric<W: World>(
         Numeric::Sign(sign, a) => {
             arithmetic_with(context, depth, op_of(*sign), 0, a, world, run)
         }
-        Numeric::Change(op, to, a) => change(context, depth, *op, to, a, world, run),
-        Numeric::Step(step, to) => step_by(context, depth, *step, to, world, run),
+        Numeric::Change(op, to, a) => {
+            let numbers = change(context, depth, *op, to, Amount::Of(a), world, run)?;
+            Ok(numbers.1)
+        }
+        Numeric::Step(step, to) => {
+            let op = op_of(step_sign(*step));
+            let numbers = change(context, depth, op, to, Amount::One, world, run)?;
+            Ok(step_side(*step, numbers.0, numbers.1))
+        }
         Numeric::Function(f) => function(context, depth, f, world, run),
         Numeric::Split(e, array, by) => split(context, depth, e, *array, by, world, run),
         Numeric::Replace(count, pattern, e, to) => {
@@ -139,55 +147,32 @@ pub(crate) fn arithmetic_with<W: World>(
     Ok(combine(op, Ok(x), y)?)
 }
 
-/// Changes a place by an operation, and gives its new number.
+/// Changes a place by an operation with an amount, and gives its old and its new number.
 ///
-/// POSIX.1-2017, awk, "Expressions in awk" (assignment).
+/// POSIX.1-2017, awk, "Expressions in awk" (assignment, increment and decrement).
 #[cycle(evaluate)]
 pub(crate) fn change<W: World>(
     context: Context<'_>,
     depth: u64,
     op: Op,
     to: &Lvalue,
-    e: &Expr,
+    amount: Amount<'_>,
     world: &mut W,
     run: &mut Run<'_>,
-) -> Result<i64, Halt>
+) -> Result<(i64, i64), Halt>
     ensures left { run.new.left ≤ run.old.left }
-    ensures outcome { Yields (λ number. number)
-        (number_of W.calls (eres_of context.entry) (enter_of W.calls context.entry depth)
-        (codes.change op (place_view to.now) (view e.now))
+    ensures outcome { Yields (λ numbers. numbers)
+        (bind (aim_of W.calls (eres_of context.entry) (enter_of W.calls context.entry depth)
+        (place_view to.now)) (λ aim. bind
+        (amount_of W.calls (eres_of context.entry) (enter_of W.calls context.entry depth)
+        amount.entry) (change_at W.calls op aim))
         (moment (W.state world.old) run.old)) result (moment (W.state world.new) run.new) }
 {
     let target = place(context, depth, to, world, run)?;
-    let y = number(context, depth, e, world, run)?;
+    let y = amount_number(context, depth, amount, world, run)?;
     let numbers = change_place(op, &target, y, world, run)?;
     give_back_target(&mut run.spare, target);
-    Ok(numbers.1)
-}
-
-/// Changes a place by 1, and gives the old or the new number.
-///
-/// POSIX.1-2017, awk, "Expressions in awk" (increment and decrement).
-#[cycle(evaluate)]
-pub(crate) fn step_by<W: World>(
-    context: Context<'_>,
-    depth: u64,
-    step: Step,
-    to: &Lvalue,
-    world: &mut W,
-    run: &mut Run<'_>,
-) -> Result<i64, Halt>
-    ensures left { run.new.left ≤ run.old.left }
-    ensures outcome { Yields (λ number. number)
-        (number_of W.calls (eres_of context.entry) (enter_of W.calls context.entry depth)
-        (codes.step step (place_view to.now))
-        (moment (W.state world.old) run.old)) result (moment (W.state world.new) run.new) }
-{
-    let target = place(context, depth, to, world, run)?;
-    let op = op_of(step_sign(step));
-    let numbers = change_place(op, &target, Ok(1), world, run)?;
-    give_back_target(&mut run.spare, target);
-    Ok(step_side(step, numbers.0, numbers.1))
+    Ok(numbers)
 }
 
 /// The number that a built-in function of values gives. Nothing is copied where `length` has a leaf, and
@@ -208,22 +193,17 @@ pub(crate) fn function<W: World>(
         (function_view f.now)
         (moment (W.state world.old) run.old)) result (moment (W.state world.new) run.new) }
 {
+    if let Some(answer) = leaf_function(f, world, run) {
+        return answer;
+    }
     match f {
         NumericFunction::Length(e) => {
-            if let Expr::Leaf(leaf) = &**e {
-                return leaf_length(leaf, world, run);
-            }
             let text = text(context, depth, e, world, run)?;
             let length = text.len() as i64;
             give_back(&mut run.spare, text);
             Ok(length)
         }
         NumericFunction::Index(e, sought) => {
-            if let Expr::Leaf(x) = &**e {
-                if let Expr::Leaf(y) = &**sought {
-                    return place_in_leaf(x, y, world, run);
-                }
-            }
             let text_e = text(context, depth, e, world, run)?;
             let text_sought = text(context, depth, sought, world, run)?;
             let place = place_in(&text_e, &text_sought);
@@ -324,21 +304,14 @@ pub(crate) fn find<W: World>(
         (codes.find (view e.now) (pattern_view pattern.now))
         (moment (W.state world.old) run.old)) result (moment (W.state world.new) run.new) }
 {
-    if let Pattern::Fixed(_) = pattern {
-        if let Expr::Leaf(Leaf::Field(n)) = e {
-            let expression = EreReference {
-                eres: context.code.expressions.as_slice(),
-                pattern,
-                text: &[],
-            };
-            let found = find_in_field(expression, *n, world, run)?;
-            return set_match_place(found, world, run);
-        }
+    let eres = context.code.expressions.as_slice();
+    if let Some(answer) = leaf_find(eres, e, pattern, world, run) {
+        return answer;
     }
     let text = text(context, depth, e, world, run)?;
     let ere = operand(context, depth, pattern, world, run)?;
     let expression = EreReference {
-        eres: context.code.expressions.as_slice(),
+        eres,
         pattern,
         text: &ere,
     };

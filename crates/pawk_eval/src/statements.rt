@@ -24,7 +24,8 @@ ghost use Rattle.pawk_runtime.specs.Yields.{Yields};
 ghost use Rattle.pawk_eval.specs.Contexts.{enter_of, eres_of};
 ghost use Rattle.pawk_eval.specs.Flows.{way_of};
 
-use crate::assignments::{add, set, tally};
+use crate::amount::Amount;
+use crate::assignments::{add, set};
 use crate::context::Context;
 use crate::expressions::{eval_apart, number, text, truth, value};
 use crate::flow::Flow;
@@ -206,8 +207,18 @@ pub(crate) fn perform<W: World>(
             Ok(())
         }
         Simple::Set(to, e) => set(context, depth, to, e, world, run),
-        Simple::Add(sign, to, e) => add(context, depth, *sign, to, e, world, run),
-        Simple::Count(step, to) => tally(context, depth, step_sign(*step), to, world, run),
+        Simple::Add(sign, to, e) => add(context, depth, *sign, to, Amount::Of(e), world, run),
+        Simple::Count(step, to) => {
+            add(
+                context,
+                depth,
+                step_sign(*step),
+                to,
+                Amount::One,
+                world,
+                run,
+            )
+        }
         Simple::Print(operands) => {
             if are_plain(&operands.values) {
                 let printed = print_plain(&operands.values, world, run)?;

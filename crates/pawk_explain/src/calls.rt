@@ -1,8 +1,8 @@
 //! Calls that do not fit what they call: the number 6.
 
 use crate::case::FaultyScript;
-use crate::note::Note;
-use crate::words::append_number;
+use crate::note::{Note, Words};
+use crate::words::{append_number, append_words};
 use pawk_lex::token::{Builtin, Mark, Token, TokenValue};
 use std::alloc::AllocError;
 
@@ -88,44 +88,45 @@ fn takes(function: Builtin) -> (usize, usize) {
 /// How many arguments a built-in function takes, in words.
 fn words_of(function: Builtin) -> &'static str {
     match function {
-        Builtin::Length => "no argument or one",
-        Builtin::Tolower | Builtin::Toupper | Builtin::Int => "one argument",
-        Builtin::Index | Builtin::Match => "2 arguments",
-        Builtin::Substr | Builtin::Split | Builtin::Sub | Builtin::Gsub => "2 or 3 arguments",
-        Builtin::Sprintf => "a format, and then its arguments",
+        Builtin::Length => " takes no argument or one",
+        Builtin::Tolower | Builtin::Toupper | Builtin::Int => " takes one argument",
+        Builtin::Index | Builtin::Match => " takes 2 arguments",
+        Builtin::Substr | Builtin::Split | Builtin::Sub | Builtin::Gsub =>
+            " takes 2 or 3 arguments",
+        Builtin::Sprintf => " takes a format, and then its arguments",
     }
 }
 
-/// What is written into by a built-in function.
-fn explain_target(function: Builtin, note: &mut Note) -> Result<(), AllocError> {
+/// What is reported about what a built-in function writes into.
+fn words_of_target(function: Builtin) -> Words {
     if function == Builtin::Split {
-        note.tell("the second argument of split is no array", &[])?;
-        note.advise(
-            "write the name of an array there: split($0, part, \",\")",
-            &[],
-        )
+        Words {
+            what: "the second argument of split is no array",
+            advice: "write the name of an array there: split($0, part, \",\")",
+        }
     } else {
-        note.tell(
-            "the third argument of @ cannot be assigned",
-            &[function.name()],
-        )?;
-        note.advise(
-            "write a variable, an element or a field there, or nothing for $0",
-            &[],
-        )
+        Words {
+            what: "the third argument of @ cannot be assigned",
+            advice: "write a variable, an element or a field there, or nothing for $0",
+        }
     }
 }
 
 /// Tells how many arguments a call has.
 fn tell_count(note: &mut Note, count: usize) -> Result<(), AllocError> {
     match count {
-        0 => note.tell(", and here is none", &[]),
-        1 => note.tell(", and here is 1", &[]),
+        0 => note.tell(", and here is none"),
+        1 => note.tell(", and here is 1"),
         _ => {
-            note.tell(", and here are ", &[])?;
+            note.tell(", and here are ")?;
             append_number(&mut note.what, count as u64)
         }
     }
+}
+
+/// How many arguments the call at fault has.
+fn count_arguments(case: &FaultyScript<'_, '_>) -> usize {
+    count_members(tokens_from(case.tokens, case.count_before().saturating_add(1)))
 }
 
 /// A call of a built-in function.
@@ -134,16 +135,13 @@ fn explain_builtin(
     function: Builtin,
     note: &mut Note,
 ) -> Result<(), AllocError> {
-    let list = tokens_from(case.tokens, case.count_before().saturating_add(1));
-    let count = count_members(list);
+    let count = count_arguments(case);
     let (least, most) = takes(function);
     if least <= count && count <= most {
-        return explain_target(function, note);
+        return note.explain(words_of_target(function), function.name());
     }
-    note.tell(
-        "@ takes @",
-        &[function.name(), words_of(function).as_bytes()],
-    )?;
+    note.what.extend_from_slice(function.name())?;
+    note.tell(words_of(function))?;
     tell_count(note, count)
 }
 
@@ -153,18 +151,14 @@ fn explain_function(
     parameters: usize,
     note: &mut Note,
 ) -> Result<(), AllocError> {
-    let list = tokens_from(case.tokens, case.count_before().saturating_add(1));
-    note.tell("the function @ has ", &[case.name()])?;
+    append_words(&mut note.what, "the function @ has ", case.name())?;
     append_number(&mut note.what, parameters as u64)?;
-    note.tell(
-        if parameters == 1 {
-            " parameter"
-        } else {
-            " parameters"
-        },
-        &[],
-    )?;
-    tell_count(note, count_members(list))
+    note.tell(if parameters == 1 {
+        " parameter"
+    } else {
+        " parameters"
+    })?;
+    tell_count(note, count_arguments(case))
 }
 
 /// Whether the name before the call is `func`, as other awks have it.
@@ -175,17 +169,16 @@ fn is_after_func(case: &FaultyScript<'_, '_>) -> bool {
     }
 }
 
-/// A call of a function that is not there.
-fn explain_missing(case: &FaultyScript<'_, '_>, note: &mut Note) -> Result<(), AllocError> {
-    let name = case.name();
-    note.tell("there is no function @", &[name])?;
-    if is_after_func(case) {
-        return note.advise("the word is not func: write function @(..) { .. }", &[name]);
+/// What is reported about a call of a function that is not there.
+fn words_of_missing(case: &FaultyScript<'_, '_>) -> Words {
+    Words {
+        what: "there is no function @",
+        advice: if is_after_func(case) {
+            "the word is not func: write function @(..) { .. }"
+        } else {
+            "define it: function @(..) { .. }; of other awks' functions only those of POSIX are there"
+        },
     }
-    note.advise(
-        "define it: function @(..) { .. }; of other awks' functions only those of POSIX are there",
-        &[name],
-    )
 }
 
 /// 6: a call that does not fit what it calls.
@@ -195,6 +188,6 @@ pub(crate) fn explain_call(case: &FaultyScript<'_, '_>, note: &mut Note) -> Resu
     }
     match count_parameters(case.tokens, case.name()) {
         Some(parameters) => explain_function(case, parameters, note),
-        None => explain_missing(case, note),
+        None => note.explain(words_of_missing(case), case.name()),
     }
 }

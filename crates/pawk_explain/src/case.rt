@@ -18,11 +18,12 @@ fn is_name_byte(byte: u8) -> bool {
 
 /// The bytes of names at the front.
 pub(crate) fn name_at(text: &[u8]) -> &[u8] {
-    let length = text
-        .iter()
-        .position(|byte| !is_name_byte(*byte))
-        .unwrap_or(text.len());
-    text.get(..length).unwrap_or(text)
+    for (length, byte) in text.iter().enumerate() {
+        if !is_name_byte(*byte) {
+            return text.get(..length).unwrap_or(text);
+        }
+    }
+    text
 }
 
 /// The byte at this index, or 0 where there is none.
@@ -48,17 +49,20 @@ impl<'c, 's> FaultyScript<'c, 's> {
 
     /// How many tokens begin before the place.
     pub(crate) fn count_before(&self) -> usize {
-        let start = self.start;
-        self.tokens
-            .iter()
-            .position(|token| token.span.start >= start)
-            .unwrap_or(self.tokens.len())
+        for (count, token) in self.tokens.iter().enumerate() {
+            if token.span.start >= self.start {
+                return count;
+            }
+        }
+        self.tokens.len()
     }
 
     /// The token at the place, if one begins there.
     pub(crate) fn token(&self) -> Option<&'c Token> {
-        let start = self.start;
-        self.tokens.iter().find(|token| token.span.start == start)
+        match self.tokens.get(self.count_before()) {
+            Some(token) if token.span.start == self.start => Some(token),
+            _ => None,
+        }
     }
 
     /// What the token of this number is, counted from 0.

@@ -1,6 +1,6 @@
 //! Where a fault is: its position, and the text of its line with a mark.
 
-use crate::position::position_after;
+use crate::position::{Position, position_after};
 use crate::script::Script;
 use crate::words::{append_number, append_plain};
 use memchr::{memchr, memrchr};
@@ -11,9 +11,6 @@ const WINDOW: usize = 100;
 
 /// How many bytes of a long line are shown before the place.
 const BEFORE: usize = 50;
-
-/// What each line of a program's text is begun with.
-const INDENT: &[u8] = b"    ";
 
 /// Appends the position of a place of the text, counted from 0.
 pub(crate) fn append_position(
@@ -27,7 +24,11 @@ pub(crate) fn append_position(
         out.extend_from_slice(b", ")?;
     }
     let before = script.text().get(origin.start..start).unwrap_or(&[]);
-    let position = position_after(before);
+    append_line_and_column(out, position_after(before))
+}
+
+/// Appends a position in a file.
+fn append_line_and_column(out: &mut Vec<u8>, position: Position) -> Result<(), AllocError> {
     out.extend_from_slice(b"line ")?;
     append_number(out, position.line as u64)?;
     out.extend_from_slice(b", column ")?;
@@ -72,8 +73,24 @@ fn append_line(out: &mut Vec<u8>, bytes: &[u8]) -> Result<(), AllocError> {
     Ok(())
 }
 
-/// Appends blanks below bytes, and a mark. The later bytes of a character take no column.
-fn append_mark(out: &mut Vec<u8>, bytes: &[u8]) -> Result<(), AllocError> {
+/// The bytes of the rest of a line that are shown, and what ends them: dots where there are more.
+fn shown(rest: &[u8]) -> (&[u8], &'static [u8]) {
+    match rest.get(..WINDOW) {
+        Some(part) if part.len() < rest.len() => (part, b"..\n"),
+        _ => (rest, b"\n"),
+    }
+}
+
+/// Appends the part of a line that is shown, with dots where it was cut.
+fn append_part(out: &mut Vec<u8>, line: Line<'_>, from: usize) -> Result<(), AllocError> {
+    let (part, end) = shown(line.bytes.get(from..).unwrap_or(&[]));
+    out.extend_from_slice(if from > 0 { b"    .." } else { b"    " })?;
+    append_line(out, part)?;
+    out.extend_from_slice(end)
+}
+
+/// Appends blanks below bytes. The later bytes of a character take no column.
+fn append_blanks(out: &mut Vec<u8>, bytes: &[u8]) -> Result<(), AllocError> {
     for byte in bytes {
         match *byte {
             b'\t' => out.push(b'\t')?,
@@ -81,26 +98,15 @@ fn append_mark(out: &mut Vec<u8>, bytes: &[u8]) -> Result<(), AllocError> {
             _ => out.push(b' ')?,
         }
     }
-    out.extend_from_slice(b"^\n")
+    Ok(())
 }
 
-/// Appends the part of a line that is shown, with dots where it was cut.
-fn append_part(out: &mut Vec<u8>, line: Line<'_>, from: usize) -> Result<(), AllocError> {
-    let rest = line.bytes.get(from..).unwrap_or(&[]);
-    out.extend_from_slice(INDENT)?;
-    if from > 0 {
-        out.extend_from_slice(b"..")?;
-    }
-    match rest.get(..WINDOW) {
-        Some(part) if part.len() < rest.len() => {
-            append_line(out, part)?;
-            out.extend_from_slice(b"..\n")
-        }
-        _ => {
-            append_line(out, rest)?;
-            out.extend_from_slice(b"\n")
-        }
-    }
+/// Appends a mark below the place of a line.
+fn append_mark(out: &mut Vec<u8>, line: Line<'_>, from: usize) -> Result<(), AllocError> {
+    let before = line.bytes.get(from..line.place).unwrap_or(&[]);
+    out.extend_from_slice(if from > 0 { b"      " } else { b"    " })?;
+    append_blanks(out, before)?;
+    out.extend_from_slice(b"^\n")
 }
 
 /// Appends the line of a place of a text, and a mark under it; nothing where the line is empty.
@@ -115,9 +121,5 @@ pub(crate) fn append_source(
     }
     let from = window_start(line);
     append_part(out, line, from)?;
-    out.extend_from_slice(INDENT)?;
-    if from > 0 {
-        out.extend_from_slice(b"  ")?;
-    }
-    append_mark(out, line.bytes.get(from..line.place).unwrap_or(&[]))
+    append_mark(out, line, from)
 }

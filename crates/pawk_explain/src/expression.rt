@@ -1,8 +1,8 @@
 //! Regular expressions that cannot be read: the number 10.
 
 use crate::case::{FaultyScript, byte_at};
-use crate::lexical::tell_escape;
-use crate::note::Note;
+use crate::lexical::what_of_escape;
+use crate::note::{Note, Words};
 use memchr::memrchr;
 use pawk_ere_syntax::{Ere, EreRefusal};
 use pawk_lex::token::TokenValue;
@@ -55,22 +55,24 @@ fn find(alloc: Global, text: &[u8]) -> Option<Finding> {
 }
 
 /// What is reported about a form that is not defined, at this byte.
-fn words_of_form(byte: u8) -> &'static str {
+fn words_of_form(byte: u8) -> Words {
     match byte {
-        b'*' | b'+' | b'?' => "there is nothing to repeat before @",
-        b'{' => "this { begins no count of what is before it",
-        b'|' => "one side of this | is empty",
-        _ => "a group, or a side of a |, is empty",
-    }
-}
-
-/// What to write in place of a form that is not defined.
-fn advice_of_form(byte: u8) -> &'static str {
-    match byte {
-        b'{' => "the sign itself is written \\{; a count begins with a number, as a{0,3}",
-        b'*' | b'+' | b'?' => "the sign itself is written \\@; of two repetitions leave one: a*",
-        b'|' => "for one or nothing write (a)?; the sign itself is written \\|",
-        _ => "for something or nothing write (a)?; the signs themselves are written \\( and \\)",
+        b'*' | b'+' | b'?' => Words {
+            what: "there is nothing to repeat before @",
+            advice: "the sign itself is written \\@; of two repetitions leave one: a*",
+        },
+        b'{' => Words {
+            what: "this { begins no count of what is before it",
+            advice: "the sign itself is written \\{; a count begins with a number, as a{0,3}",
+        },
+        b'|' => Words {
+            what: "one side of this | is empty",
+            advice: "for one or nothing write (a)?; the sign itself is written \\|",
+        },
+        _ => Words {
+            what: "a group, or a side of a |, is empty",
+            advice: "for something or nothing write (a)?; the signs themselves are written \\( and \\)",
+        },
     }
 }
 
@@ -95,52 +97,48 @@ fn explain_escape(text: &[u8], place: usize, note: &mut Note) -> Result<(), Allo
         Some(rest) => rest.get(..2).unwrap_or(b"\\"),
         None => b"\\",
     };
-    let byte = byte_at(escape, 1);
-    tell_escape(note, "expressions have no escape @", escape)?;
-    note.advise(advice_of_escape(byte), &[])
-}
-
-/// A form that is not defined.
-fn explain_form(byte: u8, note: &mut Note) -> Result<(), AllocError> {
-    let sign = [byte];
-    note.tell(words_of_form(byte), &[sign.as_slice()])?;
-    note.advise(advice_of_form(byte), &[sign.as_slice()])
+    let words = Words {
+        what: what_of_escape("expressions have no escape @", escape),
+        advice: advice_of_escape(byte_at(escape, 1)),
+    };
+    note.explain(words, escape)
 }
 
 /// What is reported about the other causes.
-fn words_of(why: EreRefusal) -> &'static str {
+fn words_of(why: EreRefusal) -> Words {
     match why {
-        EreRefusal::Bound =>
-            "a count is greater than 255, or the first number greater than the second",
-        EreRefusal::Bracket => "what begins with this [ is no list of bytes",
-        EreRefusal::Group => "this bracket has no partner",
-        EreRefusal::TooLarge => "the expression is too large",
-        _ => "this expression cannot be read",
-    }
-}
-
-/// What to do about them.
-fn advice_of(why: EreRefusal) -> &'static str {
-    match why {
-        EreRefusal::Bound => "write a smaller count, as in a{2,5}",
-        EreRefusal::Bracket =>
-            "a ] is first, as in []a], a - first or last; ranges rise, as [a-z]; a / is written \\/\nthere are classes, as [[:alpha:]], but no [. and no [=",
-        EreRefusal::Group => "the signs themselves are written \\( and \\)",
-        EreRefusal::TooLarge =>
-            "its size with all counts written out is at most 4096: take smaller counts",
-        _ => "see docs/language.md",
+        EreRefusal::Bound => Words {
+            what: "a count is greater than 255, or the first number greater than the second",
+            advice: "write a smaller count, as in a{2,5}",
+        },
+        EreRefusal::Bracket => Words {
+            what: "what begins with this [ is no list of bytes",
+            advice: "a ] is first, as in []a], a - first or last; ranges rise, as [a-z]; a / is written \\/\nthere are classes, as [[:alpha:]], but no [. and no [=",
+        },
+        EreRefusal::Group => Words {
+            what: "this bracket has no partner",
+            advice: "the signs themselves are written \\( and \\)",
+        },
+        EreRefusal::TooLarge => Words {
+            what: "the expression is too large",
+            advice: "its size with all counts written out is at most 4096: take smaller counts",
+        },
+        _ => Words {
+            what: "this expression cannot be read",
+            advice: "see docs/language.md",
+        },
     }
 }
 
 /// Tells what was found in an expression.
 fn explain_finding(text: &[u8], found: Finding, note: &mut Note) -> Result<(), AllocError> {
     match found.why {
-        EreRefusal::Form => explain_form(byte_at(text, found.place), note),
-        EreRefusal::Escape => explain_escape(text, found.place, note),
-        why => {
-            note.tell(words_of(why), &[])?;
-            note.advise(advice_of(why), &[])
+        EreRefusal::Form => {
+            let byte = byte_at(text, found.place);
+            note.explain(words_of_form(byte), &[byte])
         }
+        EreRefusal::Escape => explain_escape(text, found.place, note),
+        why => note.explain(words_of(why), &[]),
     }
 }
 
@@ -159,6 +157,6 @@ pub(crate) fn explain_expression(
             note.start = case.start.saturating_add(found.place).saturating_add(1);
             explain_finding(text, found, note)
         }
-        None => note.tell("this expression cannot be read", &[]),
+        None => note.tell("this expression cannot be read"),
     }
 }

@@ -1,8 +1,8 @@
 //! Faults that end a run.
 
 use crate::words::{append_beginning, append_lines, append_number, append_plain};
-use pawk_value::{Fault, LENGTH_LIMIT, NUMBER_LIMIT};
-use std::alloc::{AllocError, Global};
+use pawk_value::Fault;
+use std::alloc::AllocError;
 
 /// How many bytes of a record are shown at most.
 const LONGEST: usize = 60;
@@ -19,7 +19,8 @@ pub struct RecordPlace<'a> {
 /// What happened.
 fn words_of(fault: Fault) -> &'static str {
     match fault {
-        Fault::Overflow => "a number was less than -@ or greater than @",
+        Fault::Overflow =>
+            "a number was less than -9223372036854775808 or greater than 9223372036854775807",
         Fault::Zero => "there was a division, or a remainder, by 0",
         Fault::Inexact => "a division left a remainder, and numbers are whole",
         Fault::Exponent => "the exponent of ^ was negative",
@@ -31,30 +32,12 @@ fn words_of(fault: Fault) -> &'static str {
         Fault::Status => "the value of exit was not one of 0 to 255",
         Fault::Steps => "the budget of steps was used up, which BEGIN, END and each record have",
         Fault::Depth => "more than 200 calls were open at once",
-        Fault::Length => "a text of more than @ bytes was to be made",
+        Fault::Length => "a text of more than 16777216 bytes was to be made",
         Fault::Negative => "a negative number was to be written by %o, %u, %x or %X",
         Fault::Format =>
             "a format could not be read, an argument was missing, or %c had a number that is no byte",
         Fault::Ere => "a text that stands for an expression could not be read",
     }
-}
-
-/// The limits that the words of a fault name, in order.
-fn limits_of(fault: Fault) -> (u64, u64) {
-    match fault {
-        Fault::Length => (LENGTH_LIMIT as u64, 0),
-        _ => (NUMBER_LIMIT, NUMBER_LIMIT - 1),
-    }
-}
-
-/// Appends the line that says what happened.
-fn append_fault(alloc: Global, out: &mut Vec<u8>, fault: Fault) -> Result<(), AllocError> {
-    let (one, other) = limits_of(fault);
-    let mut first = Vec::new(alloc);
-    append_number(&mut first, one)?;
-    let mut second = Vec::new(alloc);
-    append_number(&mut second, other)?;
-    append_lines(out, words_of(fault), &[first.as_slice(), second.as_slice()])
 }
 
 /// What to do.
@@ -85,14 +68,17 @@ fn advice_of(fault: Fault) -> &'static str {
     }
 }
 
-/// Appends the name of a file.
-fn append_name(out: &mut Vec<u8>, file: &[u8]) -> Result<(), AllocError> {
+/// Appends the name of a file, and the number of a record of it.
+fn append_number_in_file(out: &mut Vec<u8>, file: &[u8], fnr: u64) -> Result<(), AllocError> {
     if file.is_empty() {
-        out.extend_from_slice(b"standard input")
-    } else {
-        out.extend_from_slice(b"file ")?;
-        append_plain(out, file)
+        out.extend_from_slice(b"  in standard input, record ")?;
+        return append_number(out, fnr);
     }
+    out.extend_from_slice(b"  in file ")?;
+    append_plain(out, file)?;
+    out.extend_from_slice(b", record ")?;
+    append_number(out, fnr)?;
+    out.extend_from_slice(b" of it")
 }
 
 /// Appends the beginning of a record.
@@ -106,31 +92,22 @@ fn append_bytes(out: &mut Vec<u8>, bytes: &[u8]) -> Result<(), AllocError> {
 
 /// Appends the line that says where a record is.
 fn append_record(out: &mut Vec<u8>, record: RecordPlace<'_>) -> Result<(), AllocError> {
-    out.extend_from_slice(b"  in ")?;
-    append_name(out, record.file)?;
-    out.extend_from_slice(b", record ")?;
-    append_number(out, record.fnr)?;
-    if !record.file.is_empty() {
-        out.extend_from_slice(b" of it")?;
-    }
+    append_number_in_file(out, record.file, record.fnr)?;
     if let Some(bytes) = record.bytes {
         append_bytes(out, bytes)?;
     }
-    out.push(b'\n')?;
-    Ok(())
+    out.extend_from_slice(b"\n")
 }
 
-/// Explains a fault: at which record, what happened, and what to do.
+/// Appends the explanation of a fault: at which record, what happened, and what to do.
 pub fn explain_fault(
-    alloc: Global,
+    out: &mut Vec<u8>,
     fault: Fault,
     record: Option<RecordPlace<'_>>,
-) -> Result<Vec<u8>, AllocError> {
-    let mut out = Vec::new(alloc);
+) -> Result<(), AllocError> {
     if let Some(record) = record {
-        append_record(&mut out, record)?;
+        append_record(out, record)?;
     }
-    append_fault(alloc, &mut out, fault)?;
-    append_lines(&mut out, advice_of(fault), &[])?;
-    Ok(out)
+    append_lines(out, words_of(fault), &[])?;
+    append_lines(out, advice_of(fault), &[])
 }

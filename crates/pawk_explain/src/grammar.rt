@@ -1,8 +1,8 @@
 //! What is at fault with a token where it is: the numbers 2, 4, 7 and 9.
 
 use crate::case::FaultyScript;
-use crate::note::Note;
-use crate::words::{append_beginning, append_number};
+use crate::note::{Note, Words};
+use crate::words::append_beginning;
 use pawk_lex::token::{Mark, Token, TokenValue};
 use std::alloc::AllocError;
 
@@ -64,23 +64,29 @@ fn tell_token(
     note: &mut Note,
 ) -> Result<(), AllocError> {
     if matches!(&token.value, TokenValue::Mark(Mark::Newline)) {
-        return note.tell("the end of the line", &[]);
+        return note.tell("the end of the line");
     }
     let text = case.script.text().get(token.span.start..token.span.end);
-    note.tell(kind(&token.value), &[])?;
+    note.tell(kind(&token.value))?;
     append_beginning(&mut note.what, text.unwrap_or(&[]), LONGEST)
 }
 
-/// What to do about a token.
-fn advise_of_token(value: &TokenValue, note: &mut Note) -> Result<(), AllocError> {
-    match value {
-        TokenValue::Mark(mark) => match advice_of(*mark) {
-            "" => Ok(()),
-            words => note.advise(words, &[]),
+/// What is reported about a token, after its name.
+fn words_of_token(value: &TokenValue) -> Words {
+    Words {
+        what: " is unexpected here",
+        advice: match value {
+            TokenValue::Mark(mark) => advice_of(*mark),
+            _ => "",
         },
-        _ => Ok(()),
     }
 }
+
+/// What is reported about the end of the text.
+const END: Words = Words {
+    what: "the end of the program is unexpected here",
+    advice: "is a }, a ) or a ] missing?",
+};
 
 /// 2: a token, or the end of the text, where it is not allowed.
 pub(crate) fn explain_unexpected(
@@ -90,13 +96,9 @@ pub(crate) fn explain_unexpected(
     match case.token() {
         Some(token) => {
             tell_token(case, token, note)?;
-            note.tell(" is unexpected here", &[])?;
-            advise_of_token(&token.value, note)
+            note.explain(words_of_token(&token.value), &[])
         }
-        None => {
-            note.tell("the end of the program is unexpected here", &[])?;
-            note.advise("is a }, a ) or a ] missing?", &[])
-        }
+        None => note.explain(END, &[]),
     }
 }
 
@@ -111,62 +113,34 @@ fn advice_of_variable(name: &[u8]) -> &'static str {
     }
 }
 
-/// 4: a variable that may not be assigned is a target.
-pub(crate) fn explain_assigned(
-    case: &FaultyScript<'_, '_>,
-    note: &mut Note,
-) -> Result<(), AllocError> {
-    let name = case.name();
-    note.tell("@ is set by the run, and cannot be assigned", &[name])?;
-    note.advise(advice_of_variable(name), &[])
-}
-
-/// 7: a statement outside what it belongs to.
-pub(crate) fn explain_misplaced(
-    case: &FaultyScript<'_, '_>,
-    note: &mut Note,
-) -> Result<(), AllocError> {
-    let name = case.name();
-    match name.first() {
-        Some(b'n') => {
-            note.tell(
-                "@ is for rules alone, not for BEGIN, END and functions",
-                &[name],
-            )?;
-            note.advise(
-                "let a function return a value, and write @ in the rule",
-                &[name],
-            )
-        }
-        Some(b'r') => {
-            note.tell("return is for functions alone", &[])?;
-            note.advise("next ends the work on a record, exit the run", &[])
-        }
-        _ => {
-            note.tell("@ is for loops alone", &[name])?;
-            note.advise(
-                "next ends the work on a record, exit the run, return a call",
-                &[],
-            )
-        }
+/// 4: a variable of this name, which may not be assigned, is a target.
+pub(crate) fn words_of_assigned(name: &[u8]) -> Words {
+    Words {
+        what: "@ is set by the run, and cannot be assigned",
+        advice: advice_of_variable(name),
     }
 }
 
-/// How many brackets may be open at once.
-const MOST_OPEN: u64 = 500;
-
-/// How many levels may lie in one another.
-const MOST_LEVELS: u64 = 200;
+/// 7: a statement that begins with this word is outside what it belongs to.
+pub(crate) fn words_of_misplaced(name: &[u8]) -> Words {
+    match name.first() {
+        Some(b'n') => Words {
+            what: "@ is for rules alone, not for BEGIN, END and functions",
+            advice: "let a function return a value, and write @ in the rule",
+        },
+        Some(b'r') => Words {
+            what: "return is for functions alone",
+            advice: "next ends the work on a record, exit the run",
+        },
+        _ => Words {
+            what: "@ is for loops alone",
+            advice: "next ends the work on a record, exit the run, return a call",
+        },
+    }
+}
 
 /// 9: nesting that is too deep.
-pub(crate) fn explain_nesting(note: &mut Note) -> Result<(), AllocError> {
-    note.tell("here begins what has more than ", &[])?;
-    append_number(&mut note.what, MOST_OPEN)?;
-    note.tell(" open brackets, or more than ", &[])?;
-    append_number(&mut note.what, MOST_LEVELS)?;
-    note.tell(" levels", &[])?;
-    note.advise(
-        "part it: give what lies inside to a variable or a function",
-        &[],
-    )
-}
+pub(crate) const NESTING: Words = Words {
+    what: "here begins what has more than 500 open brackets, or more than 200 levels",
+    advice: "part it: give what lies inside to a variable or a function",
+};

@@ -1,8 +1,6 @@
 //! What to write in place of names that the language leaves out: the number 11.
 
-use crate::case::FaultyScript;
-use crate::note::Note;
-use std::alloc::AllocError;
+use crate::note::Words;
 
 /// Whether this is a function that ends or forces output.
 fn is_output(name: &[u8]) -> bool {
@@ -32,11 +30,9 @@ pub(crate) fn advice_of(name: &[u8]) -> &'static str {
 }
 
 /// 11: a name of the standard that the language leaves out.
-pub(crate) fn explain_left_out(
-    case: &FaultyScript<'_, '_>,
-    note: &mut Note,
-) -> Result<(), AllocError> {
-    let name = case.name();
-    note.tell("@ is left out of the language", &[name])?;
-    note.advise(advice_of(name), &[])
+pub(crate) fn words_of_left_out(name: &[u8]) -> Words {
+    Words {
+        what: "@ is left out of the language",
+        advice: advice_of(name),
+    }
 }

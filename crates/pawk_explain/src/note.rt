@@ -12,6 +12,14 @@ pub(crate) struct Note {
     pub(crate) advice: Vec<u8>,
 }
 
+/// What is reported about a fault: what is at fault, and what to do, in lines; where that is empty there is no advice.
+/// In both `@` stands for a name or another text that is put in.
+#[derive(Clone, Copy)]
+pub(crate) struct Words {
+    pub(crate) what: &'static str,
+    pub(crate) advice: &'static str,
+}
+
 impl Note {
     /// A note of this place, without words.
     pub(crate) fn new(alloc: Global, start: usize) -> Note {
@@ -23,12 +31,16 @@ impl Note {
     }
 
     /// Tells what is at fault.
-    pub(crate) fn tell(&mut self, words: &str, inserts: &[&[u8]]) -> Result<(), AllocError> {
-        append_words(&mut self.what, words, inserts)
+    pub(crate) fn tell(&mut self, text: &str) -> Result<(), AllocError> {
+        self.what.extend_from_slice(text.as_bytes())
     }
 
-    /// Tells what to do.
-    pub(crate) fn advise(&mut self, words: &str, inserts: &[&[u8]]) -> Result<(), AllocError> {
-        append_lines(&mut self.advice, words, inserts)
+    /// Tells what is at fault, and what to do.
+    pub(crate) fn explain(&mut self, words: Words, insert: &[u8]) -> Result<(), AllocError> {
+        append_words(&mut self.what, words.what, insert)?;
+        if words.advice.is_empty() {
+            return Ok(());
+        }
+        append_lines(&mut self.advice, words.advice, insert)
     }
 }

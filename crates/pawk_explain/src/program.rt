@@ -4,9 +4,9 @@ use crate::calls::explain_call;
 use crate::case::FaultyScript;
 use crate::display::{append_position, append_source};
 use crate::expression::explain_expression;
-use crate::grammar::{explain_assigned, explain_misplaced, explain_nesting, explain_unexpected};
-use crate::left_out::explain_left_out;
-use crate::lexical::{explain_input_output, explain_numeral, explain_token};
+use crate::grammar::{NESTING, explain_unexpected, words_of_assigned, words_of_misplaced};
+use crate::left_out::words_of_left_out;
+use crate::lexical::{explain_token, words_of_input_output, words_of_numeral};
 use crate::note::Note;
 use crate::script::Script;
 use crate::uses::explain_uses;
@@ -25,69 +25,72 @@ fn explain_cause(
     match cause {
         Cause::Token => explain_token(case, note),
         Cause::Unexpected => explain_unexpected(case, note),
-        Cause::InputOutput => explain_input_output(case, note),
-        Cause::Assigned => explain_assigned(case, note),
+        Cause::InputOutput => note.explain(words_of_input_output(case.rest()), &[]),
+        Cause::Assigned => note.explain(words_of_assigned(case.name()), case.name()),
         Cause::Uses => explain_uses(case, note),
         Cause::Call => explain_call(case, note),
-        Cause::Misplaced => explain_misplaced(case, note),
-        Cause::Numeral => explain_numeral(case, note),
-        Cause::Nesting => explain_nesting(note),
+        Cause::Misplaced => note.explain(words_of_misplaced(case.name()), case.name()),
+        Cause::Numeral => note.explain(words_of_numeral(case.rest()), &[]),
+        Cause::Nesting => note.explain(NESTING, &[]),
         Cause::Expression => explain_expression(alloc, case, note),
-        Cause::LeftOut => explain_left_out(case, note),
+        Cause::LeftOut => note.explain(words_of_left_out(case.name()), case.name()),
     }
 }
 
-/// The note of a cause at a place of a script, counted from 0.
-fn note_of(
+/// Explains a cause at the place of a note.
+fn explain_place(
     alloc: Global,
     script: &Script<'_>,
     cause: Cause,
-    start: usize,
-) -> Result<Note, AllocError> {
+    note: &mut Note,
+) -> Result<(), AllocError> {
     let list = TokenList::read(alloc, script.text())?;
     let case = FaultyScript {
         script,
         tokens: list.tokens.as_slice(),
-        start,
+        start: note.start,
     };
-    let mut note = Note::new(alloc, start);
-    explain_cause(alloc, &case, cause, &mut note)?;
-    Ok(note)
+    explain_cause(alloc, &case, cause, note)
 }
 
-/// The lines of a note: its position and what is at fault, the line of the program, and the advice.
-fn lines(alloc: Global, script: &Script<'_>, note: &Note) -> Result<Vec<u8>, AllocError> {
-    let mut out = Vec::new(alloc);
+/// Appends the lines of a note: its position and what is at fault, the line of the program, and the advice.
+fn append_note(out: &mut Vec<u8>, script: &Script<'_>, note: &Note) -> Result<(), AllocError> {
     out.extend_from_slice(b"  ")?;
-    append_position(&mut out, script, note.start)?;
+    append_position(out, script, note.start)?;
     out.extend_from_slice(b": ")?;
     out.extend_from_slice(note.what.as_slice())?;
-    out.push(b'\n')?;
-    append_source(&mut out, script.text(), note.start)?;
-    out.extend_from_slice(note.advice.as_slice())?;
-    Ok(out)
+    out.extend_from_slice(b"\n")?;
+    append_source(out, script.text(), note.start)?;
+    out.extend_from_slice(note.advice.as_slice())
 }
 
-/// Explains why a program is refused: where, what is at fault, and what to write instead. The place of the refusal is
-/// that in the script's text.
+/// Appends the explanation of a cause at a place of a script, counted from 0.
+fn append_explanation(
+    alloc: Global,
+    out: &mut Vec<u8>,
+    script: &Script<'_>,
+    cause: Cause,
+    start: usize,
+) -> Result<(), AllocError> {
+    let mut note = Note::new(alloc, start);
+    explain_place(alloc, script, cause, &mut note)?;
+    append_note(out, script, &note)
+}
+
+/// Appends the explanation of why a program is refused: where, what is at fault, and what to write instead. The place of
+/// the refusal is that in the script's text.
 pub fn explain_program(
     alloc: Global,
+    out: &mut Vec<u8>,
     script: &Script<'_>,
     refusal: SyntaxRefusal,
-) -> Result<Vec<u8>, AllocError> {
+) -> Result<(), AllocError> {
     match refusal {
         SyntaxRefusal::At { cause, place } => {
-            let note = note_of(alloc, script, cause, place.saturating_sub(1))?;
-            lines(alloc, script, &note)
+            append_explanation(alloc, out, script, cause, place.saturating_sub(1))
         }
         SyntaxRefusal::Memory => {
-            let mut out = Vec::new(alloc);
-            append_lines(
-                &mut out,
-                "memory was refused while the program was read",
-                &[],
-            )?;
-            Ok(out)
+            append_lines(out, "memory was refused while the program was read", &[])
         }
     }
 }

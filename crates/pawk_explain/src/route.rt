@@ -2,14 +2,7 @@
 
 use crate::words::append_lines;
 use pawk_admit::Reason;
-use std::alloc::{AllocError, Global};
-
-/// The lines of these words.
-fn lines(alloc: Global, words: &str) -> Result<Vec<u8>, AllocError> {
-    let mut out = Vec::new(alloc);
-    append_lines(&mut out, words, &[])?;
-    Ok(out)
-}
+use std::alloc::AllocError;
 
 /// What a program does that cannot be done in chunks.
 fn words_of(reason: Reason) -> &'static str {
@@ -28,37 +21,34 @@ fn words_of(reason: Reason) -> &'static str {
     }
 }
 
-/// Explains why a program was not run in chunks.
-pub fn explain_reason(alloc: Global, reason: Reason) -> Result<Vec<u8>, AllocError> {
-    let mut out = lines(alloc, words_of(reason))?;
+/// Appends the explanation of why a program was not run in chunks.
+pub fn explain_reason(out: &mut Vec<u8>, reason: Reason) -> Result<(), AllocError> {
+    append_lines(out, words_of(reason), &[])?;
     append_lines(
-        &mut out,
+        out,
         "so its records were run one after the other, by one thread",
         &[],
-    )?;
-    Ok(out)
+    )
 }
 
-/// The lines that explain the route `parallel`.
-pub fn explain_parallel(alloc: Global) -> Result<Vec<u8>, AllocError> {
-    lines(
-        alloc,
+/// Appends the explanation of the route `parallel`.
+pub fn explain_parallel(out: &mut Vec<u8>) -> Result<(), AllocError> {
+    append_lines(
+        out,
         "the records were run in chunks, whose results were merged",
+        &[],
     )
 }
 
-/// The lines that explain the route `redo`.
-pub fn explain_redo(alloc: Global) -> Result<Vec<u8>, AllocError> {
-    lines(
-        alloc,
-        "a record ended in a fault, or made an element of an array by reading it\nso the program was run again, one record after the other",
-    )
+/// Appends the explanation of the route `redo`.
+pub fn explain_redo(out: &mut Vec<u8>) -> Result<(), AllocError> {
+    let words =
+        "a record ended in a fault, or made an element of an array by reading it\nso the program was run again, one record after the other";
+    append_lines(out, words, &[])
 }
 
-/// Explains the route `no main`.
-pub fn explain_no_main(alloc: Global) -> Result<Vec<u8>, AllocError> {
-    lines(
-        alloc,
-        "no record was read: the program has no rule and no END, or BEGIN ended the run",
-    )
+/// Appends the explanation of the route `no main`.
+pub fn explain_no_main(out: &mut Vec<u8>) -> Result<(), AllocError> {
+    let words = "no record was read: the program has no rule and no END, or BEGIN ended the run";
+    append_lines(out, words, &[])
 }

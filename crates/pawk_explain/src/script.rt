@@ -85,6 +85,19 @@ impl<'a> Script<'a> {
         })
     }
 
+    /// Begins a file: after a newline where there is a text, or a file, before.
+    fn begin_file(&mut self, name: &'a str) -> Result<(), AllocError>
+        ensures text { OnOk result (text_of self.new ≡ text_before self.old) }
+        ensures omissions { OnOk result (omissions_of self.new ≡ omissions_of self.old) }
+    {
+        if !self.text.is_empty() || !self.files.is_empty() {
+            self.text.push(b'\n')?;
+        }
+        let start = self.text.len();
+        self.files.push(File { name, start })?;
+        Ok(())
+    }
+
     /// Appends a file's text: after a newline where there is a text, or a file, before; each CR LF is read
     /// as LF. After an error the script has a part of the file.
     pub fn append_file(&mut self, name: &'a str, bytes: &[u8]) -> Result<(), AllocError>
@@ -93,11 +106,7 @@ impl<'a> Script<'a> {
         ensures omissions { OnOk result (omissions_of self.new ≡
             omissions_of self.old ++ omissions (length (text_before self.old)) bytes.now) }
     {
-        if !self.text.is_empty() || !self.files.is_empty() {
-            self.text.push(b'\n')?;
-        }
-        let start = self.text.len();
-        self.files.push(File { name, start })?;
+        self.begin_file(name)?;
         append_as_lf(&mut self.text, &mut self.omissions, bytes)
     }
 

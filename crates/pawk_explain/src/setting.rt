@@ -2,10 +2,12 @@
 
 use crate::left_out;
 use crate::lexical::ESCAPES;
-use crate::words::{append_beginning, append_lines, append_number, append_words};
+use crate::words::{append_beginning, append_lines, append_words};
+use itoa::Buffer;
+use memchr::memchr;
 use pawk_lex::vocabulary::{builtin, is_left_out, is_run_variable, reserved_word};
 use pawk_settings::{BUDGET_LIMIT, SettingsRefusal};
-use std::alloc::{AllocError, Global};
+use std::alloc::AllocError;
 
 /// How many bytes of a value are shown at most.
 const LONGEST: usize = 60;
@@ -31,16 +33,14 @@ fn append_origin(out: &mut Vec<u8>, origin: Origin<'_>) -> Result<(), AllocError
 }
 
 /// Ends a line with these words; what follows a newline in them is a line of its own.
-fn append_rest(out: &mut Vec<u8>, words: &str, inserts: &[&[u8]]) -> Result<(), AllocError> {
-    append_words(out, words, inserts)?;
-    out.push(b'\n')?;
-    Ok(())
+fn append_rest(out: &mut Vec<u8>, words: &str, insert: &[u8]) -> Result<(), AllocError> {
+    append_words(out, words, insert)?;
+    out.extend_from_slice(b"\n")
 }
 
 /// What is before the first `=`, if there is one.
 fn name_in(text: &[u8]) -> Option<&[u8]> {
-    let length = text.iter().position(|byte| *byte == b'=')?;
-    text.get(..length)
+    text.get(..memchr(b'=', text)?)
 }
 
 /// The name that is assigned.
@@ -51,15 +51,14 @@ fn name_of<'a>(origin: Origin<'a>) -> Option<&'a [u8]> {
     }
 }
 
-/// What is assigned is no name.
-fn append_name(out: &mut Vec<u8>, name: Option<&[u8]>) -> Result<(), AllocError> {
-    let words = match name {
+/// What is reported where what is assigned is no name.
+fn words_of_name(name: Option<&[u8]>) -> &'static str {
+    match name {
         None => "there is no = in it\n-v has a name, = and a value: -v n=1",
         Some([]) => "there is no name before the =\n-v has a name, = and a value: -v n=1",
         Some(_) =>
             "what is before the = is no name\na name is a letter or _, and then letters, digits and _",
-    };
-    append_rest(out, words, &[])
+    }
 }
 
 /// Whether this is a word of the language.
@@ -80,38 +79,36 @@ fn words_of_target(name: &[u8]) -> &'static str {
     }
 }
 
+/// What to do about a name that may not be assigned.
+fn advice_of_target(name: &[u8]) -> &'static str {
+    if is_left_out(name) {
+        left_out::advice_of(name)
+    } else {
+        "take another name"
+    }
+}
+
 /// A name may not be assigned.
 fn append_target(out: &mut Vec<u8>, name: &[u8]) -> Result<(), AllocError> {
-    append_rest(out, words_of_target(name), &[name])?;
-    if is_left_out(name) {
-        return append_lines(out, left_out::advice_of(name), &[]);
-    }
-    append_lines(out, "take another name", &[])
+    append_rest(out, words_of_target(name), name)?;
+    append_lines(out, advice_of_target(name), &[])
 }
 
-/// What to do about a backslash in the value of an option.
-fn advice_of_escape(origin: Origin<'_>) -> &'static str {
+/// What is reported about a backslash in the value of an option, which begins no escape. `@` stands for the escapes.
+fn words_of_escape(origin: Origin<'_>) -> &'static str {
     match origin {
         Origin::Assignment(_) =>
-            "a backslash itself is written \\\\, between quotes of the shell: -v 'e=\\\\.'",
+            "a backslash in it begins no escape\n@\na backslash itself is written \\\\, between quotes of the shell: -v 'e=\\\\.'",
         Origin::Separator(_) =>
-            "a single sign separates as it is, as -F '|'; a backslash itself is written \\\\",
+            "a backslash in it begins no escape\n@\na single sign separates as it is, as -F '|'; a backslash itself is written \\\\",
     }
-}
-
-/// A backslash in a value begins no escape.
-fn append_escape(out: &mut Vec<u8>, origin: Origin<'_>) -> Result<(), AllocError> {
-    append_rest(out, "a backslash in it begins no escape", &[])?;
-    append_lines(out, ESCAPES, &[])?;
-    append_lines(out, advice_of_escape(origin), &[])
 }
 
 /// The budget is out of its range.
 fn append_budget(out: &mut Vec<u8>) -> Result<(), AllocError> {
-    out.extend_from_slice(b"  the budget of steps, -s, is one of 1 to ")?;
-    append_number(out, BUDGET_LIMIT)?;
-    out.push(b'\n')?;
-    Ok(())
+    let mut limit = Buffer::new();
+    let digits = limit.format(BUDGET_LIMIT).as_bytes();
+    append_lines(out, "the budget of steps, -s, is one of 1 to @", digits)
 }
 
 /// Appends the explanation of what is at fault with an option.
@@ -123,23 +120,21 @@ fn append_refusal(
     append_origin(out, origin)?;
     let name = name_of(origin);
     match refusal {
-        SettingsRefusal::Name => append_name(out, name),
+        SettingsRefusal::Name => append_rest(out, words_of_name(name), &[]),
         SettingsRefusal::Target => append_target(out, name.unwrap_or(b"it")),
-        _ => append_escape(out, origin),
+        _ => append_rest(out, words_of_escape(origin), ESCAPES.as_bytes()),
     }
 }
 
-/// Explains why settings are refused: which option, what is at fault, and what to write instead.
+/// Appends the explanation of why settings are refused: which option, what is at fault, and what to write instead.
 pub fn explain_setting(
-    alloc: Global,
+    out: &mut Vec<u8>,
     refusal: SettingsRefusal,
     origin: Origin<'_>,
-) -> Result<Vec<u8>, AllocError> {
-    let mut out = Vec::new(alloc);
+) -> Result<(), AllocError> {
     match refusal {
-        SettingsRefusal::Budget => append_budget(&mut out)?,
-        SettingsRefusal::Memory => append_lines(&mut out, "memory was refused", &[])?,
-        _ => append_refusal(&mut out, refusal, origin)?,
+        SettingsRefusal::Budget => append_budget(out),
+        SettingsRefusal::Memory => append_lines(out, "memory was refused", &[]),
+        _ => append_refusal(out, refusal, origin),
     }
-    Ok(out)
 }

@@ -2,7 +2,7 @@
 
 use crate::case::FaultyScript;
 use crate::display::append_position;
-use crate::note::Note;
+use crate::note::{Note, Words};
 use pawk_lex::token::{Builtin, Mark, Token, TokenValue};
 use pawk_lex::vocabulary::is_variable;
 use std::alloc::AllocError;
@@ -243,26 +243,37 @@ fn find_clash(uses: Uses) -> Option<Clash> {
     }
 }
 
+/// Tells of a use, and where it is: here, or at another place.
+fn tell_use(
+    case: &FaultyScript<'_, '_>,
+    found: Use,
+    elsewhere: Option<usize>,
+    note: &mut Note,
+) -> Result<(), AllocError> {
+    note.tell(words_of(found))?;
+    match elsewhere {
+        Some(start) => {
+            note.tell(" at ")?;
+            append_position(&mut note.what, case.script, start)
+        }
+        None => note.tell(" here"),
+    }
+}
+
 /// Tells of two uses.
 fn explain_clash(
     case: &FaultyScript<'_, '_>,
     clash: Clash,
     note: &mut Note,
 ) -> Result<(), AllocError> {
-    note.tell("@ is ", &[case.name()])?;
-    note.tell(words_of(clash.first), &[])?;
-    match clash.elsewhere {
-        Some(start) => {
-            note.tell(" at ", &[])?;
-            append_position(&mut note.what, case.script, start)?;
-        }
-        None => note.tell(" here", &[])?,
-    }
-    note.tell(", and ", &[])?;
-    note.tell(words_of(clash.second), &[])?;
-    note.tell(" at ", &[])?;
-    append_position(&mut note.what, case.script, clash.place)?;
-    note.advise("give one of them another name", &[])
+    let words = Words {
+        what: "@ is ",
+        advice: "give one of them another name",
+    };
+    note.explain(words, case.name())?;
+    tell_use(case, clash.first, clash.elsewhere, note)?;
+    note.tell(", and ")?;
+    tell_use(case, clash.second, Some(clash.place), note)
 }
 
 /// Whether a token may come before a parameter in a list of parameters.
@@ -273,21 +284,34 @@ fn is_in_parameters(token: &Token) -> bool {
     )
 }
 
-/// Whether the name at the place is in the list of the parameters of a function.
-fn is_parameter(case: &FaultyScript<'_, '_>) -> bool {
-    let before = case.tokens.get(..case.count_before()).unwrap_or(&[]);
-    let length = before
-        .iter()
-        .rev()
-        .position(|token| !is_in_parameters(token))
-        .unwrap_or(0);
-    match before.get(..before.len().saturating_sub(length)) {
-        Some([.., word, _, list]) => {
+/// How many of these tokens, from the last one back, may come before a parameter.
+fn count_in_parameters(tokens: &[Token]) -> usize {
+    let mut count: usize = 0;
+    for token in tokens.iter().rev() {
+        if !is_in_parameters(token) {
+            return count;
+        }
+        count = count.saturating_add(1);
+    }
+    0
+}
+
+/// Whether these tokens end with the head of a function, up to its `(`.
+fn ends_with_head(tokens: &[Token]) -> bool {
+    match tokens {
+        [.., word, _, list] => {
             is_mark(Some(&word.value), Mark::Function)
                 && is_mark(Some(&list.value), Mark::LeftParenthesis)
         }
         _ => false,
     }
+}
+
+/// Whether the name at the place is in the list of the parameters of a function.
+fn is_parameter(case: &FaultyScript<'_, '_>) -> bool {
+    let before = case.tokens.get(..case.count_before()).unwrap_or(&[]);
+    let end = before.len().saturating_sub(count_in_parameters(before));
+    ends_with_head(before.get(..end).unwrap_or(&[]))
 }
 
 /// What is reported about a parameter.
@@ -337,11 +361,11 @@ fn explain_single(
     uses: Uses,
     note: &mut Note,
 ) -> Result<(), AllocError> {
-    note.tell(words_of_single(case, uses), &[case.name()])?;
-    note.advise(
-        "a name is an array, a scalar or a function in all its places, and where it is passed to",
-        &[],
-    )
+    let words = Words {
+        what: words_of_single(case, uses),
+        advice: "a name is an array, a scalar or a function in all its places, and where it is passed to",
+    };
+    note.explain(words, case.name())
 }
 
 /// 5: one name has two uses.

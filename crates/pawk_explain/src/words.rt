@@ -6,24 +6,18 @@ use std::alloc::AllocError;
 /// Stands for what is put into words.
 const INSERT: u8 = b'@';
 
-/// Appends words, in which each `@` stands for the next of what is put in. A line of words that follows another is
-/// begun with two blanks.
+/// Appends words, in which each `@` stands for what is put in. A line of words that follows another is begun with two
+/// blanks.
 pub(crate) fn append_words(
     out: &mut Vec<u8>,
     words: &str,
-    inserts: &[&[u8]],
+    insert: &[u8],
 ) -> Result<(), AllocError> {
-    let mut rest = inserts;
     for byte in words.as_bytes() {
-        if *byte == INSERT {
-            if let [insert, later @ ..] = rest {
-                out.extend_from_slice(*insert)?;
-                rest = later;
-            }
-        } else if *byte == b'\n' {
-            out.extend_from_slice(b"\n  ")?;
-        } else {
-            out.push(*byte)?;
+        match *byte {
+            INSERT => out.extend_from_slice(insert)?,
+            b'\n' => out.extend_from_slice(b"\n  ")?,
+            _ => out.push(*byte)?,
         }
     }
     Ok(())
@@ -33,12 +27,11 @@ pub(crate) fn append_words(
 pub(crate) fn append_lines(
     out: &mut Vec<u8>,
     words: &str,
-    inserts: &[&[u8]],
+    insert: &[u8],
 ) -> Result<(), AllocError> {
     out.extend_from_slice(b"  ")?;
-    append_words(out, words, inserts)?;
-    out.push(b'\n')?;
-    Ok(())
+    append_words(out, words, insert)?;
+    out.extend_from_slice(b"\n")
 }
 
 /// Appends bytes, of which those that control a terminal are written as `?`.

@@ -5,7 +5,7 @@ use Rattle.memchr.specs.Find.{Nowhere, NoneBefore}
 use Rattle.pawk_ere_syntax.specs.Pattern.{Pattern, Empty, Start, End, Bytes, Group, Repeat, Sequence, Either, Matches, Leads, Leftmost, NoneFrom}
 use Rattle.pawk_ere_syntax.specs.Tokens.{SpellsEre}
 use Rattle.pawk_ere_syntax.proofs.Progress.{spells_one}
-use Rattle.pawk_ere.specs.Kept.{IsAnswerOfText}
+use Rattle.pawk_ere.specs.Caches.{IsAnswerOfText}
 use Rattle.pawk_fields.specs.Between.{MatchesSome, IsNewline, MaySeparate, AreFields, AreBetween}
 use Rattle.pawk_fields.specs.FieldWalks.{IsNextMatch}
 
@@ -224,13 +224,13 @@ module _ (pattern s : List ℕ) (paragraph : Bool) (from : ℕ) where
   }
 
   -- the next match is the same after it
-  pub next_behind : (found : Option (ℕ × ℕ)) (stop i : ℕ) → IsNextMatch pattern s from found → Stops found stop → from ≤ i → i < stop → IsNextMatch pattern s (i + 1) found
-  next_behind None stop i n is low high = record {
+  pub next_after : (found : Option (ℕ × ℕ)) (stop i : ℕ) → IsNextMatch pattern s from found → Stops found stop → from ≤ i → i < stop → IsNextMatch pattern s (i + 1) found
+  next_after None stop i n is low high = record {
     expression = n.expression;
     spelled = n.spelled;
     is_next = λ k more l m. n.is_next k (omega arith) l m;
   }
-  next_behind (Some x) stop i n is low high = record {
+  next_after (Some x) stop i n is low high = record {
     expression = n.expression;
     spelled = n.spelled;
     is_next = record {

@@ -46,8 +46,8 @@ bits_append (b ∷ s) t =
     omega (arith, more, twice)
 
 -- a blank after bytes
-pub bits_behind : (s : List ℕ) → blank_bits (s ++ 32 ∷ []) ≡ blank_bits s + 2 ^ length s
-bits_behind s = bits_append s (32 ∷ []) ∙ omega arith
+pub bits_after : (s : List ℕ) → blank_bits (s ++ 32 ∷ []) ≡ blank_bits s + 2 ^ length s
+bits_after s = bits_append s (32 ∷ []) ∙ omega arith
 
 -- the lowest bit is the first blank
 pub first_blank : (s : List ℕ) → length s ≤ 64 → 0 < blank_bits s → count_trailing_zeros 64 (blank_bits s) ≡ prefix_len is_not_blank s
@@ -97,7 +97,7 @@ last_bits s from n long low high is =
     let at : 2 ^ length lanes ≡ 65536 = ap (λ n. 2 ^ n) size in
     let whole : lanes ≡ drop last s = take_all 16 (drop last s) (omega (arith, length-drop last s)) in
     let to : last + skip ≡ from = omega arith in
-    let sum : n + 65536 ≡ blank_bits (lanes ++ 32 ∷ []) = omega (arith, is, at, bits_behind lanes) in
+    let sum : n + 65536 ≡ blank_bits (lanes ++ 32 ∷ []) = omega (arith, is, at, bits_after lanes) in
     ap (λ n. n / 2 ^ skip) sum
     ∙ bits_drop (lanes ++ 32 ∷ []) skip
     ∙ ap blank_bits (drop-append-le skip lanes (32 ∷ []) (omega (arith, size)))

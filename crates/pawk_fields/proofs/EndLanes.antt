@@ -10,7 +10,7 @@ use lib.Count.{count_trailing_zeros}
 use lib.Lanes.{chunk}
 use Rattle.pawk_fields.specs.Blocks.{blank_bits}
 use Rattle.pawk_fields.specs.Fields.{is_not_blank}
-use Rattle.pawk_fields.proofs.BlockBits.{bits_behind, bits_drop, bits_fit, first_blank}
+use Rattle.pawk_fields.proofs.BlockBits.{bits_after, bits_drop, bits_fit, first_blank}
 
 -- ---- the bits of the lanes, and one after them
 
@@ -29,7 +29,7 @@ lanes_end xs n skip long le is =
     let all = xs ++ 32 ∷ [] in
     let rest = drop skip xs in
     let at : 2 ^ length xs ≡ 65536 = ap (λ n. 2 ^ n) long in
-    let sum : n + 65536 ≡ blank_bits all = omega (arith, is, at, bits_behind xs) in
+    let sum : n + 65536 ≡ blank_bits all = omega (arith, is, at, bits_after xs) in
     ap (λ n. count_trailing_zeros 64 (n / 2 ^ skip)) sum
     ∙ ap (count_trailing_zeros 64) (bits_drop all skip ∙ ap blank_bits (drop-append-le skip xs (32 ∷ []) (omega (arith, long))))
     ∙ first_blank (rest ++ 32 ∷ []) (omega (arith, length-append rest (32 ∷ []), length-drop skip xs)) (some_bit rest)

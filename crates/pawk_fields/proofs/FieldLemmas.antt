@@ -13,7 +13,7 @@ use Rattle.pawk_fields.proofs.BetweenLemmas.{some_inside}
 use Rattle.pawk_fields.proofs.LawLemmas.{split_law_lem}
 use Rattle.pawk_fields.specs.ReadEre.{read_ere}
 use Rattle.pawk_fields.specs.Search.{longest_end}
-use Rattle.pawk_fields.specs.FieldList.{end_beyond, newline_end, separator_end, cut_or_on, fields_behind, fields_between, fields_of}
+use Rattle.pawk_fields.specs.FieldList.{end_beyond, newline_end, separator_end, cut_or_on, fields_after, fields_between, fields_of}
 use Rattle.pawk_fields.specs.Laws.{FieldsLaw}
 use Rattle.pawk_fields.proofs.SearchLemmas.{IsCons, cons_at, nil_at, IsLongestOrNone, longest_end_is}
 use Rattle.pawk_fields.proofs.ReadLemmas.{read_law_lem}
@@ -64,14 +64,14 @@ module _ (e : Pattern) (paragraph : Bool) (s : List ℕ) where
   -- ---- the fields
 
   abbrev GoesOn : List ℕ → ℕ → Type 0
-  GoesOn rest p = (next : ℕ) → next ≤ length s → p ≤ length s → drop p s ≡ rest → ((k : ℕ) → next ≤ k → k < p → StartsNone Separates k) → AreFields Separates s next (fields_behind (expand e) paragraph next p rest)
+  GoesOn rest p = (next : ℕ) → next ≤ length s → p ≤ length s → drop p s ≡ rest → ((k : ℕ) → next ≤ k → k < p → StartsNone Separates k) → AreFields Separates s next (fields_after (expand e) paragraph next p rest)
 
-  fields_behind_are : (rest : List ℕ) (begin p : ℕ) → begin ≤ length s → p ≤ length s → drop p s ≡ rest → ((k : ℕ) → begin ≤ k → k < p → StartsNone Separates k) → AreFields Separates s begin (fields_behind (expand e) paragraph begin p rest)
-  unfolding fields_behind
-  fields_behind_are [] begin p low w is none =
+  fields_after_are : (rest : List ℕ) (begin p : ℕ) → begin ≤ length s → p ≤ length s → drop p s ≡ rest → ((k : ℕ) → begin ≤ k → k < p → StartsNone Separates k) → AreFields Separates s begin (fields_after (expand e) paragraph begin p rest)
+  unfolding fields_after
+  fields_after_are [] begin p low w is none =
       let end = nil_at s p w is in
       (refl, inl (λ k ge j m. ⊎_elim (λ less. none k ge less j m) (λ more. let in_text = separates_some k j m in omega arith) (cases_lt k p), end, refl))
-  fields_behind_are (b ∷ rest) begin p low w is none = before (λ next low later behind more. fields_behind_are rest next (p + 1) low later behind more) (ltb p begin) refl
+  fields_after_are (b ∷ rest) begin p low w is none = before (λ next low later behind more. fields_after_are rest next (p + 1) low later behind more) (ltb p begin) refl
     where
       at : IsCons s p b rest
       at = cons_at s p b rest w is
@@ -79,7 +79,7 @@ module _ (e : Pattern) (paragraph : Bool) (s : List ℕ) where
       later : p + 1 ≤ length s
       later = let m = at.more in omega arith
 
-      cut : GoesOn rest (p + 1) → begin ≤ p → (o : Option ℕ) → IsLongestOrNone Separates p o → AreFields Separates s begin (cut_or_on begin p (λ next. fields_behind (expand e) paragraph next (p + 1) rest) o)
+      cut : GoesOn rest (p + 1) → begin ≤ p → (o : Option ℕ) → IsLongestOrNone Separates p o → AreFields Separates s begin (cut_or_on begin p (λ next. fields_after (expand e) paragraph next (p + 1) rest) o)
       cut on ge (Some next) l =
           let inside = separates_some p next l.matches in (
             refl,
@@ -97,7 +97,7 @@ module _ (e : Pattern) (paragraph : Bool) (s : List ℕ) where
       cut on ge None l = on begin low later at.behind
           (λ k low less. ⊎_elim (λ x. none k low x) (λ x. let same : p ≡ k = omega arith in subst (StartsNone Separates) same l) (cases_lt k p))
 
-      before : GoesOn rest (p + 1) → (v : Bool) → ltb p begin ≡ v → AreFields Separates s begin (cond v (fields_behind (expand e) paragraph begin (p + 1) rest) (cut_or_on begin p (λ next. fields_behind (expand e) paragraph next (p + 1) rest) (separator_end (expand e) paragraph p (b ∷ rest))))
+      before : GoesOn rest (p + 1) → (v : Bool) → ltb p begin ≡ v → AreFields Separates s begin (cond v (fields_after (expand e) paragraph begin (p + 1) rest) (cut_or_on begin p (λ next. fields_after (expand e) paragraph next (p + 1) rest) (separator_end (expand e) paragraph p (b ∷ rest))))
       before on true h = let lt = ltb-true p begin h in on begin low later at.behind (λ k low less. absurd (omega arith))
       before on false h = cut on
           (⊎_elim (λ lt. let yes = lt-ltb p begin lt in let no = sym yes ∙ h in absurd cc) (λ ge. ge) (cases_lt p begin))
@@ -125,7 +125,7 @@ right (c ∷ d ∷ fs) paragraph (b ∷ s) = go (read_ere (c ∷ d ∷ fs)) refl
     go (Some e) is = record {
       expression = e;
       spelled = ((read_law_lem (c ∷ d ∷ fs)).some e).0 is;
-      in_order = fields_behind_are e paragraph (b ∷ s) (b ∷ s) 0 0 (omega arith) (omega arith) refl (λ k low less. absurd (omega arith));
+      in_order = fields_after_are e paragraph (b ∷ s) (b ∷ s) 0 0 (omega arith) (omega arith) refl (λ k low less. absurd (omega arith));
     }
 
 -- the relation has one fault at most

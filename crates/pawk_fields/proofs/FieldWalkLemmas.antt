@@ -35,15 +35,6 @@ left_step s i r true false lt is one =
 left_step s i r false false lt is one =
     inl (one, ap (fields_left false) (drop_more s i 0 lt) ∙ left_in_word (get_or s i 0) (drop (i + 1) s) (sym is))
 
--- what is left after the words that have begun
-pub left_on : (fs : List (List ℕ)) (s : List ℕ) (i n r : ℕ) (after_blank blank : Bool) → i < length s → blank ≡ is_blank (slice_index_or s i 0) → r ≡ bool_byte (after_blank && not blank) → drop n fs ≡ fields_left after_blank (drop i s)
-    → drop (n + r) fs ≡ fields_left blank (drop (i + 1) s)
-left_on fs s i n r after_blank blank lt is one left =
-    ⊎_elim
-    (λ x. let same : n + r ≡ n = omega (arith, x.0) in rw same (left ∙ x.1))
-    (λ x. rw x.0 (sym (drop-drop 1 n fs) ∙ ap (drop 1) (left ∙ x.1)))
-    (left_step s i r after_blank blank lt is one)
-
 -- how many fields are left
 pub count_on : (total : ℕ) (s : List ℕ) (i n r : ℕ) (after_blank blank : Bool) → i < length s → blank ≡ is_blank (slice_index_or s i 0) → r ≡ bool_byte (after_blank && not blank) → n + length (fields_left after_blank (drop i s)) ≡ total
     → (n + r) + length (fields_left blank (drop (i + 1) s)) ≡ total
@@ -58,34 +49,12 @@ pub one_at_most : (b : Bool) (r : ℕ) → r ≡ bool_byte b → r ≤ 1
 one_at_most true r is = omega (arith, is)
 one_at_most false r is = omega (arith, is)
 
--- the element at which what is left begins
-get_of_drop : {X : Type 0} (xs : List X) (n : ℕ) (y : X) (ys : List X) → drop n xs ≡ y ∷ ys → slice_get xs n ≡ Some y
-get_of_drop [] zero y ys is = cc
-get_of_drop [] (suc n) y ys is = cc
-get_of_drop (x ∷ xs) zero y ys is = cc
-get_of_drop (x ∷ xs) (suc n) y ys is = get_of_drop xs n y ys is
-
--- where a word begins, it is the field that comes next
-pub field_begun : (s : List ℕ) (i n r : ℕ) (after_blank blank : Bool) → i < length s → blank ≡ is_blank (slice_index_or s i 0) → r ≡ bool_byte (after_blank && not blank) → 0 < r → drop n (blank_fields s) ≡ fields_left after_blank (drop i s)
-    → slice_get (blank_fields s) n ≡ Some (take (prefix_len is_not_blank (drop i s)) (drop i s))
-field_begun s i n r after_blank blank lt is one some left =
-    ⊎_elim
-    (λ x. absurd (omega (arith, x.0)))
-    (λ x. get_of_drop (blank_fields s) n (take (prefix_len is_not_blank (drop i s)) (drop i s)) (fields_left blank (drop (i + 1) s)) (left ∙ x.1))
-    (left_step s i r after_blank blank lt is one)
-
 -- no field is left of nothing
 left_of_nothing : (after_blank : Bool) → fields_left after_blank [] ≡ []
 left_of_nothing true = refl
 left_of_nothing false = refl
 
--- at the end no more fields are there than have begun
-pub none_later : (s : List ℕ) (i n k : ℕ) (after_blank : Bool) → length s ≤ i → n ≤ k → drop n (blank_fields s) ≡ fields_left after_blank (drop i s) → slice_get (blank_fields s) k ≡ None
-none_later s i n k after_blank end le left =
-    let none : drop n (blank_fields s) ≡ [] = left ∙ ap (fields_left after_blank) (drop_all i s end) ∙ left_of_nothing after_blank in
-    let few : length (blank_fields s) - n ≡ 0 = sym (length-drop n (blank_fields s)) ∙ ap length none in
-    slice_get_past (blank_fields s) k (omega (arith, few, le))
-
+-- at the end as many have begun as there are
 pub all_begun : (total : ℕ) (s : List ℕ) (i n : ℕ) (after_blank : Bool) → length s ≤ i → n + length (fields_left after_blank (drop i s)) ≡ total → n ≡ total
 all_begun total s i n after_blank end left =
     let none = ap length (ap (fields_left after_blank) (drop_all i s end) ∙ left_of_nothing after_blank) in omega (arith, none, left)

@@ -190,42 +190,6 @@ abbrev pub left_of : Option ℕ → ℕ → ℕ
 left_of None n = 0
 left_of (Some p) n = n + 1 - p
 
--- ---- how many there are
-
-length-pieces_from : (test : ℕ → Bool) (t : List ℕ) (start at : ℕ) → length (pieces_from test start at t) ≤ length t + 1
-length-pieces_from test [] start at = omega arith
-length-pieces_from test (b ∷ t) start at =
-    let a = length-pieces_from test t (at + 1) (at + 1) in
-    let c = length-pieces_from test t start (at + 1) in
-    elim (test b) as (λ v. length (cond v ((start, at) ∷ pieces_from test (at + 1) (at + 1) t) (pieces_from test start (at + 1) t)) ≤ length (b ∷ t) + 1) [
-      | true ↦ omega arith
-      | false ↦ omega arith
-    ]
-
-length-words_from : (t : List ℕ) (at : ℕ) → (length (words_from None at t) ≤ length t) × ((start : ℕ) → length (words_from (Some start) at t) ≤ length t + 1)
-length-words_from [] at = (omega arith, λ start. omega arith)
-length-words_from (b ∷ t) at =
-    let later = length-words_from t (at + 1) in
-    let none = later.0 in
-    let some = later.1 at in (
-      elim (is_blank b) as (λ v. length (cond v (words_from None (at + 1) t) (words_from (Some at) (at + 1) t)) ≤ length (b ∷ t)) [ true ↦ omega arith | false ↦ omega arith ],
-      λ start. (let on = later.1 start in elim (is_blank b) as (λ v. length (cond v ((start, at) ∷ words_from None (at + 1) t) (words_from (Some start) (at + 1) t)) ≤ length (b ∷ t) + 1) [ true ↦ omega arith | false ↦ omega arith ]),
-    )
-
-length-map_of : (s : List ℕ) (l : List (ℕ × ℕ)) → length (map (bytes_of s) l) ≡ length l
-length-map_of s [] = refl
-length-map_of s (x ∷ l) = omega (arith, length-map_of s l)
-
-length-ranges_by : (separator : FieldSeparator) (s : List ℕ) → length (ranges_by separator s) ≤ length s + 1
-length-ranges_by separator [] = omega arith
-length-ranges_by Blanks (b ∷ s) = omega (arith, (length-words_from (b ∷ s) 0).0)
-length-ranges_by (Byte c) (b ∷ s) = length-pieces_from (separates c false) (b ∷ s) 0 0
-length-ranges_by (ByteOrNewline c) (b ∷ s) = length-pieces_from (separates c true) (b ∷ s) 0 0
-
--- no more fields than bytes, and one
-pub length-fields_by : (separator : FieldSeparator) (s : List ℕ) → length (fields_by separator s) ≤ length s + 1
-length-fields_by separator s = omega (arith, length-map_of s (ranges_by separator s), length-ranges_by separator s)
-
 -- ---- the words are the fields that blanks separate
 
 module _ (s : List ℕ) where
@@ -280,6 +244,10 @@ fields_by_blanks [] = refl
 fields_by_blanks (b ∷ s) = (words_are (b ∷ s) (b ∷ s) 0 refl).0
 
 -- ---- counted
+
+length-map_of : (s : List ℕ) (l : List (ℕ × ℕ)) → length (map (bytes_of s) l) ≡ length l
+length-map_of s [] = refl
+length-map_of s (x ∷ l) = omega (arith, length-map_of s l)
 
 -- one piece more than bytes that separate
 pub pieces_count : (test : ℕ → Bool) (t : List ℕ) (start at : ℕ) → length (pieces_from test start at t) ≡ count_by test t + 1

@@ -1,5 +1,5 @@
 -- What a walk has handed out, and what is left.
-use Rattle.std.proofs.Common.{◌≡◌, ℕ, ◌+◌, List, [], ◌∷◌, ◌++◌, length, map, refl, ap, sym, ◌∙◌, subst, append_assoc, length-append, ◌<◌, Option, None, Some, IsNone, IsSome, arith, rules, suc}
+use Rattle.std.proofs.Common.{◌≡◌, ℕ, ◌+◌, List, [], ◌∷◌, ◌++◌, length, map, refl, ap, sym, ◌∙◌, subst, append_assoc, length-append, ◌<◌, Option, None, Some, IsSome, arith, rules, suc}
 use Rattle.std.proofs.lemmas.List.{append-nil, map-append}
 use Rattle.std.specs.declared.ops.Range.{Range}
 use Rattle.pawk_fields.specs.FieldSeparator.{range_of}
@@ -27,9 +27,9 @@ goes_on : (next : Option ℕ) (s : List ℕ) (n : ℕ) → n < most_left next s 
 goes_on None s n lt = absurd (omega arith)
 goes_on (Some p) s n lt = search rules
 
--- a walk that needs a finder needed one before it handed out a field
-pub needed_before : (old new : Rest) → new ≡ record old { next = new.next } → most_left new.next new.text < most_left old.next old.text → NeedsFinder new → NeedsFinder old
-needed_before old new same nearer needs = (subst IsNone (ap (λ (r : Rest). r.plain) same) needs.0, goes_on old.next old.text (most_left new.next new.text) nearer)
+-- a walk that hands out a field was not over
+pub needed_before : (old new : Rest) → most_left new.next new.text < most_left old.next old.text → NeedsFinder old
+needed_before old new nearer = goes_on old.next old.text (most_left new.next new.text) nearer
 
 -- ---- their ranges were added to a list
 

@@ -414,9 +414,9 @@ module _ (s : List ℕ) (block place n : ℕ) (low : block ≤ place) (high : pl
         ∙ ap₂ (λ a b. (a, b) ∷ words_from None b (drop b s)) (sym start_is) (sym end_is)
 
     -- the changes after it
-    pub left_behind : (end : ℕ) → end ≡ block + count_trailing_zeros 64 (bit_and n (n - 1))
+    pub left_after : (end : ℕ) → end ≡ block + count_trailing_zeros 64 (bit_and n (n - 1))
         → bit_and (bit_and n (n - 1)) (bit_and n (n - 1) - 1) ≡ 2 ^ (end - block) * changes true (part (32 - (end - block)) (drop end s))
-    left_behind end at =
+    left_after end at =
         let stop : end ≡ place + far = at ∙ end_is in
         let go : end - block ≡ last = omega (arith, at, ends) in
         let twofold : 2 ^ (last + 1) * behind ≡ 2 ^ last * (2 * behind) = sym (power last 1 behind) ∙ ap (λ x. 2 ^ last * x) (let two : 2 ^ 1 * behind ≡ 2 * behind = omega arith in two) in

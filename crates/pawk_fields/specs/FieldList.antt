@@ -32,16 +32,16 @@ cut_or_on begin place go None = go begin
 
 -- The fields from one on that begins at `begin`, where the text goes on so from `place` on; before `begin` is
 -- the rest of a separator.
-unfoldable pub fields_behind : Regex → Bool → ℕ → ℕ → List ℕ → List (ℕ × ℕ)
-fields_behind e paragraph begin place [] = (begin, place) ∷ []
-fields_behind e paragraph begin place (b ∷ rest) =
-    if nat_lt place begin then fields_behind e paragraph begin (place + 1) rest
-    else cut_or_on begin place (λ next. fields_behind e paragraph next (place + 1) rest) (separator_end e paragraph place (b ∷ rest))
+unfoldable pub fields_after : Regex → Bool → ℕ → ℕ → List ℕ → List (ℕ × ℕ)
+fields_after e paragraph begin place [] = (begin, place) ∷ []
+fields_after e paragraph begin place (b ∷ rest) =
+    if nat_lt place begin then fields_after e paragraph begin (place + 1) rest
+    else cut_or_on begin place (λ next. fields_after e paragraph next (place + 1) rest) (separator_end e paragraph place (b ∷ rest))
 
 -- the fields between the matches of an expression, if there is one
 abbrev pub fields_between : Option Pattern → Bool → List ℕ → Result (List (ℕ × ℕ)) Fault
 fields_between None paragraph s = Err Ere
-fields_between (Some e) paragraph s = Ok (fields_behind (expand e) paragraph 0 0 s)
+fields_between (Some e) paragraph s = Ok (fields_after (expand e) paragraph 0 0 s)
 
 -- The fields of a record by an FS, or the fault. An empty record has none, whatever FS is; an empty FS is a fault; an FS
 -- of more than one byte is an expression.

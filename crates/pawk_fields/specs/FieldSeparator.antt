@@ -21,10 +21,6 @@ ranges_by separator (b ∷ s) = ranges_from separator (b ∷ s) (Some 0)
 abbrev pub fields_by : FieldSeparator → List ℕ → List (List ℕ)
 fields_by separator s = map (bytes_of s) (ranges_by separator s)
 
--- those from a place on
-abbrev pub fields_from : FieldSeparator → List ℕ → Option ℕ → List (List ℕ)
-fields_from separator s next = map (bytes_of s) (ranges_from separator s next)
-
 -- the range of a pair of places
 abbrev pub range_of : ℕ × ℕ → Range ℕ
 range_of f = record { start = f.0; end = f.1 }

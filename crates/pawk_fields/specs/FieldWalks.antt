@@ -1,10 +1,9 @@
--- How a walk goes over the fields of a record.
-use Rattle.std.specs.Prelude.{◌≡◌, ◌↔◌, ℕ, ◌+◌, ◌-◌, ◌++◌, Bool, List, [], ◌∷◌, Option, None, Some, MatchOption, IsNone, IsSome, length, map}
+-- How a walk goes over the fields of a record between the matches of an expression.
+use Rattle.std.specs.Prelude.{◌≡◌, ◌↔◌, ℕ, ◌+◌, ◌-◌, ◌++◌, Bool, List, [], ◌∷◌, Option, None, Some, MatchOption, IsSome, length, map}
 use Rattle.std.specs.declared.ops.Range.{Range}
 use Rattle.pawk_ere_syntax.specs.Pattern.{Pattern, Leftmost, NoneFrom}
 use Rattle.pawk_ere_syntax.specs.Tokens.{SpellsEre}
-use Rattle.pawk_fields.specs.FieldSeparator.{range_of, ranges_from}
-use Rattle.pawk_fields.specs.declared.separator.FieldSeparator.{FieldSeparator}
+use Rattle.pawk_fields.specs.FieldSeparator.{range_of}
 use Rattle.pawk_fields.specs.Between.{AreBetween, MatchesSome}
 
 -- the leftmost match from a place on that is not empty, and of those the longest; or there is none
@@ -18,10 +17,9 @@ abbrev pub AreFrom : List ℕ → Bool → List ℕ → Option ℕ → List (ℕ
 AreFrom pattern paragraph s None fields = fields ≡ []
 AreFrom pattern paragraph s (Some from) fields = AreBetween pattern paragraph s from fields
 
--- the state of a walk over the fields: what separates, if it is no expression, else the expression's text; the
--- record; the place from which on the next field is looked for
+-- the state of a walk over the fields: the text of the expression, the record, and the place from which on the next
+-- field is looked for
 pub record Rest : Type 0 where
-  pub plain : Option FieldSeparator
   pub pattern : List ℕ
   pub paragraph : Bool
   pub text : List ℕ
@@ -29,11 +27,11 @@ pub record Rest : Type 0 where
 
 -- these are the fields that are left of a walk
 abbrev pub AreLeft : Rest → List (ℕ × ℕ) → Type 0
-AreLeft r fields = MatchOption r.plain (AreFrom r.pattern r.paragraph r.text r.next fields) (λ separator. fields ≡ ranges_from separator r.text r.next)
+AreLeft r fields = AreFrom r.pattern r.paragraph r.text r.next fields
 
--- a walk goes on between the matches of an expression
+-- a walk is not over: the next match is needed
 abbrev pub NeedsFinder : Rest → Type 0
-NeedsFinder r = IsNone r.plain × IsSome r.next
+NeedsFinder r = IsSome r.next
 
 -- no field is left of a walk
 abbrev pub IsOver : Rest → Type 0

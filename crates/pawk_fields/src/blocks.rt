@@ -10,7 +10,7 @@ use std::simd::prelude::*;
 pub(crate) const LANES: usize = 16;
 
 /// The bit after those of the lanes.
-pub(crate) const BEHIND: u64 = 65_536;
+pub(crate) const AFTER_LANES: u64 = 65_536;
 
 /// The blanks among the bytes that are looked at side by side from a place on.
 #[inline(always)]
@@ -48,7 +48,7 @@ fn last_blanks(text: &[u8], from: usize) -> u64
     ensures { result ≡ blank_bits (drop from text.now ++ 32 ∷ []) }
 {
     let last = text.len() - LANES;
-    (lane_blanks(text, last) + BEHIND) >> (from - last)
+    (lane_blanks(text, last) + AFTER_LANES) >> (from - last)
 }
 
 /// The blanks of a block that is longer than the lanes.
@@ -63,7 +63,7 @@ fn wide_blanks(text: &[u8], from: usize) -> u64
     } else {
         lane_blanks(text, middle)
     };
-    lane_blanks(text, from) + later * BEHIND
+    lane_blanks(text, from) + later * AFTER_LANES
 }
 
 /// The blanks of the block from a place on.

@@ -41,7 +41,7 @@ fn count_bytes(text: &[u8], byte: u8, other: u8) -> usize
     count + usize::from(count_block(rest, byte, other))
 }
 
-/// How many fields a record has (`NF`), as `split` hands them out. Takes no memory.
+/// How many fields a record has (`NF`), as `append_ranges` appends them. Takes no memory.
 pub fn count_split(separator: FieldSeparator, text: &[u8]) -> usize
     ensures { result ≡ length (ranges_by separator text.now) }
 {

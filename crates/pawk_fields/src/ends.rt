@@ -5,7 +5,7 @@ ghost use Rattle.std.specs.List.{prefix_len};
 ghost use Rattle.pawk_fields.specs.Fields.{is_not_blank};
 
 use crate::blanks::word_length;
-use crate::blocks::{BEHIND, LANES, lane_blanks};
+use crate::blocks::{AFTER_LANES, LANES, lane_blanks};
 
 /// How many bytes that are no blanks follow one another, of those that are looked at side by side
 /// from a place on, the first ones skipped.
@@ -16,7 +16,7 @@ fn lane_run(text: &[u8], place: usize, skip: usize) -> usize
     ensures { result
         ≡ prefix_len is_not_blank (drop skip (take LANES (drop place text.now))) }
 {
-    let bits = lane_blanks(text, place) + BEHIND;
+    let bits = lane_blanks(text, place) + AFTER_LANES;
     (bits >> skip).trailing_zeros() as usize
 }
 

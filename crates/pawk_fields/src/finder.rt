@@ -1,7 +1,7 @@
 //! What finds the matches of an expression.
 
 ghost use Rattle.std.specs.Prelude.{◌≡◌, ◌≤◌, ℕ, List, length, IfErr, IfOk};
-ghost use Rattle.pawk_ere.specs.Kept.{IsAnswerOfText, IsOfText};
+ghost use Rattle.pawk_ere.specs.Caches.{IsAnswerOfText, IsOfText};
 ghost use Rattle.pawk_ere_syntax.specs.Refusals.{Tells};
 ghost use Rattle.pawk_ere_syntax.specs.Tokens.{SpellsNone};
 ghost use Rattle.pawk_fields.specs.FieldWalks.{IsNextMatch};

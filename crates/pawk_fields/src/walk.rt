@@ -53,11 +53,9 @@ fn match_ahead<F: Finder>(
     }
 }
 
-/// A walk over the fields of a record.
+/// A walk over the fields of a record between the matches of an expression.
 #[derive(Drop)]
-pub struct FieldWalk<'a> {
-    /// What separates, where it is no expression.
-    plain: Option<FieldSeparator>,
+pub(crate) struct FieldWalk<'a> {
     pattern: &'a [u8],
     paragraph: bool,
     text: &'a [u8],
@@ -74,7 +72,6 @@ impl<'a> Model for FieldWalk<'a> {
     ghost Value = { Rest };
 
     ghost view = { λ w. record {
-      plain = w.plain;
       pattern = w.pattern.now;
       paragraph = w.paragraph;
       text = w.text.now;
@@ -90,7 +87,7 @@ impl<'a> FieldWalk<'a> {
     /// spells and that are not empty, in paragraph mode also between newlines. An empty record has
     /// no fields.
     #[inline]
-    pub fn between(text: &'a [u8], pattern: &'a [u8], paragraph: bool) -> Self
+    pub(crate) fn between(text: &'a [u8], pattern: &'a [u8], paragraph: bool) -> Self
         ensures fields { (fields : List (ℕ × ℕ)) → AreLeft result fields
             ↔ AreFieldsBetween pattern.entry.now paragraph text.entry.now fields }
         ensures pattern { result.pattern ≡ pattern.entry.now }
@@ -98,7 +95,6 @@ impl<'a> FieldWalk<'a> {
         ensures few { most_left result.next result.text < 2 ^ 64 }
     {
         FieldWalk {
-            plain: None,
             pattern,
             paragraph,
             text,
@@ -107,65 +103,15 @@ impl<'a> FieldWalk<'a> {
         }
     }
 
-    /// A walk over the fields of a record by any FS. Fault `fs` where FS is empty and the record is
-    /// not.
-    #[inline]
-    pub fn by(text: &'a [u8], fs: &'a [u8], paragraph: bool) -> Result<Self, Fault>
-        ensures fields { IfOk result (λ walk. (fields : List (ℕ × ℕ)) → AreLeft walk fields
-            ↔ AreFieldsOf fs.entry.now paragraph text.entry.now fields) }
-        ensures fault { IfErr result (IsFaultOf fs.entry.now text.entry.now) }
-        ensures pattern { IfOk result (λ walk. walk.pattern ≡ fs.entry.now) }
-        ensures text { IfOk result (λ walk. walk.text ≡ text.entry.now) }
-        ensures plain { IfOk result (λ walk. NeedsFinder walk
-            → (2 ≤ length fs.entry.now) × (0 < length text.entry.now)) }
-    {
-        let plain = match fs {
-            [byte] => Some(byte_separator(*byte, paragraph)),
-            _ => None,
-        };
-        if fs.is_empty() && !text.is_empty() {
-            return Err(Fault::Fs);
-        }
-        Ok(FieldWalk {
-            plain,
-            pattern: fs,
-            paragraph,
-            text,
-            next: if text.is_empty() { None } else { Some(0) },
-            ahead: Ahead::Unknown,
-        })
-    }
-
-    /// The range of the next field that is not between matches.
-    #[inline]
-    fn next_plain(&mut self, separator: FieldSeparator, from: usize) -> Option<Range<usize>>
-        requires plain { self.old.plain ≡ Some separator }
-        requires next { self.old.next ≡ Some from }
-        ensures field { MatchOption result (IsOver self.old)
-            (λ f. HandsOut self.old self.new (f.start, f.end)) }
-        ensures within { IfSome result
-            (λ f. (f.start ≤ f.end) × (f.end ≤ length self.old.text)) }
-        ensures nearer { IfSome result
-            (λ _. most_left self.new.next self.new.text < most_left self.old.next self.old.text) }
-        ensures same { self.new ≡ record self.old { next = self.new.next } }
-    {
-        match separator.next_field(self.text, from) {
-            Some(step) => {
-                self.next = step.next;
-                self.ahead = Ahead::Unknown;
-                Some(step.start..step.end)
-            }
-            None => None,
-        }
-    }
-
-    /// The range of the next field, in bytes counted from 0, or `None` after the last one. Where
-    /// the fields are those between the matches of an expression the finder answers for it. Takes
-    /// no memory but what the finder takes.
+    /// The range of the next field, in bytes counted from 0, or `None` after the last one. The finder
+    /// answers for the expression. Takes no memory but what the finder takes.
     ///
-    /// Fault `ere` where an expression is needed and cannot be read. After an `Err` the walk is as
+    /// Fault `ere` where the expression is needed and cannot be read. After an `Err` the walk is as
     /// before.
-    pub fn next_range<F: Finder>(&mut self, finder: &mut F) -> Result<Option<Range<usize>>, Stop>
+    pub(crate) fn next_range<F: Finder>(
+        &mut self,
+        finder: &mut F,
+    ) -> Result<Option<Range<usize>>, Stop>
         requires ready { NeedsFinder self.old → F.answers_for finder.old self.old.pattern }
         ensures field { IfOk result (λ field. MatchOption field (IsOver self.old)
             (λ f. HandsOut self.old self.new (f.start, f.end))) }
@@ -182,9 +128,6 @@ impl<'a> FieldWalk<'a> {
         let Some(from) = self.next else {
             return Ok(None);
         };
-        if let Some(separator) = self.plain {
-            return Ok(self.next_plain(separator, from));
-        }
         let found = match_ahead(finder, self.pattern, self.text, from, self.ahead)?;
         let cut = cut_at(self.text, self.paragraph, from, found);
         self.next = cut.next;

@@ -24,19 +24,19 @@ fn count_begins(text: &[u8], place: usize) -> usize
     let newline = u8x16::splat(b'\n');
     let before = u8x16::from_slice(&text[place - 1..]);
     let here = u8x16::from_slice(&text[place..]);
-    let is_behind_blank = before.simd_eq(space) | (before.simd_eq(tab) | before.simd_eq(newline));
+    let is_after_blank = before.simd_eq(space) | (before.simd_eq(tab) | before.simd_eq(newline));
     let is_no_blank = here.simd_ne(space) & (here.simd_ne(tab) & here.simd_ne(newline));
-    (is_behind_blank & is_no_blank).to_bitmask().count_ones() as usize
+    (is_after_blank & is_no_blank).to_bitmask().count_ones() as usize
 }
 
 /// How many words begin in what is left of a text, in the same steps for each byte.
 #[inline]
-fn count_later(rest: &[u8], behind_blank: bool) -> usize
-    ensures value { result ≡ length (fields_left behind_blank rest.now) }
+fn count_later(rest: &[u8], starts_after_blank: bool) -> usize
+    ensures value { result ≡ length (fields_left starts_after_blank rest.now) }
     ensures bound { result ≤ length rest.now }
 {
     let mut count = 0;
-    let mut after_blank = behind_blank;
+    let mut after_blank = starts_after_blank;
     for byte in rest {
         let is_blank = is_blank_byte(*byte);
         count += usize::from(after_blank & !is_blank);

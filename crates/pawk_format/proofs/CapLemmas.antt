@@ -13,7 +13,7 @@ use Rattle.pawk_format.specs.declared.directive.Conversion.{Conversion}
 use Rattle.pawk_format.specs.declared.directive.Conversion.TheVariants as kind
 use Rattle.pawk_format.specs.declared.directive.Directive.{Directive}
 use Rattle.pawk_format.specs.Format.{spaces, zeros, with_spaces, in_width, zero_count, fills_zeros, number_text, own_digits, sign_text, signed_text, unsigned_prefix, unsigned_text, beginning, string_text, character, signed_result, unsigned_result, character_result, text_by, Piece, Plain, Percent, Place, Malformed, pieces_of, and_then, within_limit, value_text, text_of_pieces, bytes_or_later, writes}
-use Rattle.pawk_format.specs.FormatViews.{cap, cap_precision, cap_directive, cap_piece, cap_pieces_of, text_behind, Writes}
+use Rattle.pawk_format.specs.FormatViews.{cap, cap_precision, cap_directive, cap_piece, cap_pieces_of, text_after, Writes}
 use Rattle.pawk_format.specs.FormatResults.{Formats}
 use Rattle.pawk_format.proofs.PieceLemmas.{past_limit}
 
@@ -91,20 +91,20 @@ cap_string d v out =
 cap_character : (d : Directive) (t out : List ℕ) → within_limit (out ++ in_width (cap_directive d) t) ≡ within_limit (out ++ in_width d t)
 cap_character d t out = same_limit out (in_width (cap_directive d) t) (in_width d t) (cap_spaces d.flags.left d.width t t (inl refl))
 
-cap_of_number : (d : Directive) (r : Result ℤ Fault) (out : List ℕ) → text_behind out (and_then r (signed_result (cap_directive d))) ≡ text_behind out (and_then r (signed_result d))
+cap_of_number : (d : Directive) (r : Result ℤ Fault) (out : List ℕ) → text_after out (and_then r (signed_result (cap_directive d))) ≡ text_after out (and_then r (signed_result d))
 cap_of_number d (Ok z) out = cap_signed d z out
 cap_of_number d (Err f) out = refl
 
-cap_of_size : (d : Directive) (r : Result ℤ Fault) (out : List ℕ) → text_behind out (and_then r (unsigned_result (cap_directive d))) ≡ text_behind out (and_then r (unsigned_result d))
+cap_of_size : (d : Directive) (r : Result ℤ Fault) (out : List ℕ) → text_after out (and_then r (unsigned_result (cap_directive d))) ≡ text_after out (and_then r (unsigned_result d))
 cap_of_size d (Ok (pos n)) out = cap_unsigned d n out
 cap_of_size d (Ok (negsuc n)) out = refl
 cap_of_size d (Err f) out = refl
 
-cap_of_character : (d : Directive) (r : Result (List ℕ) Fault) (out : List ℕ) → text_behind out (and_then r (character_result (cap_directive d))) ≡ text_behind out (and_then r (character_result d))
+cap_of_character : (d : Directive) (r : Result (List ℕ) Fault) (out : List ℕ) → text_after out (and_then r (character_result (cap_directive d))) ≡ text_after out (and_then r (character_result d))
 cap_of_character d (Ok t) out = cap_character d t out
 cap_of_character d (Err f) out = refl
 
-cap_by : (k : Conversion) (d : Directive) (v : Val) (out : List ℕ) → text_behind out (text_by k (cap_directive d) v) ≡ text_behind out (text_by k d v)
+cap_by : (k : Conversion) (d : Directive) (v : Val) (out : List ℕ) → text_after out (text_by k (cap_directive d) v) ≡ text_after out (text_by k d v)
 cap_by kind.Signed d v out = cap_of_number d (num_of v) out
 cap_by kind.Unsigned d v out = cap_of_size d (num_of v) out
 cap_by kind.Octal d v out = cap_of_size d (num_of v) out
@@ -113,7 +113,7 @@ cap_by kind.UpperHexadecimal d v out = cap_of_size d (num_of v) out
 cap_by kind.Text d v out = cap_string d v out
 cap_by kind.Byte d v out = cap_of_character d (character v) out
 
-cap_place : (d : Directive) (vs : List Val) (out : List ℕ) → text_behind out (value_text (cap_directive d) vs) ≡ text_behind out (value_text d vs)
+cap_place : (d : Directive) (vs : List Val) (out : List ℕ) → text_after out (value_text (cap_directive d) vs) ≡ text_after out (value_text d vs)
 cap_place d [] out = refl
 cap_place d (v ∷ vs) out = cap_by d.conversion d v out
 

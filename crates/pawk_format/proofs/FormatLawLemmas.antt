@@ -77,22 +77,22 @@ digits_end ds r h n = let none = none_in_front r n in rw (digits_prefix ds r h, 
 
 -- ---- a directive that is spelled is read
 
-abbrev behind_width : Option (List ℕ) → ℕ → List ℕ → List ℕ
-behind_width p c t = precision_text p ++ c ∷ t
+abbrev after_width : Option (List ℕ) → ℕ → List ℕ → List ℕ
+after_width p c t = precision_text p ++ c ∷ t
 
-spelled_out : (d : Spelling) (t : List ℕ) → bytes_of_spelling d ++ t ≡ d.flags ++ (d.width ++ behind_width d.precision d.letter t)
+spelled_out : (d : Spelling) (t : List ℕ) → bytes_of_spelling d ++ t ≡ d.flags ++ (d.width ++ after_width d.precision d.letter t)
 spelled_out d t = simp append_assoc
 
-no_flag_behind : (p : Option (List ℕ)) (c : ℕ) (t : List ℕ) → IsLetter c → begins is_flag (behind_width p c t) ≡ false
-no_flag_behind None c t l = l.0
-no_flag_behind (Some p) c t l = refl
+no_flag_follows : (p : Option (List ℕ)) (c : ℕ) (t : List ℕ) → IsLetter c → begins is_flag (after_width p c t) ≡ false
+no_flag_follows None c t l = l.0
+no_flag_follows (Some p) c t l = refl
 
-no_digit_behind : (p : Option (List ℕ)) (c : ℕ) (t : List ℕ) → IsLetter c → begins is_digit (behind_width p c t) ≡ false
-no_digit_behind None c t l = l.1
-no_digit_behind (Some p) c t l = refl
+no_digit_follows : (p : Option (List ℕ)) (c : ℕ) (t : List ℕ) → IsLetter c → begins is_digit (after_width p c t) ≡ false
+no_digit_follows None c t l = l.1
+no_digit_follows (Some p) c t l = refl
 
-no_flag_width : (w : List ℕ) (p : Option (List ℕ)) (c : ℕ) (t : List ℕ) → IsLetter c → begins is_flag w ≡ false → begins is_flag (w ++ behind_width p c t) ≡ false
-no_flag_width [] p c t l h = no_flag_behind p c t l
+no_flag_width : (w : List ℕ) (p : Option (List ℕ)) (c : ℕ) (t : List ℕ) → IsLetter c → begins is_flag w ≡ false → begins is_flag (w ++ after_width p c t) ≡ false
+no_flag_width [] p c t l h = no_flag_follows p c t l
 no_flag_width (b ∷ w) p c t l h = h
 
 front_flags : (fs r : List ℕ) → AreFlags fs → begins is_flag r ≡ false → (take (prefix_len is_flag (fs ++ r)) (fs ++ r) ≡ fs) × (drop (prefix_len is_flag (fs ++ r)) (fs ++ r) ≡ r)
@@ -101,7 +101,7 @@ front_flags fs r h n = rw (flags_prefix fs r h n) (take-append_seam fs r, drop-a
 front_digits : (ds r : List ℕ) → AreDigits ds → begins is_digit r ≡ false → (take (prefix_len is_digit (ds ++ r)) (ds ++ r) ≡ ds) × (drop (prefix_len is_digit (ds ++ r)) (ds ++ r) ≡ r)
 front_digits ds r h n = rw (digits_end ds r h n) (take-append_seam ds r, drop-append_seam ds r)
 
-front_precision : (p : Option (List ℕ)) (c : ℕ) (t : List ℕ) → IsLetter c → ArePrecisionDigits p → (precision_in_front (behind_width p c t) ≡ p) × (without_precision (behind_width p c t) ≡ c ∷ t)
+front_precision : (p : Option (List ℕ)) (c : ℕ) (t : List ℕ) → IsLetter c → ArePrecisionDigits p → (precision_in_front (after_width p c t) ≡ p) × (without_precision (after_width p c t) ≡ c ∷ t)
 front_precision None c t l h = rw l.2 (refl, refl)
 front_precision (Some ds) c t l h = let all = front_digits ds (c ∷ t) h l.1 in (ap Some all.0, all.1)
 
@@ -111,14 +111,14 @@ is_letter d h = conversion_is d.letter (both_true (is_conversion d.letter) _ h.p
 reads : (d : Spelling) (t : List ℕ) → IsSpelling d → (spelling_in_front (bytes_of_spelling d ++ t) ≡ d) × (past_directive (bytes_of_spelling d ++ t) ≡ t)
 reads d t h =
     let l = is_letter d h in
-    let b = behind_width d.precision d.letter t in
+    let b = after_width d.precision d.letter t in
     let w = d.width ++ b in
     let f = front_flags d.flags w h.flags (no_flag_width d.width d.precision d.letter t l h.first) in
-    let g = front_digits d.width b h.width (no_digit_behind d.precision d.letter t l) in
+    let g = front_digits d.width b h.width (no_digit_follows d.precision d.letter t l) in
     let p = front_precision d.precision d.letter t l h.precision in
     rw (spelled_out d t, f.0, f.1, g.0, g.1, p.0, p.1) (refl, refl)
 
-first_of : (fs w : List ℕ) (p : Option (List ℕ)) (c : ℕ) (t : List ℕ) → AreFlags fs → AreDigits w → IsLetter c → begins is_percent (fs ++ (w ++ behind_width p c t)) ≡ false
+first_of : (fs w : List ℕ) (p : Option (List ℕ)) (c : ℕ) (t : List ℕ) → AreFlags fs → AreDigits w → IsLetter c → begins is_percent (fs ++ (w ++ after_width p c t)) ≡ false
 first_of (f ∷ fs) w p c t hf hw l = flag_no_percent f hf.0
 first_of [] (b ∷ w) p c t hf hw l = digit_no_percent b hw.0
 first_of [] [] (Some ds) c t hf hw l = refl
@@ -217,12 +217,12 @@ past_is_shorter : (s : List ℕ) (n : ℕ) → length s ≤ n → length (past_d
 past_is_shorter s n h = let short = shorter_directive s in omega arith
 
 -- what the pieces after a `%` are
-abbrev behind_percent : ℕ → List ℕ → List Piece
-behind_percent n s =
+abbrev after_percent : ℕ → List ℕ → List Piece
+after_percent n s =
     cond (begins is_percent s) (Percent ∷ pieces_within n (drop 1 s))
     (cond (is_proper (spelling_in_front s)) (Place (directive_of (spelling_in_front s)) ∷ pieces_within n (past_directive s)) (Malformed ∷ []))
 
-pub from_percent : (n : ℕ) (s : List ℕ) → pieces_within (suc n) (37 ∷ s) ≡ behind_percent n s
+pub from_percent : (n : ℕ) (s : List ℕ) → pieces_within (suc n) (37 ∷ s) ≡ after_percent n s
 unfolding pieces_within
 from_percent n s = refl
 
@@ -235,7 +235,7 @@ unfolding pieces_within
 no_pieces zero = refl
 no_pieces (suc n) = refl
 
-cut_after_percent : (n : ℕ) (s : List ℕ) → length s ≤ n → ((t : List ℕ) → length t ≤ n → IsCut t (pieces_within n t)) → IsCut (37 ∷ s) (behind_percent n s)
+cut_after_percent : (n : ℕ) (s : List ℕ) → length s ≤ n → ((t : List ℕ) → length t ≤ n → IsCut t (pieces_within n t)) → IsCut (37 ∷ s) (after_percent n s)
 cut_after_percent n s h more =
     elim (begins is_percent s) as (λ v. (begins is_percent s ≡ v) → IsCut (37 ∷ s) (cond v (Percent ∷ pieces_within n (drop 1 s)) (cond (is_proper (spelling_in_front s)) (Place (directive_of (spelling_in_front s)) ∷ pieces_within n (past_directive s)) (Malformed ∷ [])))) [
       | true ↦ (λ e. (drop 1 s, ap (λ l. 37 ∷ l) (first_percent s e), more (drop 1 s) (omega (arith, length-drop 1 s))))

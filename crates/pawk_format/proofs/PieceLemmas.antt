@@ -14,7 +14,7 @@ use Rattle.pawk_scalar.specs.Value.{Val}
 use Rattle.pawk_format.specs.declared.pieces.Piece.TheVariants as code
 use Rattle.pawk_format.specs.declared.pieces.Piece as pieces
 use Rattle.pawk_format.specs.Format.{spelling_in_front, past_directive, directive_of, is_proper, is_percent, is_plain, Piece, Plain, Percent, Place, Malformed, pieces_within, and_then, within_limit, value_text, text_of_pieces, has_bytes, bytes_or_later, writes}
-use Rattle.pawk_format.specs.FormatViews.{cap_directive, cap_piece, cap_pieces_of, shown_pieces, values_behind, text_behind, piece_text, Longer, Makes, Writes}
+use Rattle.pawk_format.specs.FormatViews.{cap_directive, cap_piece, cap_pieces_of, shown_pieces, values_after, text_after, piece_text, Longer, Makes, Writes}
 use Rattle.pawk_format.proofs.FormatLemmas.{shorter_directive}
 use Rattle.pawk_format.proofs.FormatLawLemmas.{from_plain_byte, percent_piece, place_piece, malformed_piece, enough_bytes}
 
@@ -80,7 +80,7 @@ unfolding text_of_pieces
 text_plain [] ps vs out = rw append-nil refl
 text_plain (b ∷ bs) ps vs out = text_plain bs ps vs (out ++ b ∷ []) ∙ ap (λ l. text_of_pieces ps vs l) (append_assoc out (b ∷ []) bs)
 
-text_front : (p : pieces.Piece) (ps : List Piece) (vs : List Val) (out : List ℕ) → text_of_pieces (shown_pieces p ++ ps) vs out ≡ and_then (piece_text out p vs) (λ all. text_of_pieces ps (values_behind p vs) all)
+text_front : (p : pieces.Piece) (ps : List Piece) (vs : List Val) (out : List ℕ) → text_of_pieces (shown_pieces p ++ ps) vs out ≡ and_then (piece_text out p vs) (λ all. text_of_pieces ps (values_after p vs) all)
 unfolding text_of_pieces
 text_front (code.Plain bytes) ps vs out = text_plain bytes.now ps vs out
 text_front code.Percent ps vs out = refl
@@ -91,7 +91,7 @@ pub no_more_text : (vs : List Val) (out : List ℕ) → text_of_pieces [] vs out
 unfolding text_of_pieces
 no_more_text vs out = refl
 
-pub step_text : (p : pieces.Piece) (all rest : List Piece) (vs : List Val) (out made : List ℕ) → all ≡ shown_pieces p ++ rest → piece_text out p vs ≡ Ok made → text_of_pieces rest (values_behind p vs) made ≡ text_of_pieces all vs out
+pub step_text : (p : pieces.Piece) (all rest : List Piece) (vs : List Val) (out made : List ℕ) → all ≡ shown_pieces p ++ rest → piece_text out p vs ≡ Ok made → text_of_pieces rest (values_after p vs) made ≡ text_of_pieces all vs out
 step_text p all rest vs out made e m = sym (ap (λ l. text_of_pieces l vs out) e ∙ text_front p rest vs out ∙ rw m refl)
 
 stop_text : (p : pieces.Piece) (all rest : List Piece) (vs : List Val) (out : List ℕ) (f : Fault) → all ≡ shown_pieces p ++ rest → piece_text out p vs ≡ Err f → text_of_pieces all vs out ≡ Err f
@@ -111,7 +111,7 @@ within_is : (t made : List ℕ) → within_limit t ≡ Ok made → made ≡ t
 within_is t made h =
     elim (leb (length t) 16777216) as (λ v. cond v (Ok t) (Err Length) ≡ Ok made → made ≡ t) [ true ↦ (λ e. cc) | false ↦ (λ e. absurd cc) ] h
 
-longer_bytes : (b : ℕ) (out : List ℕ) (r : Result (List ℕ) Fault) (made : List ℕ) → text_behind (b ∷ out) r ≡ Ok made → has_bytes made ≡ true
+longer_bytes : (b : ℕ) (out : List ℕ) (r : Result (List ℕ) Fault) (made : List ℕ) → text_after (b ∷ out) r ≡ Ok made → has_bytes made ≡ true
 longer_bytes b out (Ok t) made h = rw (within_is (b ∷ (out ++ t)) made h) refl
 longer_bytes b out (Err f) made h = absurd cc
 
@@ -120,7 +120,7 @@ unfolding writes
 plain_writes [] rest vs out made h = rw (h, append-nil) refl
 plain_writes (b ∷ bs) rest vs out made h = rw (h, some_bytes out b bs, or_true (has_bytes out)) refl
 
-pub step_writes : (p : pieces.Piece) (rest : List Piece) (vs : List Val) (out made : List ℕ) → piece_text out p vs ≡ Ok made → (has_bytes made || writes rest (values_behind p vs)) ≡ (has_bytes out || writes (shown_pieces p ++ rest) vs)
+pub step_writes : (p : pieces.Piece) (rest : List Piece) (vs : List Val) (out made : List ℕ) → piece_text out p vs ≡ Ok made → (has_bytes made || writes rest (values_after p vs)) ≡ (has_bytes out || writes (shown_pieces p ++ rest) vs)
 unfolding writes
 step_writes (code.Plain bytes) rest vs out made h = plain_writes bytes.now rest vs out made cc
 step_writes code.Percent rest vs out made h = rw (within_is (out ++ 37 ∷ []) made h) (rw (some_bytes out 37 [], or_true (has_bytes out)) refl)
@@ -142,7 +142,7 @@ pub stop_writes : (p : pieces.Piece) (rest : List Piece) (vs : List Val) (out : 
 unfolding writes
 stop_writes (code.Plain bytes) rest vs out h = plain_stops bytes.now rest vs out h
 stop_writes code.Percent rest vs out h = or_true (has_bytes out)
-stop_writes (code.Place d) rest vs [] h = first_stops (text_behind [] (value_text d vs)) (writes rest (drop 1 vs)) h
+stop_writes (code.Place d) rest vs [] h = first_stops (text_after [] (value_text d vs)) (writes rest (drop 1 vs)) h
 stop_writes (code.Place d) rest vs (b ∷ out) h = refl
 stop_writes code.Malformed rest vs out h = absurd h
 

@@ -49,19 +49,19 @@ shown_values (arguments.Owned vs) = map shown vs.now
 shown_values (arguments.Lent vs) = map lent_value vs.now
 
 -- the values that are left after a piece
-abbrev pub values_behind : Piece → List Val → List Val
-values_behind (code.Place d) vs = drop 1 vs
-values_behind _ vs = vs
+abbrev pub values_after : Piece → List Val → List Val
+values_after (code.Place d) vs = drop 1 vs
+values_after _ vs = vs
 
 -- a text after the text so far, where the length allows it
-abbrev pub text_behind : List ℕ → Result (List ℕ) Fault → Result (List ℕ) Fault
-text_behind out text = and_then text (λ t. within_limit (out ++ t))
+abbrev pub text_after : List ℕ → Result (List ℕ) Fault → Result (List ℕ) Fault
+text_after out text = and_then text (λ t. within_limit (out ++ t))
 
 -- the text so far with that of a piece
 abbrev pub piece_text : List ℕ → Piece → List Val → Result (List ℕ) Fault
 piece_text out (code.Plain bytes) vs = Ok (out ++ bytes.now)
 piece_text out code.Percent vs = within_limit (out ++ 37 ∷ [])
-piece_text out (code.Place d) vs = text_behind out (value_text d vs)
+piece_text out (code.Place d) vs = text_after out (value_text d vs)
 piece_text out code.Malformed vs = Err Format
 
 -- octal or hexadecimal

@@ -2,7 +2,7 @@
 
 ghost use Rattle.std.specs.Prelude.{◌≡◌, [], ◌∷◌, drop, MatchOption};
 ghost use Rattle.pawk_scalar.specs.Value.{lent_value};
-ghost use Rattle.pawk_format.specs.FormatViews.{shown_values, values_behind};
+ghost use Rattle.pawk_format.specs.FormatViews.{shown_values, values_after};
 
 use crate::pieces::Piece;
 use pawk_scalar::{Value, ValueRef, lend};
@@ -51,9 +51,9 @@ fn past_first(arguments: Arguments<'_>) -> Arguments<'_>
 }
 
 /// The values that a piece leaves.
-pub fn arguments_behind<'a>(piece: Piece<'_>, arguments: Arguments<'a>) -> Arguments<'a>
+pub fn arguments_after<'a>(piece: Piece<'_>, arguments: Arguments<'a>) -> Arguments<'a>
     ensures { shown_values result
-        ≡ values_behind piece.entry (shown_values arguments.entry) }
+        ≡ values_after piece.entry (shown_values arguments.entry) }
 {
     match piece {
         Piece::Place(_) => past_first(arguments),

@@ -7,7 +7,7 @@ ghost use Rattle.pawk_format.specs.FormatLaw.{FormatLaw};
 ghost use Rattle.pawk_format.specs.FormatViews.{cap_pieces_of, shown_values, Makes, Writes};
 ghost use Rattle.pawk_format.specs.FormatResults.{Formats};
 
-use crate::arguments::{Arguments, arguments_behind};
+use crate::arguments::{Arguments, arguments_after};
 use crate::output::push_piece;
 use crate::pieces::next_piece;
 use pawk_scalar::{Fault, LENGTH_LIMIT, Stop, Value, ValueRef};
@@ -34,7 +34,7 @@ fn push_format(out: &mut Vec<u8>, format: &[u8], arguments: Arguments<'_>) -> Re
     while !rest.is_empty() {
         let front = next_piece(rest);
         push_piece(out, front.piece, left)?;
-        left = arguments_behind(front.piece, left);
+        left = arguments_after(front.piece, left);
         rest = front.rest;
     }
     check_length(out)

@@ -4,7 +4,7 @@ ghost use Rattle.std.specs.Prelude.{◌≡◌, ◌++◌, ◌<◌, ◌≤◌, ◌
 ghost use Rattle.pawk_scalar.specs.Value.{lent_value};
 ghost use Rattle.pawk_format.specs.Format.{sign_text, signed_text, unsigned_prefix, unsigned_digits, unsigned_text, unsigned_result, character_result, beginning, string_text, character, directive_text, value_text, and_then, has_leading_zero, conversion_digits, within_limit};
 ghost use Rattle.pawk_format.specs.Format as spec;
-ghost use Rattle.pawk_format.specs.FormatViews.{as_bytes, as_text, text_behind, piece_text, shown_values, Makes, IsRadix, IsUnsigned};
+ghost use Rattle.pawk_format.specs.FormatViews.{as_bytes, as_text, text_after, piece_text, shown_values, Makes, IsRadix, IsUnsigned};
 
 use crate::arguments::{Arguments, first_argument};
 use crate::directive::{Conversion, Directive};
@@ -160,7 +160,7 @@ fn push_radix(out: &mut Vec<u8>, directive: Directive, number: u64) -> Result<()
 fn push_unsigned(out: &mut Vec<u8>, directive: Directive, number: i64) -> Result<(), Stop>
     requires { IsUnsigned directive.conversion }
     ensures { Makes out.old.items
-        (text_behind out.old.items (unsigned_result directive number))
+        (text_after out.old.items (unsigned_result directive number))
         out.new.items result }
 {
     match u64::try_from(number) {
@@ -221,7 +221,7 @@ fn character_of(value: ValueRef<'_>) -> Result<Option<u8>, Fault>
 /// Appends one byte, or nothing, with spaces.
 fn push_character(out: &mut Vec<u8>, directive: Directive, value: ValueRef<'_>) -> Result<(), Stop>
     ensures { Makes out.old.items
-        (text_behind out.old.items
+        (text_after out.old.items
         (and_then (character (lent_value value.entry)) (character_result directive)))
         out.new.items result }
 {
@@ -235,7 +235,7 @@ fn push_character(out: &mut Vec<u8>, directive: Directive, value: ValueRef<'_>) 
 /// `negative` and `length`.
 fn push_directive(out: &mut Vec<u8>, directive: Directive, value: ValueRef<'_>) -> Result<(), Stop>
     ensures { Makes out.old.items
-        (text_behind out.old.items (directive_text directive (lent_value value.entry)))
+        (text_after out.old.items (directive_text directive (lent_value value.entry)))
         out.new.items result }
 {
     match directive.conversion {
@@ -249,7 +249,7 @@ fn push_directive(out: &mut Vec<u8>, directive: Directive, value: ValueRef<'_>) 
 /// Appends what a directive writes for the first of the values.
 fn push_place(out: &mut Vec<u8>, directive: Directive, arguments: Arguments<'_>) -> Result<(), Stop>
     ensures { Makes out.old.items
-        (text_behind out.old.items (value_text directive (shown_values arguments.entry)))
+        (text_after out.old.items (value_text directive (shown_values arguments.entry)))
         out.new.items result }
 {
     match first_argument(arguments) {

@@ -7,7 +7,7 @@ ghost use Rattle.pawk_format.specs.Format.{pieces_of};
 ghost use Rattle.pawk_format.specs.FormatViews.{shown_pieces, shown_values, Writes};
 ghost use Rattle.pawk_format.specs.TemplateViews.{part_pieces, IsTemplateOf};
 
-use crate::arguments::{Arguments, arguments_behind};
+use crate::arguments::{Arguments, arguments_after};
 use crate::directive::Directive;
 use crate::formats::check_length;
 use crate::output::push_piece;
@@ -87,7 +87,7 @@ fn push_template(
     for part in &template.parts {
         let piece = piece_of(part);
         push_piece(out, piece, left)?;
-        left = arguments_behind(piece, left);
+        left = arguments_after(piece, left);
     }
     check_length(out)
 }

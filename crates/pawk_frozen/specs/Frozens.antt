@@ -21,8 +21,8 @@ pub record Frozen : Type 0 where
   pub table : Table
 
 -- the globals that BEGIN left, of which nothing is noted
-abbrev pub begun : Globals → Roles → Frozen
-begun fixed roles =
+abbrev pub blank_world : Globals → Roles → Frozen
+blank_world fixed roles =
     record { fixed = fixed; roles = roles; table = blank_table (length fixed.scalars) (length fixed.arrays) }
 
 abbrev pub noted : Cell → Mark → Frozen → Frozen

@@ -44,7 +44,7 @@ impl<'a> Frozen<'a> {
     /// The globals with which a chunk begins, of which it has noted nothing.
     pub fn new(alloc: Global, fixed: &'a Globals, roles: &'a Roles) -> Result<Self, AllocError>
         ensures { IfOk result (λ frozen.
-            frozen ≡ spec.begun fixed.entry.now (roles_view roles.entry.now)) }
+            frozen ≡ spec.blank_world fixed.entry.now (roles_view roles.entry.now)) }
     {
         Ok(Frozen {
             fixed,

@@ -1,7 +1,6 @@
 //! What a chunk notes of the elements of an array.
 
-ghost use Rattle.std.specs.Prelude.{◌≡◌, [], length, None, IfOk, MatchOption, OnErr, OnOk};
-ghost use Rattle.std.specs.Option.{option_map};
+ghost use Rattle.std.specs.Prelude.{◌≡◌, [], None, IfOk, MatchOption, OnErr, OnOk};
 ghost use Rattle.std.specs.Borrow.{sem};
 ghost use Rattle.std.specs.FinMap.Entries.{find};
 ghost use Rattle.pawk_value.specs.Value.{lent_value};
@@ -17,7 +16,7 @@ use crate::mark::CellMark;
 use indexmap::IndexMap;
 use indexmap::map::IntoIter;
 use pawk_code::word::Sign;
-use pawk_keyed_map::{Key, Query, place_of};
+use pawk_keyed_map::{Key, place_of};
 use pawk_value::ValueRef;
 use pawk_world::Halt;
 use std::alloc::{AllocError, Global};
@@ -49,14 +48,14 @@ pub struct MarkPairs {
 
 impl Model for MarkPairs {
     ghost use Rattle.pawk_frozen.specs.Marks as spec;
-    ghost use Rattle.pawk_keyed_map.specs.Pairs.{StandOnce};
+    ghost use Rattle.pawk_keyed_map.specs.Pairs.{OccurOnce};
     ghost use Rattle.pawk_frozen.specs.MarkViews.{mark_view, marks_of};
 
     ghost Value = { spec.Marks };
 
     ghost view = { λ m. marks_of m.pairs };
 
-    ghost invariant = { λ m. StandOnce mark_view m.pairs };
+    ghost invariant = { λ m. OccurOnce mark_view m.pairs };
 }
 
 impl MarkPairs {
@@ -80,21 +79,6 @@ impl ElementMarks {
             alloc,
             map: IndexMap::new(alloc),
         }
-    }
-
-    /// How many elements have a mark.
-    #[allow(clippy::len_without_is_empty)]
-    pub fn len(&self) -> usize
-        ensures { result ≡ length self.now }
-    {
-        self.map.len()
-    }
-
-    /// The mark of an element, if it has one.
-    pub fn get(&self, key: &[u8]) -> Option<&CellMark>
-        ensures { option_map (λ mark. mark_view mark.now) result ≡ find order key.now self.now }
-    {
-        self.map.get(Query(key))
     }
 
     /// The keys and their marks, to be taken out one after the other. Takes no memory.

@@ -1,4 +1,3 @@
-pub use Rattle.pawk_fields.proofs.FieldsLemmas
 pub mod ItemsLemmas
 pub mod PlanLemmas
 pub mod CutPlanLemmas

@@ -27,8 +27,8 @@ occurs_in_longer n s word k o =
       reads = λ j lt. sym (get_or-take n s (k + j) 0 (omega arith)) ∙ o.reads j lt;
     }
 
-occurs_behind : (n : ℕ) (s word : List ℕ) (k : ℕ) → n ≤ length s → OccursAt (drop n s) word k → OccursAt s word (n + k)
-occurs_behind n s word k le o =
+occurs_after : (n : ℕ) (s word : List ℕ) (k : ℕ) → n ≤ length s → OccursAt (drop n s) word k → OccursAt s word (n + k)
+occurs_after n s word k le o =
     let long = length-drop n s in
     let fits = o.fits in
     record {
@@ -39,8 +39,8 @@ occurs_behind n s word k le o =
 none_in_front : (n : ℕ) (s : List ℕ) (words : List (List ℕ)) → HoldsNone s words → HoldsNone (take n s) words
 none_in_front n s words h q d lt k o = h q d lt k (occurs_in_longer n s (get_or words q d) k o)
 
-none_behind : (n : ℕ) (s : List ℕ) (words : List (List ℕ)) → n ≤ length s → HoldsNone s words → HoldsNone (drop n s) words
-none_behind n s words le h q d lt k o = h q d lt (n + k) (occurs_behind n s (get_or words q d) k le o)
+none_follows : (n : ℕ) (s : List ℕ) (words : List (List ℕ)) → n ≤ length s → HoldsNone s words → HoldsNone (drop n s) words
+none_follows n s words le h q d lt k o = h q d lt (n + k) (occurs_after n s (get_or words q d) k le o)
 
 -- of the first bytes, fewer hold no word either
 pub none_in_fewer : (n m : ℕ) (s : List ℕ) (words : List (List ℕ)) → n ≤ m → HoldsNone (take m s) words → HoldsNone (take n s) words
@@ -106,7 +106,7 @@ module _ (e : ℕ) (words : List (List ℕ)) where
       let t = b ∷ s in
       let n = prefix_len (is_other e) t in
       let later : All LacksAll (records e (drop (n + 1) t)) = elim (leb_tells (n + 1) (length t)) [
-        | inl more ↦ none_in_records f (drop (n + 1) t) (omega (arith, length-drop (n + 1) t)) (none_behind (n + 1) t words more.1 h)
+        | inl more ↦ none_in_records f (drop (n + 1) t) (omega (arith, length-drop (n + 1) t)) (none_follows (n + 1) t words more.1 h)
         | inr last ↦ subst (λ l. All LacksAll (records e l)) (sym (drop_all (n + 1) t (omega (arith, last.1)))) (All-nil LacksAll)
       ] in
       subst (All LacksAll) (sym (records_of_some e t (omega arith))) (All-cons LacksAll (take n t) (records e (drop (n + 1) t)) (none_in_front n t words h) later)

@@ -21,9 +21,9 @@ pub use cutting::{Chunk, CutRefusal, MOST_CHUNKS};
 pub use files::{Input, LIMIT, TooLarge};
 pub use item::Item;
 pub use pawk_fields::{
-    BlankFields, FieldSeparator, FieldStep, FieldWalk, Finder, SplitFields, append_between,
-    append_fields, append_ranges, blanks_law, count_fields, count_split, expression_matcher, field,
-    fields, fields_law, pieces_law, split, split_fields, split_fields_with, split_law,
+    FieldSeparator, FieldStep, Finder, append_between, append_fields, append_ranges, blanks_law,
+    count_fields, count_split, expression_matcher, fields_law, pieces_law, split_fields,
+    split_fields_with, split_law,
 };
 pub use pawk_records::{Block, Blocks, begins_law, records_law};
 pub use plan::Plan;

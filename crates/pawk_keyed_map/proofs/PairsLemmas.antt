@@ -17,7 +17,7 @@ use Rattle.std.proofs.lemmas.Slice.Eq.{bytes_eq-Decides}
 use Rattle.pawk_keyed_map.specs.declared.key.Key.{Key}
 use Rattle.pawk_keyed_map.specs.Keys.{text_of}
 use Rattle.pawk_keyed_map.specs.Keyed.{found_or, Rise, found, put, without, touched_by}
-use Rattle.pawk_keyed_map.specs.Pairs.{seen_by, by_key, HasKeyAt, StandOnce}
+use Rattle.pawk_keyed_map.specs.Pairs.{seen_by, by_key, HasKeyAt, OccurOnce}
 use Rattle.pawk_keyed_map.proofs.EntriesLemmas.{flip, rise-put, rise-without, found-put, found-without, same_found, length-put_new, touched_found}
 
 -- whether a key of a map has these bytes
@@ -48,23 +48,23 @@ none_passes k [] h = tt
 none_passes k (e ∷ es) h = (h.0, none_passes k es h.1)
 
 -- a key has nothing among the pairs after it
-absent_behind : {A B : Type 0} (view : A → B) (e : Key × A) (es : List (Key × A)) → IsDistinct same_bytes (keys_of (e ∷ es)) → found (text_of e.0) (seen_by view es) ≡ None
-absent_behind view e es h =
+absent_after : {A B : Type 0} (view : A → B) (e : Key × A) (es : List (Key × A)) → IsDistinct same_bytes (keys_of (e ∷ es)) → found (text_of e.0) (seen_by view es) ≡ None
+absent_after view e es h =
     found-seen_by view (text_of e.0) es ∙ ap (option_map view) (lookup-none (has_bytes (text_of e.0)) es (none_passes e.0 es (IsDistinct-head same_bytes e.0 (keys_of es) h)))
 
 pub length-seen_by : {A B : Type 0} (view : A → B) (es : List (Key × A)) → IsDistinct same_bytes (keys_of es) → length (seen_by view es) ≡ length es
 length-seen_by view [] h = refl
 length-seen_by view (e ∷ es) h =
-    length-put_new (text_of e.0) (view e.1) (seen_by view es) (rise-seen_by view es) (absent_behind view e es h)
+    length-put_new (text_of e.0) (view e.1) (seen_by view es) (rise-seen_by view es) (absent_after view e es h)
     ∙ add-one (length (seen_by view es))
     ∙ ap suc (length-seen_by view es (IsDistinct-tail same_bytes e.0 (keys_of es) h))
 
 -- no key of a map is that of another pair
-pub stand_once : {A B : Type 0} (view : A → B) (es : List (Key × A)) → IsDistinct same_bytes (keys_of es) → StandOnce view es
-stand_once view [] h = tt
-stand_once view (e ∷ es) h = (
-  absent_behind view e es h,
-  stand_once view es (IsDistinct-tail same_bytes e.0 (keys_of es) h),
+pub occur_once : {A B : Type 0} (view : A → B) (es : List (Key × A)) → IsDistinct same_bytes (keys_of es) → OccurOnce view es
+occur_once view [] h = tt
+occur_once view (e ∷ es) h = (
+  absent_after view e es h,
+  occur_once view es (IsDistinct-tail same_bytes e.0 (keys_of es) h),
 )
 
 is_key_test : (q : List ℕ) → IsKeyTest same_bytes (has_bytes q)

@@ -14,9 +14,9 @@ abbrev pub by_key : {A : Type 0} → List (Key × A) → Keyed A
 by_key es = seen_by (λ v. v) es
 
 -- each key occurs once among the pairs
-abbrev pub StandOnce : {A B : Type 0} → (A → B) → List (Key × A) → Type 0
-StandOnce view [] = Unit {0}
-StandOnce view (e ∷ es) = (found (text_of e.0) (seen_by view es) ≡ None) × StandOnce view es
+abbrev pub OccurOnce : {A B : Type 0} → (A → B) → List (Key × A) → Type 0
+OccurOnce view [] = Unit {0}
+OccurOnce view (e ∷ es) = (found (text_of e.0) (seen_by view es) ≡ None) × OccurOnce view es
 
 -- at this place is the pair of the key
 abbrev pub HasKeyAt : {A : Type 0} → List (Key × A) → ℕ → List ℕ → Type 0

@@ -10,7 +10,7 @@ use Rattle.pawk_lex.specs.Vocabulary.{mark_text, double}
 use Rattle.pawk_lex.specs.Strings.{simple_escape, three_digits}
 use Rattle.pawk_lex.specs.Tokens.{Tok, number, string, ere, name, function_name, builtin, mark, divides_after}
 use Rattle.pawk_lex.specs.Next.{Finding, finds, is_redirection, next}
-use Rattle.pawk_lex.specs.Cut.{Gap, no_gap, a_blank, a_joined_line, a_comment, is_ordinary, Inside, at_quote, itself, by_escape, one_digit, two_octal, three_octal, MarkEnds, Ends, Stands, Writes, Takes, CutFrom, at_end, a_token}
+use Rattle.pawk_lex.specs.Cut.{Gap, no_gap, a_blank, a_joined_line, a_comment, is_ordinary, Inside, at_quote, itself, by_escape, one_digit, two_octal, three_octal, MarkEnds, Ends, MayOccur, Writes, Takes, CutFrom, at_end, a_token}
 use Rattle.pawk_lex.specs.Canonical.{byte_text, string_text, token_text, AreBytes, IsWritable, AreWritable, is_separator, MayEnd}
 use Rattle.pawk_lex.proofs.Numerals.{numeral}
 use Rattle.pawk_lex.proofs.Fronts.{takes_found, gap_none}
@@ -324,10 +324,10 @@ separator_ends (function_name w) b h e = absurd h
 separator_ends (builtin f) b h e = separator_free is_name_byte b refl refl refl refl e
 separator_ends (mark s) b h e = mark_ends s b e
 
-pub token_first : {d : Bool} (x : Text) {rest : Text} {t : Tok} {ts : List Tok} → Writes x t → Ends t (slice_index rest 0) → Stands d t → CutFrom (divides_after t) rest ts → CutFrom d (x ++ rest) (t ∷ ts)
-token_first x {rest = rest} w e s c = a_token (record { text = x ++ rest; gap = no_gap; begins = record { lexeme = x; front = refl; writes = w; ends = e; stands = s } }) c
+pub token_first : {d : Bool} (x : Text) {rest : Text} {t : Tok} {ts : List Tok} → Writes x t → Ends t (slice_index rest 0) → MayOccur d t → CutFrom (divides_after t) rest ts → CutFrom d (x ++ rest) (t ∷ ts)
+token_first x {rest = rest} w e s c = a_token (record { text = x ++ rest; gap = no_gap; begins = record { lexeme = x; front = refl; writes = w; ends = e; may_occur = s } }) c
 
-pub gap_after : {d : Bool} (x : Text) {y z : Text} {b : ℕ} {t : Tok} {ts : List Tok} → Writes x t → MayEnd t → Stands d t → is_separator b ≡ true → Gap (b ∷ y) z → CutFrom (divides_after t) z ts → CutFrom d (x ++ b ∷ y) (t ∷ ts)
+pub gap_after : {d : Bool} (x : Text) {y z : Text} {b : ℕ} {t : Tok} {ts : List Tok} → Writes x t → MayEnd t → MayOccur d t → is_separator b ≡ true → Gap (b ∷ y) z → CutFrom (divides_after t) z ts → CutFrom d (x ++ b ∷ y) (t ∷ ts)
 gap_after x {b = b} {t = t} w h s e g c = token_first x w (separator_ends t b h e) s (gap_before g c)
 
 -- ---- one way to write each token

@@ -14,7 +14,7 @@ use Rattle.pawk_lex.specs.Vocabulary.{mark_text, builtin_text, reserved_word, bu
 use Rattle.pawk_lex.specs.Gaps.{gap_length, pass, skip}
 use Rattle.pawk_lex.specs.Tokens.{Tok, number as number_token, string as string_token, ere as ere_token, name, function_name, builtin, mark}
 use Rattle.pawk_lex.specs.Next.{finds, value_from, number, word_cause, word_tok, word, string_by, string, ere_by, ere, is_redirection, sign, token_at, next}
-use Rattle.pawk_lex.specs.Cut.{EndsLine, Gap, no_gap, a_blank, a_joined_line, a_comment, IsName, Inside, IsEre, MarkEnds, Ends, MarkStands, Stands, Writes, Begins, Takes}
+use Rattle.pawk_lex.specs.Cut.{EndsLine, Gap, no_gap, a_blank, a_joined_line, a_comment, IsName, Inside, IsEre, MarkEnds, Ends, MarkMayOccur, MayOccur, Writes, Begins, Takes}
 use Rattle.pawk_lex.proofs.Runs.{Stops, stops, run, all_from_test}
 use Rattle.pawk_lex.proofs.Numerals.{all_digits, begins_digit, value_is}
 use Rattle.pawk_lex.proofs.Passing.{pass_stops, pass_goes}
@@ -94,7 +94,7 @@ double_runs : (b c : ℕ) (s : Mark) (rest : Text) → double b c ≡ Some s →
 unfolding sign
 double_runs b c s rest e r = rw (r, e) refl
 
-mark_front : (s : Mark) (d : Bool) (rest : Text) → MarkEnds (mark_text s) (slice_index rest 0) → MarkStands d s → token_at d (mark_text s ++ rest) ≡ finds (mark s) rest
+mark_front : (s : Mark) (d : Bool) (rest : Text) → MarkEnds (mark_text s) (slice_index rest 0) → MarkMayOccur d s → token_at d (mark_text s ++ rest) ≡ finds (mark s) rest
 unfolding token_at single double is_redirection word_cause reserved_word is_left_out_arithmetic is_left_out_output is_left_out_variable
 mark_front m.Newline d rest h s = single_runs 10 m.Newline rest refl h.0 h.1
 mark_front m.LeftBrace d rest h s = single_runs 123 m.LeftBrace rest refl h.0 h.1
@@ -174,7 +174,7 @@ ere_front d bytes rest i s = rw s (ere_runs bytes rest i)
 
 -- ---- all tokens
 
-pub front : (d : Bool) (t : Tok) (x rest : Text) → Writes x t → Ends t (slice_index rest 0) → Stands d t → token_at d (x ++ rest) ≡ finds t rest
+pub front : (d : Bool) (t : Tok) (x rest : Text) → Writes x t → Ends t (slice_index rest 0) → MayOccur d t → token_at d (x ++ rest) ≡ finds t rest
 front d (number_token n) x rest w e s =
     number_front d x rest n (all_digits x w.digits.1) (begins_digit x w.digits.0 w.digits.1) (value_is 0 n x w.digits.1 w.value w.small) e.0 e.1
 front d (string_token bytes) x rest w e s = rw w.1 (string_front d w.0 rest bytes w.2)
@@ -187,7 +187,7 @@ front d (builtin f) x rest w e s = rw w (builtins_front f d rest e)
 front d (mark k) x rest w e s = rw w (mark_front k d rest e s)
 
 pub begins_found : {d : Bool} {z rest : Text} {t : Tok} → Begins d z t rest → token_at d z ≡ finds t rest
-begins_found {d} {z} {rest} {t} b = rw b.front (front d t b.lexeme rest b.writes b.ends b.stands)
+begins_found {d} {z} {rest} {t} b = rw b.front (front d t b.lexeme rest b.writes b.ends b.may_occur)
 
 -- ---- what separates tokens
 

@@ -19,7 +19,7 @@ use Rattle.pawk_lex.specs.Gaps.{gap_length, pass, skip}
 use Rattle.pawk_lex.specs.Strings.{simple_escape, by_two, two_digits, three_digits, octal_escape, string_byte, decode, decode_by, after_backslash, ere_length}
 use Rattle.pawk_lex.specs.Tokens.{Tok, number as number_token, string as string_token, ere as ere_token, name, function_name, mark}
 use Rattle.pawk_lex.specs.Next.{finds, fails, value_from, number_by, number, word_cause, named_by, word_by, word_tok, word_unless, word, string_end, string_by, string, ere_by, ere, is_redirection, sign_by, sign_unless, sign, token_at, next}
-use Rattle.pawk_lex.specs.Cut.{EndsLine, Gap, no_gap, a_blank, a_joined_line, a_comment, Inside, at_quote, itself, by_escape, one_digit, two_octal, three_octal, IsEre, no_byte, a_byte, a_pair, MarkEnds, MarkStands, Writes, Begins, Takes}
+use Rattle.pawk_lex.specs.Cut.{EndsLine, Gap, no_gap, a_blank, a_joined_line, a_comment, Inside, at_quote, itself, by_escape, one_digit, two_octal, three_octal, IsEre, no_byte, a_byte, a_pair, MarkEnds, MarkMayOccur, Writes, Begins, Takes}
 use Rattle.pawk_lex.proofs.Runs.{Stops, prefix_all, prefix_first, prefix_ends, next_stops}
 use Rattle.pawk_lex.proofs.Numerals.{digits_all, value_sound}
 use Rattle.pawk_lex.proofs.Insides.{inside_first, taken}
@@ -98,7 +98,7 @@ number_sound d b z t rest h e = go (value_from 0 x) refl e
           front = sym (take-append-drop n (b ∷ z));
           writes = record { digits = (begins_some is_ascii_digit true x (prefix_first is_ascii_digit is_ascii_digit true b z h h), digits_all x digits); value = value.0; small = value.1 };
           ends = or_false (is_name_byte (slice_index r 0)) (slice_index r 0 == 46) g;
-          stands = tt;
+          may_occur = tt;
         })
 
     go : (o : Option ℕ) → value_from 0 x ≡ o → number_by (b ∷ z) o r ≡ finds t rest → Begins d (b ∷ z) t rest
@@ -111,21 +111,21 @@ word_ends : (w : Text) (next : ℕ) → BeginsBy is_name_byte true w → is_name
 word_ends [] next f e = absurd f
 word_ends (b ∷ w) next f e = rw f e
 
-word_stands : (d : Bool) (s : Mark) → BeginsBy is_name_byte true (mark_text s) → MarkStands d s
-word_stands d m.Slash f = absurd cc
-word_stands d m.SlashAssign f = absurd cc
-word_stands d _ f = tt
+word_may_occur : (d : Bool) (s : Mark) → BeginsBy is_name_byte true (mark_text s) → MarkMayOccur d s
+word_may_occur d m.Slash f = absurd cc
+word_may_occur d m.SlashAssign f = absurd cc
+word_may_occur d _ f = tt
 
 word_begins : (d : Bool) (w r : Text) → AllAre is_name_byte w → BeginsBy is_ascii_digit false w → BeginsBy is_name_byte true w → word_cause w ≡ None → is_name_byte (slice_index r 0) ≡ false → Begins d (w ++ r) (word_tok w (slice_index r 0)) r
 unfolding word_tok
 word_begins d w r letters first begins allowed ends = go (reserved_word w) refl
   where
     named : reserved_word w ≡ None → builtin_of w ≡ None → (c : Bool) → (slice_index r 0 == 40) ≡ c → Begins d (w ++ r) (cond c (function_name w) (name w)) r
-    named f g true h = record { lexeme = w; front = refl; writes = (refl, record { letters = letters; first = first; allowed = allowed; unreserved = f; unbuilt = g }); ends = eqb-true (slice_index r 0) 40 h; stands = tt }
-    named f g false h = record { lexeme = w; front = refl; writes = (refl, record { letters = letters; first = first; allowed = allowed; unreserved = f; unbuilt = g }); ends = (ends, h); stands = tt }
+    named f g true h = record { lexeme = w; front = refl; writes = (refl, record { letters = letters; first = first; allowed = allowed; unreserved = f; unbuilt = g }); ends = eqb-true (slice_index r 0) 40 h; may_occur = tt }
+    named f g false h = record { lexeme = w; front = refl; writes = (refl, record { letters = letters; first = first; allowed = allowed; unreserved = f; unbuilt = g }); ends = (ends, h); may_occur = tt }
 
     built : reserved_word w ≡ None → (o : Option Builtin) → builtin_of w ≡ o → Begins d (w ++ r) (named_by w (slice_index r 0) o) r
-    built f (Some k) g = record { lexeme = w; front = refl; writes = sym (name_of_builtin w k g); ends = ends; stands = tt }
+    built f (Some k) g = record { lexeme = w; front = refl; writes = sym (name_of_builtin w k g); ends = ends; may_occur = tt }
     built f None g = named f g (slice_index r 0 == 40) refl
 
     go : (o : Option Mark) → reserved_word w ≡ o → Begins d (w ++ r) (word_by w (slice_index r 0) o) r
@@ -134,7 +134,7 @@ word_begins d w r letters first begins allowed ends = go (reserved_word w) refl
       front = refl;
       writes = sym (reserved_text w s f);
       ends = rw (reserved_text w s f) (word_ends w (slice_index r 0) begins ends);
-      stands = word_stands d s (rw (reserved_text w s f) begins);
+      may_occur = word_may_occur d s (rw (reserved_text w s f) begins);
     }
     go None f = built f (builtin_of w) refl
 
@@ -270,7 +270,7 @@ string_begins : (d : Bool) (z bytes rest : Text) → decode 0 [] z ≡ (bytes, 3
 string_begins d z bytes rest e =
     let k = decode_sound z 0 [] bytes rest e in
     let f = inside_front k.inside in
-    record { lexeme = 34 ∷ f.lexeme; front = ap (λ v. 34 ∷ v) f.front; writes = (f.lexeme, refl, let P : Text → Type 0 = λ v. Inside f.lexeme v [] in subst P (sym k.bytes_are) f.inside); ends = tt; stands = tt }
+    record { lexeme = 34 ∷ f.lexeme; front = ap (λ v. 34 ∷ v) f.front; writes = (f.lexeme, refl, let P : Text → Type 0 = λ v. Inside f.lexeme v [] in subst P (sym k.bytes_are) f.inside); ends = tt; may_occur = tt }
 
 string_sound : (d : Bool) (z : Text) (t : Tok) (rest : Text) → string (34 ∷ z) ≡ finds t rest → Begins d (34 ∷ z) t rest
 unfolding string
@@ -335,7 +335,7 @@ ere_begins z rest k = record {
       let P : Text → Type 0 = λ v. Writes (47 ∷ k.bytes ++ 47 ∷ []) (ere_token v) in
       subst P (sym same) (refl, k.inside);
   ends = tt;
-  stands = refl;
+  may_occur = refl;
 }
 
 ere_sound : (z : Text) (t : Tok) (rest : Text) → ere (47 ∷ z) ≡ finds t rest → Begins false (47 ∷ z) t rest
@@ -362,12 +362,12 @@ double_at_end : (b : ℕ) → double b 0 ≡ None
 unfolding double
 double_at_end b = simp no_both
 
-sign_stands : (d : Bool) (b : ℕ) (w : Text) (s : Mark) → b ∷ w ≡ mark_text s → ((b == 47) && cond d false true) ≡ false → MarkStands d s
-sign_stands true b w m.Slash e h = refl
-sign_stands false b w m.Slash e h = let same : b ≡ 47 = cc in let bad : true ≡ false = rw same at h in absurd cc
-sign_stands true b w m.SlashAssign e h = refl
-sign_stands false b w m.SlashAssign e h = let same : b ≡ 47 = cc in let bad : true ≡ false = rw same at h in absurd cc
-sign_stands d b w _ e h = tt
+sign_may_occur : (d : Bool) (b : ℕ) (w : Text) (s : Mark) → b ∷ w ≡ mark_text s → ((b == 47) && cond d false true) ≡ false → MarkMayOccur d s
+sign_may_occur true b w m.Slash e h = refl
+sign_may_occur false b w m.Slash e h = let same : b ≡ 47 = cc in let bad : true ≡ false = rw same at h in absurd cc
+sign_may_occur true b w m.SlashAssign e h = refl
+sign_may_occur false b w m.SlashAssign e h = let same : b ≡ 47 = cc in let bad : true ≡ false = rw same at h in absurd cc
+sign_may_occur d b w _ e h = tt
 
 double_text : (b c : ℕ) (s : Mark) → double b c ≡ Some s → b ∷ c ∷ [] ≡ mark_text s
 unfolding double
@@ -390,7 +390,7 @@ sign_sound d b z t rest n h e = go (is_redirection b (slice_index z 0)) refl e
           front = refl;
           writes = text;
           ends = rw (← text, n) tt;
-          stands = sign_stands d b (c ∷ []) s text h;
+          may_occur = sign_may_occur d b (c ∷ []) s text h;
         })
 
     one : (s : Mark) → is_redirection b (slice_index z 0) ≡ false → double b (slice_index z 0) ≡ None → single b ≡ Some s → finds (mark s) z ≡ finds t rest → Begins d (b ∷ z) t rest
@@ -401,7 +401,7 @@ sign_sound d b z t rest n h e = go (is_redirection b (slice_index z 0)) refl e
           front = refl;
           writes = text;
           ends = rw (← text, n) (f, r);
-          stands = sign_stands d b [] s text h;
+          may_occur = sign_may_occur d b [] s text h;
         })
 
     longest : is_redirection b (slice_index z 0) ≡ false → (o : Option Mark) → double b (slice_index z 0) ≡ o → (u : Option Mark) → single b ≡ u → sign_by (b ∷ z) o u ≡ finds t rest → Begins d (b ∷ z) t rest

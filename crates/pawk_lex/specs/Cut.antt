@@ -106,15 +106,15 @@ Ends (builtin f) next = is_name_byte next ≡ false
 Ends (mark s) next = MarkEnds (mark_text s) next
 
 -- a slash divides, or it opens an expression
-abbrev pub MarkStands : Bool → Mark → Type 0
-MarkStands divides m.Slash = divides ≡ true
-MarkStands divides m.SlashAssign = divides ≡ true
-MarkStands divides _ = Unit {0}
+abbrev pub MarkMayOccur : Bool → Mark → Type 0
+MarkMayOccur divides m.Slash = divides ≡ true
+MarkMayOccur divides m.SlashAssign = divides ≡ true
+MarkMayOccur divides _ = Unit {0}
 
-abbrev pub Stands : Bool → Tok → Type 0
-Stands divides (ere bytes) = divides ≡ false
-Stands divides (mark s) = MarkStands divides s
-Stands divides _ = Unit {0}
+abbrev pub MayOccur : Bool → Tok → Type 0
+MayOccur divides (ere bytes) = divides ≡ false
+MayOccur divides (mark s) = MarkMayOccur divides s
+MayOccur divides _ = Unit {0}
 
 -- the text begins with the token, and `rest` follows
 pub record Begins (divides : Bool) (z : Text) (t : Tok) (rest : Text) : Type 0 where
@@ -122,7 +122,7 @@ pub record Begins (divides : Bool) (z : Text) (t : Tok) (rest : Text) : Type 0 w
   pub front : z ≡ lexeme ++ rest
   pub writes : Writes lexeme t
   pub ends : Ends t (slice_index rest 0)
-  pub stands : Stands divides t
+  pub may_occur : MayOccur divides t
 
 -- after what separates tokens the text begins with the token, and `rest` follows
 pub record Takes (divides : Bool) (z : Text) (t : Tok) (rest : Text) : Type 0 where

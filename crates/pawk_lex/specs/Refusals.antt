@@ -1,7 +1,6 @@
 -- The numbers of refusals.
-use Rattle.std.specs.Prelude.{ℕ, Bool, true, ◌==◌, List, [], ◌∷◌, ◌++◌, Option, Some, None, codes}
+use Rattle.std.specs.Prelude.{ℕ, Bool, true, ◌==◌, List, [], ◌∷◌, Option, Some, None}
 use Rattle.std.specs.List.{list_any}
-use Rattle.std.specs.Fmt.{decimal}
 use Rattle.pawk_lex.specs.declared.refusal.Cause.{Cause}
 use Rattle.pawk_lex.specs.declared.refusal.Cause.TheVariants as cause
 use Rattle.pawk_lex.specs.declared.refusal.SyntaxRefusal.{SyntaxRefusal}
@@ -42,8 +41,3 @@ is_lexer_answer (Some e) = is_lexer_refusal e
 abbrev pub refusal_place : SyntaxRefusal → Option ℕ
 refusal_place (At why place) = Some place
 refusal_place Memory = None
-
--- how the refusal is reported to users
-abbrev pub refusal_text : SyntaxRefusal → List ℕ
-refusal_text (At why place) = decimal (cause_number why) ++ (codes " at byte " ++ decimal place)
-refusal_text Memory = decimal 12

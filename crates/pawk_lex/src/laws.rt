@@ -5,7 +5,7 @@ ghost use Rattle.std.specs.Prelude.{slice_index};
 ghost use Rattle.pawk_lex.specs.Bytes.{Text};
 ghost use Rattle.pawk_lex.specs.Tokens.{Tok, divides_after};
 ghost use Rattle.pawk_lex.specs.Next.{next, finds};
-ghost use Rattle.pawk_lex.specs.Cut.{Gap, Ends, Stands, Writes, Takes, CutFrom, Cut};
+ghost use Rattle.pawk_lex.specs.Cut.{Gap, Ends, MayOccur, Writes, Takes, CutFrom, Cut};
 ghost use Rattle.pawk_lex.specs.Canonical.{AreBytes, IsWritable, AreWritable, MayEnd};
 ghost use Rattle.pawk_lex.specs.Canonical.{is_separator, token_text};
 
@@ -30,7 +30,7 @@ pub fn spacing_is_free()
     ensures before { (divides : Bool) (gap text : Text) (ts : List Tok) →
         Gap gap text → CutFrom divides text ts → CutFrom divides gap ts }
     ensures after { (divides : Bool) (x y text : Text) (b : ℕ) (t : Tok) (ts : List Tok) →
-        Writes x t → MayEnd t → Stands divides t →
+        Writes x t → MayEnd t → MayOccur divides t →
         is_separator b ≡ true → Gap (b ∷ y) text → CutFrom (divides_after t) text ts →
         CutFrom divides (x ++ b ∷ y) (t ∷ ts) }
 {}
@@ -40,7 +40,7 @@ pub fn spacing_is_free()
 pub fn token_text_is_read_again()
     ensures writes { (t : Tok) → IsWritable t → Writes (token_text t) t }
     ensures cut { (divides : Bool) (rest : Text) (t : Tok) (ts : List Tok) →
-        IsWritable t → Ends t (slice_index rest 0) → Stands divides t →
+        IsWritable t → Ends t (slice_index rest 0) → MayOccur divides t →
         CutFrom (divides_after t) rest ts → CutFrom divides (token_text t ++ rest) (t ∷ ts) }
 {}
 

@@ -3,7 +3,7 @@
 ghost use Rattle.std.specs.Prelude.{◌≡◌};
 ghost use Rattle.pawk_lex.specs.declared.refusal.SyntaxRefusal.TheVariants as refusal;
 
-use std::alloc::{AllocError, AllocFailed, Global};
+use std::alloc::{AllocError, AllocFailed};
 use thiserror::Error;
 
 /// What is at fault in a program text. The lexer reports `Token`, `InputOutput`, `Numeral` and
@@ -80,8 +80,7 @@ impl Cause {
 }
 
 impl SyntaxRefusal {
-    ghost use Rattle.std.specs.Prelude.{IfOk, string_bytes};
-    ghost use Rattle.pawk_lex.specs.Refusals.{refusal_number, refusal_place, refusal_text};
+    ghost use Rattle.pawk_lex.specs.Refusals.{refusal_number, refusal_place};
 
     /// The number by which the refusal is reported to users: the cause's, or 12 for memory.
     pub fn number(self) -> u8
@@ -100,17 +99,6 @@ impl SyntaxRefusal {
         match self {
             SyntaxRefusal::At { place, .. } => Some(place),
             SyntaxRefusal::Memory => None,
-        }
-    }
-
-    /// The refusal in numbers: `3 at byte 12`, or `12` alone for memory.
-    pub fn in_numbers(self, alloc: Global) -> Result<String, AllocError>
-        ensures { IfOk result (λ text. string_bytes text ≡ refusal_text self) }
-    {
-        let number = self.number();
-        match self.place() {
-            Some(place) => format!(in alloc; "{number} at byte {place}"),
-            None => format!(in alloc; "{number}"),
         }
     }
 }

@@ -126,8 +126,8 @@ module _ {X : Type 0} (i : ℕ) (xs rest : List X) (x : X) (e : drop i xs ≡ x 
   pub left_at : (d : X) → get_or xs i d ≡ x
   left_at d = let split = sym (drop_more xs i d left_within) ∙ e in cc
 
-  pub left_behind : drop (i + 1) xs ≡ rest
-  left_behind = let split = sym (drop_more xs i x left_within) ∙ e in cc
+  pub left_after : drop (i + 1) xs ≡ rest
+  left_after = let split = sym (drop_more xs i x left_within) ∙ e in cc
 
 pub same_globals : (g h : Globals) → g.scalars ≡ h.scalars → g.arrays ≡ h.arrays → g ≡ h
 same_globals g h e f = λ i. record { scalars = e i; arrays = f i }

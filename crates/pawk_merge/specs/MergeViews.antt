@@ -3,25 +3,19 @@ use Rattle.std.specs.Prelude.{◌≡◌, ℕ, Bool, true, false, List, Option, S
 use Rattle.pawk_store.specs.Globals.{Globals}
 use Rattle.pawk_store.specs.StateViews.{state_of}
 use Rattle.pawk_semantics.specs.Outputs.{in_a_row}
-use Rattle.pawk_semantics.specs.Records.{Left, through, exit, fault, clash, End}
-use Rattle.pawk_merge.specs.Merges.{Chunk, Stop, at_cell, at_fault, at_clash, behind}
+use Rattle.pawk_semantics.specs.Records.{Left, End}
+use Rattle.pawk_semantics.specs.LeftViews.{left_view}
+use Rattle.pawk_merge.specs.Merges.{Chunk, Stop, at_cell, at_fault, at_clash, after_leaving}
 use Rattle.pawk_merge.specs.Tables.{all_take}
 use Rattle.pawk_frozen.specs.Marks.{Table}
-use Rattle.pawk_merge.specs.declared.parts.Leaving.{Leaving}
-use Rattle.pawk_merge.specs.declared.parts.Leaving.TheVariants as leaving
-use Rattle.pawk_merge.specs.declared.parts.Part.{Part}
+use Rattle.pawk_merge.specs.declared.chunk_result.ChunkResult.{ChunkResult}
 use Rattle.pawk_merge.specs.declared.merging.Merged.{Merged}
 use Rattle.pawk_merge.specs.declared.stop.JoinStop.{JoinStop}
 use Rattle.pawk_merge.specs.declared.stop.JoinStop.TheVariants as stop
 
-abbrev pub leaving_view : Leaving → Left
-leaving_view leaving.Through = through
-leaving_view (leaving.Exit n) = exit n
-leaving_view (leaving.Fault f) = fault f
-leaving_view leaving.Clash = clash
-
-abbrev pub part_view : Part → Chunk
-part_view p = record { table = p.table; state = state_of p.state; output = p.output.items; left = leaving_view p.leaving }
+-- the table, the record state, the output and the way of leaving
+abbrev pub chunk_of : ChunkResult → Chunk
+chunk_of r = record { table = r.table; state = state_of r.state; output = r.output.items; left = left_view r.left }
 
 -- an end, with globals that are beside it
 abbrev pub end_view : Globals → Merged → End Globals
@@ -29,7 +23,7 @@ end_view globals m = record {
   world = globals;
   state = state_of m.state;
   output = in_a_row m.outputs.items;
-  left = leaving_view m.leaving;
+  left = left_view m.left;
 }
 
 -- the stop, or nothing where memory was refused
@@ -46,13 +40,13 @@ Merges meant globals (Err e) = (s : Stop) → stop_of e ≡ Some s → meant ≡
 
 -- how a merge goes on after a chunk that was left so: yes, no, or a stop
 abbrev pub Continues : Left → Result Bool JoinStop → Type 0
-Continues left (Ok true) = (go : End Globals → Result (End Globals) Stop) (e : End Globals) → behind left go e ≡ go e
-Continues left (Ok false) = (go : End Globals → Result (End Globals) Stop) (e : End Globals) → behind left go e ≡ Ok e
+Continues left (Ok true) = (go : End Globals → Result (End Globals) Stop) (e : End Globals) → after_leaving left go e ≡ go e
+Continues left (Ok false) = (go : End Globals → Result (End Globals) Stop) (e : End Globals) → after_leaving left go e ≡ Ok e
 Continues left (Err s) =
-    (t : Stop) → stop_of s ≡ Some t → (go : End Globals → Result (End Globals) Stop) (e : End Globals) → behind left go e ≡ Err t
+    (t : Stop) → stop_of s ≡ Some t → (go : End Globals → Result (End Globals) Stop) (e : End Globals) → after_leaving left go e ≡ Err t
 
 -- the same of a chunk with this table, over these globals
 abbrev pub Goes : Table → Left → Globals → Result Bool JoinStop → Type 0
 Goes table left g (Ok b) = (all_take table g ≡ true) × Continues left (Ok b)
 Goes table left g (Err s) = (t : Stop) → stop_of s ≡ Some t → (go : End Globals → Result (End Globals) Stop) (e : End Globals) →
-    (if all_take table g then behind left go e else Err at_cell) ≡ Err t
+    (if all_take table g then after_leaving left go e else Err at_cell) ≡ Err t

@@ -34,15 +34,15 @@ abbrev pub before_chunks : Globals → RecordState → End Globals
 before_chunks globals state = record { world = globals; state = state; output = []; left = through }
 
 -- how a merge goes on after a chunk that was left so: the one that ended in `exit` is the last
-abbrev pub behind : Left → (End Globals → Result (End Globals) Stop) → End Globals → Result (End Globals) Stop
-behind through go e = go e
-behind next_file go e = Err at_clash
-behind (exit n) go e = Ok e
-behind (fault f) go e = Err at_fault
-behind clash go e = Err at_clash
+abbrev pub after_leaving : Left → (End Globals → Result (End Globals) Stop) → End Globals → Result (End Globals) Stop
+after_leaving through go e = go e
+after_leaving next_file go e = Err at_clash
+after_leaving (exit n) go e = Ok e
+after_leaving (fault f) go e = Err at_fault
+after_leaving clash go e = Err at_clash
 
 -- chunks merged in their order after what came before, or the stop that is met first
 abbrev pub merge : List Chunk → End Globals → Result (End Globals) Stop
 merge [] e = Ok e
 merge (c ∷ cs) e =
-    if all_take c.table e.world then behind c.left (λ x. merge cs x) (with_chunk c e) else Err at_cell
+    if all_take c.table e.world then after_leaving c.left (λ x. merge cs x) (with_chunk c e) else Err at_cell

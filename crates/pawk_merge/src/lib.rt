@@ -5,13 +5,13 @@
 
 mod array;
 mod cell;
+mod chunk_result;
 pub mod laws;
 mod merging;
-mod parts;
 mod stop;
 mod table;
 
+pub use chunk_result::ChunkResult;
 pub use merging::{Merged, merge};
-pub use parts::{Leaving, Part};
 pub use stop::JoinStop;
 pub use table::join_table;

@@ -7,7 +7,7 @@ use Rattle.pawk_store.specs.RecordStates.{RecordState}
 use Rattle.pawk_admit.specs.declared.role.Role.{Role}
 use Rattle.pawk_admit.specs.declared.role.Role.TheVariants.{Fixed, Adder, Setter, Reader}
 use Rattle.pawk_semantics.specs.Records.{Left, through}
-use Rattle.pawk_semantics.specs.Steady.{IsSteady, state_behind_records, AreSameButRecord}
+use Rattle.pawk_semantics.specs.Steady.{IsSteady, state_after_records, AreSameButRecord}
 use Rattle.pawk_commute.specs.Settings.{Setting, PermitsFor, role_of_cell, Extends, Agrees, entry_at, MayBegin}
 use Rattle.pawk_merge_law.specs.Phases.{Phase, MayRun}
 
@@ -53,7 +53,7 @@ abbrev pub state_at : Phase → ℕ → RecordState
 state_at p nr = record p.state { nr = nr }
 
 -- after records that were left through, it is that with NR moved on but for the record
-pub state_behind : (p : Phase) (nr : ℕ) (items read : List Item) (left : Left) (now : RecordState) → left ≡ through → items ≡ read → now ≡ state_behind_records (length read) left (state_at p nr) now → AreSameButRecord (state_at p (nr + length items)) now
-state_behind p nr items read left now on all h =
-    h ∙ ap (λ x. state_behind_records (length read) x (state_at p nr) now) on
-    ∙ ap (λ (l : List Item). state_behind_records (length l) through (state_at p nr) now) (sym all)
+pub state_after_items : (p : Phase) (nr : ℕ) (items read : List Item) (left : Left) (now : RecordState) → left ≡ through → items ≡ read → now ≡ state_after_records (length read) left (state_at p nr) now → AreSameButRecord (state_at p (nr + length items)) now
+state_after_items p nr items read left now on all h =
+    h ∙ ap (λ x. state_after_records (length read) x (state_at p nr) now) on
+    ∙ ap (λ (l : List Item). state_after_records (length l) through (state_at p nr) now) (sym all)

@@ -23,11 +23,11 @@ use Rattle.pawk_commute.specs.Merging.{IsLeftWell, MergeTells}
 use Rattle.pawk_commute.proofs.OrderLemmas.{store_final}
 use Rattle.pawk_merge.specs.JoinLaws.{OneJoinLaw, TakesLaw}
 use Rattle.pawk_merge.specs.Tables.{all_take, join_table}
-use Rattle.pawk_merge.specs.Merges.{Chunk, Stop, at_cell, behind, merge}
+use Rattle.pawk_merge.specs.Merges.{Chunk, Stop, at_cell, after_leaving, merge}
 use Rattle.pawk_merge_law.specs.Phases.{Phase, MayRun, in_order, traced_opening, in_order_traced, IsFault, CreatesElement, FaultsOrCreates}
 use Rattle.pawk_merge_law.specs.ChunkedRuns.{chunk_end, leavings, Ran, HasRecord, all_of}
 use Rattle.pawk_merge_law.proofs.JoinLemmas.{globals_joined, table_taken, cells_pass}
-use Rattle.pawk_merge_law.proofs.OpeningLemmas.{setting, begins_with, steady, state_at, state_behind}
+use Rattle.pawk_merge_law.proofs.OpeningLemmas.{setting, begins_with, steady, state_at, state_after_items}
 
 -- the laws that the induction uses
 pub record Laws (p : Phase) : Type 0 where
@@ -64,7 +64,7 @@ not_bad roles w stays lawful bad = ⊎_elim stays (no_creation roles w.world.tra
 
 -- how a merge goes on with a chunk that was left so, where each cell takes what was noted or not
 abbrev merge_on : Bool → Left → List Chunk → End Globals → Result (End Globals) Stop
-merge_on b left cs f = if b then behind left (λ x. merge cs x) f else Err at_cell
+merge_on b left cs f = if b then after_leaving left (λ x. merge cs x) f else Err at_cell
 
 single : (e : Event) → Contains (e ∷ []) e
 single e = (zero, omega (arith), refl)
@@ -124,7 +124,7 @@ module _ (p : Phase) (may : MayRun p) (law : Laws p) where
   stops w h true clash cs f never = h
 
   -- where nothing parted them, the merge goes on as the records do
-  goes : (x : End Traced) (rest : List Item) (cs : List Chunk) (left : Left) → x.left ≡ left → (left ≡ clash → ⊥) → LeftBy StaysInFile left → AreLawful p.roles x.world.trace → (x.left ≡ through → Meets p.roles (run x rest) (merge cs (plain x))) → Meets p.roles (onward (λ e. run e rest) left x) (behind left (λ f. merge cs f) (plain x))
+  goes : (x : End Traced) (rest : List Item) (cs : List Chunk) (left : Left) → x.left ≡ left → (left ≡ clash → ⊥) → LeftBy StaysInFile left → AreLawful p.roles x.world.trace → (x.left ≡ through → Meets p.roles (run x rest) (merge cs (plain x))) → Meets p.roles (onward (λ e. run e rest) left x) (after_leaving left (λ f. merge cs f) (plain x))
   goes x rest cs through on clean stay lawful next = next on
   goes x rest cs next_file on clean stay lawful next = absurd stay
   goes x rest cs (exit n) on clean stay lawful next = (refl, not_bad p.roles x (subst IsFault on) lawful)
@@ -153,7 +153,7 @@ module _ (p : Phase) (may : MayRun p) (law : Laws p) where
     chunk_meets rest cs next (no_event same clean) =
         let w = onward (λ e. run e rest) x.left x in
         subst (λ b. Meets p.roles w (merge_on b y.left cs joined)) (sym (table_taken (setting p g out) begin x.world y.world same.worlds law.takes_law))
-        (subst (λ (z : End Globals). Meets p.roles w (behind z.left (λ f. merge cs f) z)) (same_joined same)
+        (subst (λ (z : End Globals). Meets p.roles w (after_leaving z.left (λ f. merge cs f) z)) (same_joined same)
         (goes x rest cs x.left refl (λ e. clean (sym same.lefts ∙ e)) kept.in_file same.worlds.lawful (next same)))
     chunk_meets rest cs next (amount_fault k) =
         stops (onward (λ e. run e rest) x.left x)
@@ -200,7 +200,7 @@ module _ (p : Phase) (may : MayRun p) (law : Laws p) where
       let k = kept nr g out begin i is in
       let next = chunks_meet iss cs (nr + length (i ∷ is)) a.world.globals a.state a.output
       (begins_with p g a.world.globals out a.output (law.again (setting p g out) a.world b.world begin alike.worlds))
-      (state_behind p nr (i ∷ is) k.read a.left a.state on (k.all_read on) k.state)
+      (state_after_items p nr (i ∷ is) k.read a.left a.state on (k.all_read on) k.state)
       (rest_have (i ∷ is) iss each)
       (ran.1 (ap (λ z. z.left) told ∙ sym alike.lefts ∙ on)) in
       subst (λ w. Meets p.roles w (merge cs (plain a))) (sym (resumed a rest on))

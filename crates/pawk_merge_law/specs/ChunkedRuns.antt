@@ -2,7 +2,7 @@
 use Rattle.std.specs.Prelude.{◌≡◌, ℕ, ◌+◌, List, [], ◌∷◌, length, flat_map, All, None, MatchResult}
 use Rattle.pawk_input.specs.Input.{Item}
 use Rattle.pawk_store.specs.RecordStates.{RecordState}
-use Rattle.pawk_frozen.specs.Frozens.{Frozen, begun, calls}
+use Rattle.pawk_frozen.specs.Frozens.{Frozen, blank_world, calls}
 use Rattle.pawk_semantics.specs.Records.{through, End}
 use Rattle.pawk_semantics.specs.Runs.{records_from}
 use Rattle.pawk_semantics.specs.Steady.{AreSameButRecord}
@@ -14,7 +14,7 @@ use Rattle.pawk_merge_law.specs.Phases.{Phase, MayRun, opening, in_order, Faults
 abbrev pub chunk_end : Phase → RecordState → List Item → End Frozen
 chunk_end p state items =
     records_from calls p.eres p.code p.budget None
-    (record { world = begun p.globals p.roles; state = state; output = []; left = through })
+    (record { world = blank_world p.globals p.roles; state = state; output = []; left = through })
     items
 
 -- the table of what a chunk noted, and its record state, output and way of leaving

@@ -6,10 +6,10 @@ use Rattle.pawk_input.specs.declared.cutting.Chunk.{Chunk}
 use Rattle.pawk_store.specs.Globals.{Globals}
 use Rattle.pawk_semantics.specs.Records.{End}
 use Rattle.pawk_merge.specs.Merges.{before_chunks, merge}
-use Rattle.pawk_chunks.specs.declared.chunk.ChunkResult.{ChunkResult}
+use Rattle.pawk_merge.specs.MergeViews.{chunk_of}
+use Rattle.pawk_merge.specs.declared.chunk_result.ChunkResult.{ChunkResult}
 use Rattle.pawk_chunks.specs.Chunks.{Opening, chunk_end, AreResults}
 use Rattle.pawk_merge_law.specs.Phases.{Phase, MayRun, in_order, FaultsOrCreates}
-use Rattle.pawk_merge_law.specs.Results.{chunk_of}
 
 -- the records after BEGIN, which wrote this
 abbrev pub phase_of : Opening → List ℕ → Phase
@@ -24,8 +24,8 @@ phase_of o written = record {
 }
 
 -- an end with this in front of its output
-abbrev pub behind_output : List ℕ → End Globals → End Globals
-behind_output written e = record e { output = written ++ e.output }
+abbrev pub after_output : List ℕ → End Globals → End Globals
+after_output written e = record e { output = written ++ e.output }
 
 -- The results of the chunks of a plan are merged: then all records in order end with the same globals, record state and way of
 -- leaving, and their output is what BEGIN wrote and the outputs of the chunks after it. Or the merge stops; it does so
@@ -37,6 +37,6 @@ ResultsLaw =
     (results : List ChunkResult) → AreResults (chunk_end o rs files) plan results →
     MatchResult (merge (map chunk_of results) (before_chunks o.globals o.state))
     (λ e.
-    (in_order (phase_of o written) (items rs files) ≡ behind_output written e)
+    (in_order (phase_of o written) (items rs files) ≡ after_output written e)
     × ¬ FaultsOrCreates (phase_of o written) (items rs files))
     (λ stop. FaultsOrCreates (phase_of o written) (items rs files))

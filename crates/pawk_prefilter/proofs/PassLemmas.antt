@@ -14,7 +14,7 @@ use Rattle.pawk_code.specs.Programs.{Code}
 use Rattle.pawk_input.specs.Input.{Item}
 use Rattle.pawk_semantics.specs.Parts.{then_do}
 use Rattle.pawk_semantics.specs.Records.{through, is_inside, End, end_of, opening_moment, run_part, after_read, one_record, rules_from}
-use Rattle.pawk_semantics.specs.Runs.{behind, records_from}
+use Rattle.pawk_semantics.specs.Runs.{after_leaving, records_from}
 use Rattle.pawk_prefilter.specs.Needs.{IsIdleRule, any_resets, reset_if, past, PassLaw}
 use Rattle.pawk_prefilter.proofs.IdleLemmas.{same_ranges, rules_idle}
 
@@ -49,11 +49,11 @@ some_more n k = omega arith
 
 module _ {S : Type 0} where
   -- the end after an item with these fields for which no rule is
-  abbrev behind_item : Bool → List Val → Item → End S → End S
-  behind_item reset fields i e =
+  abbrev end_after_item : Bool → List Val → Item → End S → End S
+  end_after_item reset fields i e =
       record { world = e.world; state = reset_if reset (with_fields fields i e.state); output = e.output; left = through }
 
-  same_outside : (reset : Bool) (fields : List Val) (i : Item) (e : End S) → ((n : ℕ) → is_inside n e.state ≡ false) → (n : ℕ) → is_inside n (behind_item reset fields i e).state ≡ false
+  same_outside : (reset : Bool) (fields : List Val) (i : Item) (e : End S) → ((n : ℕ) → is_inside n e.state ≡ false) → (n : ℕ) → is_inside n (end_after_item reset fields i e).state ≡ false
   same_outside reset fields i e outside = same_ranges reset (with_fields fields i e.state) outside
 
 -- ---- a list of records
@@ -63,7 +63,7 @@ module _ {S : Type 0} (calls : Calls S) (code : Code) (budget : ℕ) (words : Li
   goes_on e is' = records_from calls code.expressions code budget None e is'
 
   -- a record for which no rule is
-  one_passed : (i : Item) (e : End S) (fields : List Val) → read (text_of (calls.look fs_slot e.world)) (is_paragraph e.state) i.bytes ≡ (record { text = i.bytes; fields = fields }, None) → ((n : ℕ) → is_inside n e.state ≡ false) → HoldsNone i.bytes words → run_part (one_record calls code.expressions code.functions code.rules i) budget e.world e.state e.output ≡ behind_item (any_resets code.rules) fields i e
+  one_passed : (i : Item) (e : End S) (fields : List Val) → read (text_of (calls.look fs_slot e.world)) (is_paragraph e.state) i.bytes ≡ (record { text = i.bytes; fields = fields }, None) → ((n : ℕ) → is_inside n e.state ≡ false) → HoldsNone i.bytes words → run_part (one_record calls code.expressions code.functions code.rules i) budget e.world e.state e.output ≡ end_after_item (any_resets code.rules) fields i e
   one_passed i e fields is outside none =
       let m = opening_moment budget e.world e.state e.output in
       let n = opening_moment budget e.world (with_fields fields i e.state) e.output in
@@ -71,7 +71,7 @@ module _ {S : Type 0} (calls : Calls S) (code : Code) (budget : ℕ) (words : Li
       ∙ ap end_of (rules_idle calls code.expressions words code.functions 0 code.rules n idle none outside)
 
   -- what the next record sets again does not count
-  after_item : (reset : Bool) (fields : List Val) (i : Item) (n : ℕ) (e : End S) (j : Item) (js : List Item) → goes_on (past reset n (behind_item reset fields i e)) (j ∷ js) ≡ goes_on (past reset (suc n) e) (j ∷ js)
+  after_item : (reset : Bool) (fields : List Val) (i : Item) (n : ℕ) (e : End S) (j : Item) (js : List Item) → goes_on (past reset n (end_after_item reset fields i e)) (j ∷ js) ≡ goes_on (past reset (suc n) e) (j ∷ js)
   after_item true fields i zero e j js =
       ap (λ k. goes_on (record e { state = reset_if true (record e.state { nr = k }) }) (j ∷ js)) (one_more e.state.nr)
   after_item true fields i (suc n) e j js =
@@ -88,8 +88,8 @@ module _ {S : Type 0} (calls : Calls S) (code : Code) (budget : ℕ) (words : Li
       let r = one_byte (text_of (calls.look fs_slot e.world)) (is_paragraph e.state) i.bytes one in
       let here = All-head (λ (i : Item). HoldsNone i.bytes words) i is' none in
       let there = All-tail (λ (i : Item). HoldsNone i.bytes words) i is' none in
-      ap (λ (x : End S). behind (λ skip y. records_from calls code.expressions code budget skip y (is' ++ j ∷ js)) i.file x.left x) (one_passed i e r.0 r.1 outside here)
-      ∙ records_passed is' (behind_item reset r.0 i e) j js one (same_outside reset r.0 i e outside) there
+      ap (λ (x : End S). after_leaving (λ skip y. records_from calls code.expressions code budget skip y (is' ++ j ∷ js)) i.file x.left x) (one_passed i e r.0 r.1 outside here)
+      ∙ records_passed is' (end_after_item reset r.0 i e) j js one (same_outside reset r.0 i e outside) there
       ∙ after_item reset r.0 i (length is') e j js
 
 pub passes : {S : Type 0} (calls : Calls S) → PassLaw calls

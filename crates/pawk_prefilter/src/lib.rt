@@ -1,4 +1,6 @@
 //! What a record must hold for a rule to be for it, so that other records are passed over unread.
+//!
+//! `inline(always)` marks what every record passes through (counted by bench/).
 #![tactic(auto)]
 
 mod law;

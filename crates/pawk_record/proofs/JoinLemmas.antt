@@ -11,7 +11,7 @@ use Rattle.pawk_scalar.specs.Value.{Val, Uninit, Maybe}
 use Rattle.pawk_record.specs.declared.layout.Kind.{Kind}
 use Rattle.pawk_record.specs.declared.layout.Kind.TheVariants as kinds
 use Rattle.pawk_record.specs.declared.layout.Layout.{Layout}
-use Rattle.pawk_record.specs.Lines.{Adds, AreJoined, AreJoinedTo, IsBehind, IsJoined, IsLaidOut, MovesEnd, Replaces, before_at, bytes_in, exchanged, kind_of, moved, places_from, values, values_of}
+use Rattle.pawk_record.specs.Lines.{Adds, AreJoined, AreJoinedTo, IsAfter, IsJoined, IsLaidOut, MovesEnd, Replaces, before_at, bytes_in, exchanged, kind_of, moved, places_from, values, values_of}
 use Rattle.pawk_record.specs.Records.{joined, joined_from, with_value}
 use Rattle.pawk_record.proofs.LaidLemmas.{laid_values}
 
@@ -52,8 +52,8 @@ past (x ∷ rs) zero h = cc
 past (x ∷ rs) (suc i) h = let more = past rs i h in omega arith
 
 -- a part up to the end that moved
-pub moved_behind : (rs ms : List (Range ℕ)) (i from to : ℕ) → ms ≡ map (moved from to) (take (length rs - i) (drop i rs)) → take i rs ++ (ms ++ drop (length rs - i) (drop i rs)) ≡ take i rs ++ map (moved from to) (drop i rs)
-moved_behind rs ms i from to h =
+pub moved_after : (rs ms : List (Range ℕ)) (i from to : ℕ) → ms ≡ map (moved from to) (take (length rs - i) (drop i rs)) → take i rs ++ (ms ++ drop (length rs - i) (drop i rs)) ≡ take i rs ++ map (moved from to) (drop i rs)
+moved_after rs ms i from to h =
     let none : drop (length rs - i) (drop i rs) ≡ [] = past_all (drop i rs) (length rs - i) (omega (arith, length-drop i rs)) in
     ap (λ l. take i rs ++ (ms ++ l)) none ∙ ap (λ l. take i rs ++ l) (append-nil ms ∙ h ∙ ap (map (moved from to)) (take_rest rs i))
 
@@ -70,7 +70,7 @@ pub joined_start : (ofs line : List ℕ) (ranges : List (Range ℕ)) → AreJoin
 unfolding joined
 joined_start ofs line ranges = record { within = omega arith; text = λ h. h; places = λ h. h }
 
-pub joined_more : (ofs line : List ℕ) (ranges : List (Range ℕ)) (i place : ℕ) (r : Range ℕ) → slice_get ranges i ≡ Some r → IsBehind line place (before_at i ofs) r → AreJoinedTo ofs line ranges i place → AreJoinedTo ofs line ranges (i + 1) r.end
+pub joined_more : (ofs line : List ℕ) (ranges : List (Range ℕ)) (i place : ℕ) (r : Range ℕ) → slice_get ranges i ≡ Some r → IsAfter line place (before_at i ofs) r → AreJoinedTo ofs line ranges i place → AreJoinedTo ofs line ranges (i + 1) r.end
 unfolding values
 joined_more ofs line ranges i place r at b j = record {
   within = b.within;

@@ -11,8 +11,8 @@ use Rattle.pawk_record.specs.Lines.{Adds, IsLaidOut, IsLaidOutTo, before_at, kin
 use Rattle.pawk_record.specs.Records.{joined, joined_from}
 
 -- the range of a value's text after n bytes
-abbrev range_behind : ℕ → List ℕ → Val → Range ℕ
-range_behind at before v = record { start = at + length before; end = at + length before + length (text_of v) }
+abbrev range_after : ℕ → List ℕ → Val → Range ℕ
+range_after at before v = record { start = at + length before; end = at + length before + length (text_of v) }
 
 drop_get : (vs : List Val) (i : ℕ) (v : Val) → slice_get vs i ≡ Some v → drop i vs ≡ v ∷ drop (i + 1) vs
 drop_get [] i v h = cc
@@ -49,7 +49,7 @@ laid_more ofs vs i v old new at l a = record {
       ap (λ b. new.ranges.items ++ places_from (length new.text.items) b ofs rest) later
       ∙ ap (λ n. new.ranges.items ++ places_from n ofs ofs rest) long
       ∙ ap (λ s. s ++ places_from end ofs ofs rest) a.range
-      ∙ append_assoc old.ranges.items (range_behind (length old.text.items) before v ∷ []) (places_from end ofs ofs rest)
+      ∙ append_assoc old.ranges.items (range_after (length old.text.items) before v ∷ []) (places_from end ofs ofs rest)
       ∙ ap (λ us. old.ranges.items ++ places_from (length old.text.items) before ofs us) (sym cut)
       ∙ l.ranges;
   kinds =
@@ -112,13 +112,13 @@ middle front t rest n h =
     let size : n + length t - n ≡ length t = omega arith in
     ap (λ k. take k (drop n (front ++ (t ++ rest)))) size ∙ ap (take (length t)) (drop_at front (t ++ rest) n (sym h)) ∙ take-append_seam t rest
 
-values_behind : (vs : List Val) (front before ofs : List ℕ) (at : ℕ) → at ≡ length front → values (front ++ joined_from before ofs vs) (places_from at before ofs vs) (map kind_of vs) ≡ vs
+values_after : (vs : List Val) (front before ofs : List ℕ) (at : ℕ) → at ≡ length front → values (front ++ joined_from before ofs vs) (places_from at before ofs vs) (map kind_of vs) ≡ vs
 unfolding values
-values_behind [] front before ofs at h = refl
-values_behind (v ∷ vs) front before ofs at h =
+values_after [] front before ofs at h = refl
+values_after (v ∷ vs) front before ofs at h =
     ap (λ bytes. value_of (kind_of v) bytes ∷ values text later (map kind_of vs)) here
     ∙ ap (λ x. x ∷ values text later (map kind_of vs)) (same_value v)
-    ∙ ap (λ us. v ∷ us) (ap (λ s. values s later (map kind_of vs)) whole ∙ values_behind vs (front ++ (before ++ text_of v)) ofs ofs end long)
+    ∙ ap (λ us. v ∷ us) (ap (λ s. values s later (map kind_of vs)) whole ∙ values_after vs (front ++ (before ++ text_of v)) ofs ofs end long)
   where
     rest : List ℕ
     rest = joined_from ofs ofs vs
@@ -150,4 +150,4 @@ laid_values ofs vs layout l =
     ap (λ s. values s layout.ranges.items layout.kinds.items) l.text
     ∙ ap (λ rs. values (joined ofs vs) rs layout.kinds.items) l.ranges
     ∙ ap (λ ks. values (joined ofs vs) (places_from 0 [] ofs vs) ks) l.kinds
-    ∙ values_behind vs [] [] ofs 0 refl
+    ∙ values_after vs [] [] ofs 0 refl

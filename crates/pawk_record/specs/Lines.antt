@@ -78,7 +78,7 @@ pub record IsJoined (layout : Layout) : Type 0 where
   pub laid : IsLaidOut layout.ofs.items (values_of layout) layout
 
 -- a field is right after some bytes at a place
-pub record IsBehind (text : List ℕ) (place : ℕ) (before : List ℕ) (r : Range ℕ) : Type 0 where
+pub record IsAfter (text : List ℕ) (place : ℕ) (before : List ℕ) (r : Range ℕ) : Type 0 where
   pub start : r.start ≡ place + length before
   pub order : r.start ≤ r.end
   pub within : r.end ≤ length text

@@ -3,7 +3,7 @@ use Rattle.std.specs.Prelude.{◌≡◌, ℕ, Bool, List, [], ◌∷◌, Option,
 use Rattle.pawk_value.specs.Fault.{Fault}
 use Rattle.pawk_value.specs.Fault.TheVariants.{Fs, Ere}
 use Rattle.pawk_ere_syntax.specs.Tokens.{SpellsNone}
-use Rattle.pawk_ere.specs.Kept.{IsOfText}
+use Rattle.pawk_ere.specs.Caches.{IsOfText}
 use Rattle.pawk_fields.specs.FieldSeparator.{ranges_from}
 use Rattle.pawk_fields.specs.FieldsOf.{separator_of}
 use Rattle.pawk_fields.specs.FieldList.{fields_of}

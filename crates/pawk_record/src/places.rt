@@ -2,7 +2,7 @@
 
 ghost use Rattle.std.specs.Prelude.{◌≡◌, ◌<◌, ◌≤◌, true, length, map, slice_get, slice_range, Some, OnErr, OnOk};
 ghost use Rattle.pawk_fields.specs.FieldSeparator.{range_of};
-ghost use Rattle.pawk_record.specs.Lines.{AreJoined, IsBehind, MovesEnd, before_at, exchanged, moved};
+ghost use Rattle.pawk_record.specs.Lines.{AreJoined, IsAfter, MovesEnd, before_at, exchanged, moved};
 
 use std::alloc::AllocError;
 use std::mem;
@@ -28,8 +28,8 @@ pub(crate) fn before_at(ofs: &[u8], number: usize) -> &[u8]
 
 /// Whether a field is in a line right after some bytes at a place.
 #[inline]
-fn stands(text: &[u8], place: usize, before: &[u8], range: &Range<usize>) -> bool
-    ensures { result ≡ true → IsBehind text.now place before.now range.now }
+fn is_field_after(text: &[u8], place: usize, before: &[u8], range: &Range<usize>) -> bool
+    ensures { result ≡ true → IsAfter text.now place before.now range.now }
 {
     range.start <= range.end
         && range.end <= text.len()
@@ -43,7 +43,7 @@ pub(crate) fn are_joined(text: &[u8], ranges: &[Range<usize>], ofs: &[u8]) -> bo
 {
     let mut place = 0;
     for (number, range) in ranges.iter().enumerate() {
-        if !stands(text, place, before_at(ofs, number), range) {
+        if !is_field_after(text, place, before_at(ofs, number), range) {
             return false;
         }
         place = range.end;

@@ -136,13 +136,13 @@ module _ (rs : List ℕ) (rest : List (List ℕ)) (b : List ℕ) (later : List (
   pub begins_first : (p : ℕ) → p < length b → begins_at rs (joined rest) p ≡ begins_at rs b p
   begins_first p lt = ap (λ l. begins_at rs (joined l) p) is ∙ begins_in_front rs b (joined later) p lt
 
-  pub begins_behind : AreMended rs rest → (q : ℕ) → q < length (joined later) → begins_at rs (joined rest) (length b + q) ≡ begins_at rs (joined later) q
-  begins_behind h q lt = ap (λ l. begins_at rs (joined l) (length b + q)) is ∙ begins_in_back rs b (joined later) q (mended_both h).0 lt
+  pub begins_after : AreMended rs rest → (q : ℕ) → q < length (joined later) → begins_at rs (joined rest) (length b + q) ≡ begins_at rs (joined later) q
+  begins_after h q lt = ap (λ l. begins_at rs (joined l) (length b + q)) is ∙ begins_in_back rs b (joined later) q (mended_both h).0 lt
 
   pub begins_later : AreMended rs rest → (p : ℕ) → length b ≤ p → p < length (joined rest) → begins_at rs (joined rest) p ≡ begins_at rs (joined later) (p - length b)
   begins_later h p le lt =
       ap (begins_at rs (joined rest)) (let z : p ≡ length b + (p - length b) = omega arith in z)
-      ∙ begins_behind h (p - length b) (omega (arith, length_rest))
+      ∙ begins_after h (p - length b) (omega (arith, length_rest))
 
   pub count_both : AreMended rs rest → (i j : ℕ) → i ≤ j → j ≤ length (joined rest)
       → length (begins_within rs (joined rest) i j) ≡ length (begins_within rs b (min i (length b)) (min j (length b))) + length (begins_within rs (joined later) (i - length b) (j - length b))
@@ -158,7 +158,7 @@ module _ (rs : List ℕ) (rest : List (List ℕ)) (b : List ℕ) (later : List (
             let here : length (begins_within rs b (min i m) (min j m)) ≡ 0 = ap (λ k. length (places_where (begins_at rs b) (min i m) k)) none in
             let there : length (places_where f i (j - i)) ≡ length (places_where g (i - m) (j - m - (i - m))) =
             ap (λ k. length (places_where f i k)) n ∙ ap (λ k. length (places_where f k (j - m - (i - m)))) at
-            ∙ ap length (shifted f g m (i - m) (j - m - (i - m)) (λ k low lt. begins_behind h k (omega (arith, length_rest))))
+            ∙ ap length (shifted f g m (i - m) (j - m - (i - m)) (λ k low lt. begins_after h k (omega (arith, length_rest))))
             ∙ length-mapped m (places_where g (i - m) (j - m - (i - m))) in
             omega (arith, here, there))
         | inr low ↦ (
@@ -172,7 +172,7 @@ module _ (rs : List ℕ) (rest : List (List ℕ)) (b : List ℕ) (later : List (
             places_where-same f (begins_at rs b) i a (λ k from lt. begins_first k (omega (arith, low.1)))
             ∙ ap (λ k. places_where (begins_at rs b) k (min j m - k)) (sym first) in
             let there : length (places_where f (i + a) c) ≡ length (begins_within rs (joined later) (i - m) (j - m)) =
-            behind f g m (i + a) c (omega (arith, low.1)) (λ k lt. begins_behind h k (omega (arith, length_rest)))
+            behind f g m (i + a) c (omega (arith, low.1)) (λ k lt. begins_after h k (omega (arith, length_rest)))
             ∙ ap (λ k. length (places_where g 0 k)) (sym size) ∙ ap (λ k. length (places_where g k (j - m - k))) (sym zero_left) in
             ap (λ k. length (places_where f i k)) n ∙ ap length (places_where-append f i a c)
             ∙ length-append (places_where f i a) (places_where f (i + a) c)

@@ -36,8 +36,8 @@ module _ (size : ℕ) where
   pub one_more : (k : ℕ) → suc k * size ≡ size + k * size
   one_more k = let s : suc k * size ≡ k * size + size = suc-mul k size in omega arith
 
-  behind_first : {X : Type 0} (k : ℕ) (l : List X) → drop (suc k * size) l ≡ drop (k * size) (drop size l)
-  behind_first k l = ap (λ n. drop n l) (one_more k) ∙ sym (drop-drop (k * size) size l)
+  after_first : {X : Type 0} (k : ℕ) (l : List X) → drop (suc k * size) l ≡ drop (k * size) (drop size l)
+  after_first k l = ap (λ n. drop n l) (one_more k) ∙ sym (drop-drop (k * size) size l)
 
   -- the segments lie within the text
   pub segments_fit : (counts l : List ℕ) → CountsSegments size counts l → length counts * size ≤ length l
@@ -51,7 +51,7 @@ module _ (size : ℕ) where
       → CountsSegments size (counts ++ newlines (take size (drop (length counts * size) l)) ∷ []) l
   segment_more [] l h le = rw (ap (λ n. drop n l) nothing) ((rw (ap (λ n. drop n l) nothing) at le, refl, tt))
   segment_more (c ∷ counts) l h le =
-      let at = behind_first (length counts) l in
+      let at = after_first (length counts) l in
       let more = segment_more counts (drop size l) h.2 (rw at at le) in
       (h.0, h.1, rw at more)
 
@@ -65,10 +65,10 @@ module _ (size : ℕ) where
   )
 
   -- segments after others
-  pub segments_behind : (k : ℕ) (counts l : List ℕ) → CountsSegments size counts l → CountsSegments size (drop k counts) (drop (k * size) l)
-  segments_behind zero counts l h = rw (ap (λ n. drop n l) nothing) h
-  segments_behind (suc k) [] l h = tt
-  segments_behind (suc k) (c ∷ counts) l h = rw (behind_first k l) (segments_behind k counts (drop size l) h.2)
+  pub segments_after : (k : ℕ) (counts l : List ℕ) → CountsSegments size counts l → CountsSegments size (drop k counts) (drop (k * size) l)
+  segments_after zero counts l h = rw (ap (λ n. drop n l) nothing) h
+  segments_after (suc k) [] l h = tt
+  segments_after (suc k) (c ∷ counts) l h = rw (after_first k l) (segments_after k counts (drop size l) h.2)
 
   -- segments of the begin of a text
   pub segments_within : (k m : ℕ) (counts l : List ℕ) → CountsSegments size counts l → k * size ≤ m → CountsSegments size (take k counts) (take m l)

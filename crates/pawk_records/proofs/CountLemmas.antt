@@ -15,15 +15,15 @@ length_cond false x l = omega arith
 
 module _ (e : ℕ) (s : List ℕ) where
   -- after each separator a line begins
-  pub count_behind_bytes : (n i : ℕ) → i + n ≤ length s → length (places_where (is_after e s) (i + 1) n) ≡ count_by (is_byte e) (take n (drop i s))
-  count_behind_bytes zero i le = refl
-  count_behind_bytes (suc n) i le =
+  pub count_after_bytes : (n i : ℕ) → i + n ≤ length s → length (places_where (is_after e s) (i + 1) n) ≡ count_by (is_byte e) (take n (drop i s))
+  count_after_bytes zero i le = refl
+  count_after_bytes (suc n) i le =
       let here : drop i s ≡ get_or s i 0 ∷ drop (i + 1) s = drop_more s i 0 (omega arith) in
       let flag : is_after e s (i + 1) ≡ eqb (get_or s i 0) e = elim (eqb_tells (i + 1) 0) [
         | inl y ↦ absurd (omega (arith, y.1))
         | inr f ↦ rw f.0 (ap (λ k. eqb (get_or s k 0) e) (let z : i + 1 - 1 ≡ i = omega arith in z))
       ] in
-      let later = count_behind_bytes n (i + 1) (omega arith) in
+      let later = count_after_bytes n (i + 1) (omega arith) in
       let counts = sum_by-cons (λ y. cond (is_byte e y) 1 0) (get_or s i 0) (take n (drop (i + 1) s)) in
       let front = length_cond (is_after e s (i + 1)) (i + 1) (places_where (is_after e s) (i + 1 + 1) n) in
       front ∙ ap (λ v. cond v 1 0 + length (places_where (is_after e s) (i + 1 + 1) n)) flag
@@ -58,7 +58,7 @@ module _ (e : ℕ) (s : List ℕ) where
   count_from_start end some le =
       let n : end - 0 ≡ suc (end - 1) = omega arith in
       let whole : length (places_where (is_after e s) 0 (end - 0)) ≡ length (0 ∷ places_where (is_after e s) (0 + 1) (end - 1)) = ap (λ k. length (places_where (is_after e s) 0 k)) n in
-      omega (arith, whole, count_behind_bytes e s (end - 1) 0 (omega arith))
+      omega (arith, whole, count_after_bytes e s (end - 1) 0 (omega arith))
 
   pub count_from_later : (start end : ℕ) → 0 < start → start ≤ end → end ≤ length s
       → length (places_where (begins_at (e ∷ []) s) start (end - start)) ≡ count_by (is_byte e) (take (end - 1 - (start - 1)) (drop (start - 1) s))
@@ -67,4 +67,4 @@ module _ (e : ℕ) (s : List ℕ) where
       let n : end - start ≡ end - 1 - (start - 1) = omega arith in
       ap (λ k. length (places_where (is_after e s) start k)) n
       ∙ ap (λ k. length (places_where (is_after e s) k (end - 1 - (start - 1)))) (sym p)
-      ∙ count_behind_bytes e s (end - 1 - (start - 1)) (start - 1) (omega arith)
+      ∙ count_after_bytes e s (end - 1 - (start - 1)) (start - 1) (omega arith)

@@ -71,9 +71,9 @@ no_pair (suc n) (b ∷ s) long none =
     by_first false none later = omega (arith, later)
 
 -- a pair needs two bytes
-some_behind : (b : ℕ) (s : List ℕ) → 0 < pair_bits (b ∷ s) → 0 < length s
-some_behind b [] some = elim (eqb b newline) as (λ v. 0 < cond (v && false) 1 0 + 2 * 0 → 0 < 0) [ true ↦ (λ h. omega arith) | false ↦ (λ h. omega arith) ] some
-some_behind b (c ∷ s) some = omega arith
+some_after : (b : ℕ) (s : List ℕ) → 0 < pair_bits (b ∷ s) → 0 < length s
+some_after b [] some = elim (eqb b newline) as (λ v. 0 < cond (v && false) 1 0 + 2 * 0 → 0 < 0) [ true ↦ (λ h. omega arith) | false ↦ (λ h. omega arith) ] some
+some_after b (c ∷ s) some = omega arith
 
 -- where a pair is seen the paragraph ends at the first one
 first_pair : (k n : ℕ) (s : List ℕ) → n ≤ k → 0 < pair_bits (take n s) → count_trailing_zeros k (pair_bits (take n s)) ≡ paragraph_length s
@@ -82,7 +82,7 @@ first_pair k zero s le some = absurd (omega arith)
 first_pair zero (suc n) s le some = absurd (omega arith)
 first_pair (suc k) (suc n) [] le some = absurd (omega arith)
 first_pair (suc k) (suc n) (b ∷ s) le some =
-    let seen : begins (take n s) ≡ ends_line s = front n s (some_behind b (take n s) some) in
+    let seen : begins (take n s) ≡ ends_line s = front n s (some_after b (take n s) some) in
     rw seen (by_first (eqb b newline && ends_line s) (rw seen at some) (first_pair k n s (omega arith)))
   where
     by_first : (v : Bool) → 0 < cond v 1 0 + 2 * pair_bits (take n s) → (0 < pair_bits (take n s) → count_trailing_zeros k (pair_bits (take n s)) ≡ paragraph_length s)

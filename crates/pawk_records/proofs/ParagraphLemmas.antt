@@ -95,20 +95,20 @@ module _ (s : List ℕ) (from i : ℕ) where
   behind : drop (i + 1) (drop from s) ≡ drop (from + i + 1) s
   behind = drop-drop (i + 1) from s ∙ ap (λ k. drop k s) (let e : from + (i + 1) ≡ from + i + 1 = omega arith in e)
 
-  read_behind : get_or (drop (from + i + 1) s) 0 0 ≡ get_or s (from + i + 1) 0
-  read_behind = get_or-drop (from + i + 1) s 0 0 ∙ ap (λ k. get_or s k 0) (let e : from + i + 1 + 0 ≡ from + i + 1 = omega arith in e)
+  read_after : get_or (drop (from + i + 1) s) 0 0 ≡ get_or s (from + i + 1) 0
+  read_after = get_or-drop (from + i + 1) s 0 0 ∙ ap (λ k. get_or s k 0) (let e : from + i + 1 + 0 ≡ from + i + 1 = omega arith in e)
 
   pub ends_at_end : from + i + 1 ≡ length s → ends_line (drop (i + 1) (drop from s)) ≡ true
   ends_at_end e = ap ends_line (behind ∙ drop_all (from + i + 1) s (omega arith))
 
   pub ends_before_newline : get_or s (from + i + 1) 0 ≡ newline → ends_line (drop (i + 1) (drop from s)) ≡ true
-  ends_before_newline is = ap ends_line behind ∙ ends_at (drop (from + i + 1) s) (read_behind ∙ is)
+  ends_before_newline is = ap ends_line behind ∙ ends_at (drop (from + i + 1) s) (read_after ∙ is)
 
-  pub goes_behind : from + i + 1 < length s → get_or s (from + i + 1) 0 ≢ newline → ends_line (drop (i + 1) (drop from s)) ≡ false
-  goes_behind lt n = ap ends_line behind ∙ goes_at (drop (from + i + 1) s) (omega (arith, length-drop (from + i + 1) s)) (λ is. n (sym read_behind ∙ is))
+  pub goes_after : from + i + 1 < length s → get_or s (from + i + 1) 0 ≢ newline → ends_line (drop (i + 1) (drop from s)) ≡ false
+  goes_after lt n = ap ends_line behind ∙ goes_at (drop (from + i + 1) s) (omega (arith, length-drop (from + i + 1) s)) (λ is. n (sym read_after ∙ is))
 
-  pub length_behind : paragraph_length (drop (i + 1) (drop from s)) ≡ paragraph_length (drop (from + i + 1) s)
-  length_behind = ap paragraph_length behind
+  pub length_after : paragraph_length (drop (i + 1) (drop from s)) ≡ paragraph_length (drop (from + i + 1) s)
+  length_after = ap paragraph_length behind
 
 -- ---- how many there are
 
@@ -161,9 +161,9 @@ mutual
     | inr n ↦ rw n.0 (let later = count_inside s (at + 1) in omega (arith, length-onto_inside b s))
   ]
 
-  count_behind : (s : List ℕ) (at : ℕ) → length (paragraphs_from (not (ends_line s)) s) ≡ length (begins_along at true false s) + cond (ends_line s) 0 1
-  count_behind [] at = refl
-  count_behind (b ∷ s) at = elim (eqb_tells b newline) [
+  count_after : (s : List ℕ) (at : ℕ) → length (paragraphs_from (not (ends_line s)) s) ≡ length (begins_along at true false s) + cond (ends_line s) 0 1
+  count_after [] at = refl
+  count_after (b ∷ s) at = elim (eqb_tells b newline) [
     | inl y ↦ rw y.0 (rw y.0 (let later = count_outside s (at + 1) in omega arith))
     | inr n ↦ rw n.0 (rw n.0 (let later = count_inside s (at + 1) in omega (arith, length-onto_inside b s)))
   ]
@@ -174,7 +174,7 @@ mutual
     | inl y ↦ rw y.0 (let same = length-onto_inside b s in elim (ends_line s) as (λ v. length (paragraphs_from (not v) s) ≡ length (begins_along (at + 1) true false s) + cond v 0 1 → length (cond v ([] ∷ paragraphs s) (onto_first b (paragraphs_from true s))) ≡ length (begins_along (at + 1) true false s) + 1) [
       | true ↦ (λ later. omega arith)
       | false ↦ (λ later. omega arith)
-    ] (count_behind s (at + 1)))
+    ] (count_after s (at + 1)))
     | inr n ↦ rw n.0 (let later = count_inside s (at + 1) in omega (arith, length-onto_inside b s))
   ]
 

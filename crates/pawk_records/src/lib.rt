@@ -1,5 +1,8 @@
 //! The records of a file: how bytes are cut into them, where they begin, how many there are, and
 //! how they are found where the bytes lie in several blocks.
+//!
+//! `inline(always)` and `inline` mark what each record or each block of bytes passes through, `inline(never)` long walks
+//! and the ends of texts, so that what is hot stays small (counted by bench/).
 #![tactic(auto)]
 
 mod block;

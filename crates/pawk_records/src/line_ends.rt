@@ -12,13 +12,13 @@ use std::simd::prelude::*;
 const LANES: usize = 16;
 
 /// The bit after those of the lanes.
-const BEHIND_LANES: u64 = 65_536;
+const AFTER_LANES: u64 = 65_536;
 
 /// How many bytes two such looks take in.
 const PAIR: usize = 32;
 
 /// The bit after those of two looks.
-const BEHIND_PAIR: u64 = 4_294_967_296;
+const AFTER_PAIR: u64 = 4_294_967_296;
 
 /// How many bytes four looks take in: as many as there are bits.
 pub(crate) const BLOCK: usize = 64;
@@ -41,7 +41,7 @@ fn pair_ends(text: &[u8], place: usize, separator: u8) -> u64
 {
     let here = lane_ends(text, place, separator);
     let behind = lane_ends(text, place + LANES, separator);
-    here + behind * BEHIND_LANES
+    here + behind * AFTER_LANES
 }
 
 /// The ends of lines among the bytes of four looks from a place on.
@@ -52,7 +52,7 @@ pub(crate) fn block_ends(text: &[u8], place: usize, separator: u8) -> u64
 {
     let here = pair_ends(text, place, separator);
     let behind = pair_ends(text, place + PAIR, separator);
-    here + behind * BEHIND_PAIR
+    here + behind * AFTER_PAIR
 }
 
 /// The first line of a text and what follows it, if there is one. None ends within the first `from`

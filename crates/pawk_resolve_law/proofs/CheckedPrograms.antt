@@ -21,9 +21,9 @@ use Rattle.pawk_syntax.specs.Spells.{Spells}
 use Rattle.pawk_code.specs.Programs.{Code}
 use Rattle.pawk_resolve.specs.Scopes.{Globals}
 use Rattle.pawk_resolve.specs.ResolvedPrograms.{global_names, resolved_program}
-use Rattle.pawk_resolve_program.specs.Texts as slashed
+use Rattle.pawk_resolve_law.proofs.Slashed as slashed
 use Rattle.pawk_resolve_program.specs.Codes.{IsCodeOf}
-use Rattle.pawk_resolve_program.proofs.Between.{of_parts_are}
+use Rattle.pawk_resolve_law.proofs.Slashed.{of_parts_are}
 use Rattle.pawk_resolve_law.specs.Programs.{names_of, heads_of, outline, spelled_program, FitsProgram}
 use Rattle.pawk_resolve_law.proofs.Entries.{In, in_front, in_back}
 use Rattle.pawk_resolve_law.proofs.KnownItems.{item_proper}

@@ -16,7 +16,7 @@ use Rattle.pawk_syntax_check.specs.Mentions.{Mention, array, scalar, target, arg
 use Rattle.pawk_syntax_check.specs.Calls.{is_lvalue, is_name, fits_builtin, has_targets, takes}
 use Rattle.pawk_resolve.specs.Slots.{place}
 use Rattle.pawk_resolve.specs.Scopes.{Scope, is_array, special_of}
-use Rattle.pawk_resolve_program.specs.Texts.{of_tree, of_trees}
+use Rattle.pawk_resolve_law.proofs.Slashed.{of_tree, of_trees}
 use Rattle.pawk_resolve_law.specs.Proper.{IsExpression, IsFunction, IsScalar, IsArray, IsNamed, IsTarget, IsArrayName, Meets, IsPassed, IsPattern, IsRight, IsProper, AreProper, ArePassed, AreTaken}
 
 both_of : (a d : Bool) → (a && d) ≡ true → (a ≡ true) × (d ≡ true)
@@ -52,26 +52,26 @@ module _ (s : Scope) where
   expression_parts (x ∷ xs) ys h = let rest = expression_parts xs ys h.1 in ((h.0, rest.0), rest.1)
 
   -- a tree in a role, which may be an expression between slashes or not
-  abbrev pub Stands : Role → Bool → Tree → Type 0
-  Stands role may a = (value_unless may a ≡ a) × IsSound a × IsWritableTree a × AreKnown (mentions role a) × AreExpressions (of_tree a)
+  abbrev pub FitsRole : Role → Bool → Tree → Type 0
+  FitsRole role may a = (value_unless may a ≡ a) × IsSound a × IsWritableTree a × AreKnown (mentions role a) × AreExpressions (of_tree a)
 
   -- trees in a list, of which the first has this place
-  abbrev pub StandIn : Setting → Option Builtin → ℕ → Trees → Type 0
-  StandIn setting f place ts = AreSound f place ts × AreWritableTrees ts × AreKnown (inside_all setting place ts) × AreExpressions (of_trees ts)
+  abbrev pub FitRoles : Setting → Option Builtin → ℕ → Trees → Type 0
+  FitRoles setting f place ts = AreSound f place ts × AreWritableTrees ts × AreKnown (inside_all setting place ts) × AreExpressions (of_trees ts)
 
-  first : (setting : Setting) (f : Option Builtin) (place : ℕ) (a : Tree) (ts : Trees) → StandIn setting f place (more a ts) →
-      Stands (role_at setting place) (takes_ere_at f place) a
+  first : (setting : Setting) (f : Option Builtin) (place : ℕ) (a : Tree) (ts : Trees) → FitRoles setting f place (more a ts) →
+      FitsRole (role_at setting place) (takes_ere_at f place) a
   first setting f place a ts h =
       (h.0.0, h.0.1, h.1.0, (known_parts (mentions (role_at setting place) a) (inside_all setting (suc place) ts) h.2).0, (expression_parts (of_tree a) (of_trees ts) h.3).0)
 
-  rest : (setting : Setting) (f : Option Builtin) (place : ℕ) (a : Tree) (ts : Trees) → StandIn setting f place (more a ts) →
-      StandIn setting f (suc place) ts
+  rest : (setting : Setting) (f : Option Builtin) (place : ℕ) (a : Tree) (ts : Trees) → FitRoles setting f place (more a ts) →
+      FitRoles setting f (suc place) ts
   rest setting f place a ts h =
       (h.0.2, h.1.1, (known_parts (mentions (role_at setting place) a) (inside_all setting (suc place) ts) h.2).1, (expression_parts (of_tree a) (of_trees ts) h.3).1)
 
   -- what is to be shown of each tree
   abbrev Holds : Tree → Type 0
-  Holds a = Stands as_value false a → IsProper s a
+  Holds a = FitsRole as_value false a → IsProper s a
 
   abbrev HoldAll : Trees → Type 0
   HoldAll none = Unit {0}
@@ -79,36 +79,36 @@ module _ (s : Scope) where
 
   -- ---- a tree in a role
 
-  pattern_at : (a : Tree) → Stands as_value true a → Holds a → IsPattern s a (IsProper s a)
+  pattern_at : (a : Tree) → FitsRole as_value true a → Holds a → IsPattern s a (IsProper s a)
   pattern_at (ere x) h k = h.4.0
   pattern_at _ h k = k (refl, h.1, h.2, h.3, h.4)
 
-  right_at : (may : Bool) (a : Tree) → Stands as_value may a → Holds a → IsRight s may a (IsProper s a)
+  right_at : (may : Bool) (a : Tree) → FitsRole as_value may a → Holds a → IsRight s may a (IsProper s a)
   right_at true a h k = pattern_at a h k
   right_at false a h k = k h
 
-  target_at : (a : Tree) → IsLvalue a → Stands as_target false a → Holds a → IsTarget s a × IsProper s a
+  target_at : (a : Tree) → IsLvalue a → FitsRole as_target false a → Holds a → IsTarget s a × IsProper s a
   target_at (variable x) i h k = (h.3.0.1, k (h.0, h.1, h.2, (h.3.0.0, tt), h.4))
   target_at (element x ts) i h k = (tt, k h)
   target_at (unary single.Field a) i h k = (tt, k h)
   target_at _ i h k = absurd i
 
-  array_at : (a : Tree) → is_name a ≡ true → Stands as_array false a → IsArrayName s a
+  array_at : (a : Tree) → is_name a ≡ true → FitsRole as_array false a → IsArrayName s a
   array_at (variable x) i h = h.3.0
   array_at _ i h = let no : false ≡ true = i in cc
 
-  passed_at : (f : Text) (place : ℕ) (a : Tree) → Stands (as_argument f place) false a → Holds a → IsPassed s a (IsProper s a)
+  passed_at : (f : Text) (place : ℕ) (a : Tree) → FitsRole (as_argument f place) false a → Holds a → IsPassed s a (IsProper s a)
   passed_at f place (variable x) h k = h.3.0
   passed_at f place _ h k = k (h.0, h.1, h.2, h.3.1, h.4)
 
-  under_at : (op : Single) (a : Tree) → FitsSingle op a → Stands (role_under op) false a → Holds a → Meets s (role_under op) a × IsProper s a
+  under_at : (op : Single) (a : Tree) → FitsSingle op a → FitsRole (role_under op) false a → Holds a → Meets s (role_under op) a × IsProper s a
   under_at single.IncrementBefore a i h k = target_at a i h k
   under_at single.DecrementBefore a i h k = target_at a i h k
   under_at single.IncrementAfter a i h k = target_at a i h k
   under_at single.DecrementAfter a i h k = target_at a i h k
   under_at _ a i h k = (tt, k h)
 
-  left_at : (op : Double) (a : Tree) → FitsDouble op a → Stands (role_left op) false a → Holds a → Meets s (role_left op) a × IsProper s a
+  left_at : (op : Double) (a : Tree) → FitsDouble op a → FitsRole (role_left op) false a → Holds a → Meets s (role_left op) a × IsProper s a
   left_at double.Assign a i h k = target_at a i h k
   left_at double.AddAssign a i h k = target_at a i h k
   left_at double.SubtractAssign a i h k = target_at a i h k
@@ -120,16 +120,16 @@ module _ (s : Scope) where
 
   -- ---- lists
 
-  listed : (place : ℕ) (ts : Trees) → HoldAll ts → StandIn plain None place ts → AreProper s ts
+  listed : (place : ℕ) (ts : Trees) → HoldAll ts → FitRoles plain None place ts → AreProper s ts
   listed place none k h = tt
   listed place (more a ts) k h = (k.0 (first plain None place a ts h), listed (suc place) ts k.1 (rest plain None place a ts h))
 
-  passed : (f : Text) (place : ℕ) (ts : Trees) → HoldAll ts → StandIn (of_call f) None place ts → ArePassed s ts
+  passed : (f : Text) (place : ℕ) (ts : Trees) → HoldAll ts → FitRoles (of_call f) None place ts → ArePassed s ts
   passed f place none k h = tt
   passed f place (more a ts) k h =
       (passed_at f place a (first (of_call f) None place a ts h) k.0, passed f (suc place) ts k.1 (rest (of_call f) None place a ts h))
 
-  shown : (place : ℕ) (ts : Trees) → HoldAll ts → StandIn (of_builtin b.Sprintf) (Some b.Sprintf) place ts → AreProper s ts
+  shown : (place : ℕ) (ts : Trees) → HoldAll ts → FitRoles (of_builtin b.Sprintf) (Some b.Sprintf) place ts → AreProper s ts
   shown place none k h = tt
   shown place (more a ts) k h =
       let set = of_builtin b.Sprintf in
@@ -175,18 +175,18 @@ some_of (more a ts) h P k = k a ts
 module _ (s : Scope) where
   -- the arguments of a built-in function
   abbrev Given : Builtin → Trees → Type 0
-  Given f ts = HoldAll s ts × StandIn s (of_builtin f) (Some f) 0 ts × (has_targets f ts ≡ true)
+  Given f ts = HoldAll s ts × FitRoles s (of_builtin f) (Some f) 0 ts × (has_targets f ts ≡ true)
 
   abbrev Taken : Builtin → Trees → Type 0
   Taken f ts = Given f ts → AreTaken s f ts
 
-  at0 : (f : Builtin) (a : Tree) (ts : Trees) → Given f (more a ts) → Stands s (role_at (of_builtin f) 0) (takes_ere_at (Some f) 0) a
+  at0 : (f : Builtin) (a : Tree) (ts : Trees) → Given f (more a ts) → FitsRole s (role_at (of_builtin f) 0) (takes_ere_at (Some f) 0) a
   at0 f a ts h = first s (of_builtin f) (Some f) 0 a ts h.1
 
-  at1 : (f : Builtin) (a d : Tree) (ts : Trees) → Given f (more a (more d ts)) → Stands s (role_at (of_builtin f) 1) (takes_ere_at (Some f) 1) d
+  at1 : (f : Builtin) (a d : Tree) (ts : Trees) → Given f (more a (more d ts)) → FitsRole s (role_at (of_builtin f) 1) (takes_ere_at (Some f) 1) d
   at1 f a d ts h = first s (of_builtin f) (Some f) 1 d ts (rest s (of_builtin f) (Some f) 0 a (more d ts) h.1)
 
-  at2 : (f : Builtin) (a d e : Tree) (ts : Trees) → Given f (more a (more d (more e ts))) → Stands s (role_at (of_builtin f) 2) (takes_ere_at (Some f) 2) e
+  at2 : (f : Builtin) (a d e : Tree) (ts : Trees) → Given f (more a (more d (more e ts))) → FitsRole s (role_at (of_builtin f) 2) (takes_ere_at (Some f) 2) e
   at2 f a d e ts h =
       first s (of_builtin f) (Some f) 2 e ts
       (rest s (of_builtin f) (Some f) 1 d (more e ts) (rest s (of_builtin f) (Some f) 0 a (more d (more e ts)) h.1))
@@ -272,5 +272,5 @@ module _ (s : Scope) where
     each none = tt
     each (more a ts) = (proper a, each ts)
 
-  pub all_proper : (ts : Trees) → StandIn s plain None 0 ts → AreProper s ts
+  pub all_proper : (ts : Trees) → FitRoles s plain None 0 ts → AreProper s ts
   all_proper ts h = listed s 0 ts (each ts) h

@@ -11,8 +11,8 @@ use Rattle.pawk_syntax_show.proofs.WritableProgram.{MayWrite, IsWritableStmt, Ar
 use Rattle.pawk_syntax_check.specs.Mentions.{Mention, as_value, of_value, of_values}
 use Rattle.pawk_syntax_check.specs.Mentions as mention
 use Rattle.pawk_resolve.specs.Scopes.{Scope}
-use Rattle.pawk_resolve_program.specs.Texts.{of_tree, of_trees}
-use Rattle.pawk_resolve_program.specs.Texts as slashed
+use Rattle.pawk_resolve_law.proofs.Slashed.{of_tree, of_trees}
+use Rattle.pawk_resolve_law.proofs.Slashed as slashed
 use Rattle.pawk_resolve_law.specs.Proper.{IsProper, AreProper}
 use Rattle.pawk_resolve_law.specs.ProperStatements.{IsProperStatement, IsProperBody}
 use Rattle.pawk_resolve_law.proofs.Known.{AreKnown, AreExpressions, known_parts, expression_parts, proper, all_proper}

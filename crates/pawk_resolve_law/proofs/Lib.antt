@@ -1,3 +1,4 @@
+mod Slashed
 mod Lookups
 mod Normal
 mod Spelling

@@ -85,12 +85,12 @@ fn functions<'t>(alloc: Global, items: &'t [ProgramItem]) -> Result<NameTable<'t
 }
 
 /// Different texts.
-fn different<'t>(alloc: Global, texts: &[&'t [u8]]) -> Result<NameTable<'t>, AllocError>
-    ensures { IfOk result (λ t. table_names t ≡ distinct (seen_texts texts.now)) }
+fn different<'t>(alloc: Global, texts: &'t [Vec<u8>]) -> Result<NameTable<'t>, AllocError>
+    ensures { IfOk result (λ t. table_names t ≡ distinct (map (λ x. x.items) texts.now)) }
 {
     let mut table = NameTable::new(alloc);
     for text in texts {
-        table.add(text)?;
+        table.add(text.as_slice())?;
     }
     Ok(table)
 }
@@ -125,12 +125,12 @@ fn kinds<'t>(alloc: Global, items: &'t [ProgramItem]) -> Result<Kinds<'t>, Alloc
 pub fn globals_of<'t>(
     alloc: Global,
     items: &'t [ProgramItem],
-    texts: &[&'t [u8]],
+    texts: &'t [Vec<u8>],
 ) -> Result<GlobalNames<'t>, AllocError>
     ensures kinds { IfOk result (λ g.
         KindsFit (map part items.now) → AreKindsOf (map part items.now) (kinds_in g.kinds)) }
     ensures names { IfOk result (λ g. globals_view g ≡
-        spec.globals_of (kinds_in g.kinds) (seen_texts texts.now) (map part items.now)) }
+        spec.globals_of (kinds_in g.kinds) (map (λ x. x.items) texts.now) (map part items.now)) }
 {
     let functions = functions(alloc, items)?;
     let expressions = different(alloc, texts)?;

@@ -13,5 +13,4 @@ pub mod program;
 pub mod simple;
 pub mod small;
 pub mod statement;
-pub mod texts;
 pub mod vectors;

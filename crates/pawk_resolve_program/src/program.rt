@@ -11,7 +11,6 @@ ghost use Rattle.pawk_resolve_program.specs.Codes.{IsCodeOf};
 
 use crate::actions::{actions_of, functions};
 use crate::globals::globals_of;
-use crate::texts::texts_of;
 use pawk_code::program::Code;
 use pawk_resolve::scope::GlobalNames;
 use pawk_syntax::Program;
@@ -68,18 +67,11 @@ fn code<'t>(
     })
 }
 
-/// The code of the items of a program.
-pub fn resolve_items(alloc: Global, items: &[ProgramItem]) -> Result<Code, AllocError>
-    ensures { IfOk result (λ c. IsCodeOf (map part items.now) (code_view c)) }
-{
-    let texts = texts_of(alloc, items)?;
-    let globals = globals_of(alloc, items, texts.as_slice())?;
-    code(alloc, &globals, items)
-}
-
 /// The code of a program. It is refused only where an allocation is refused.
 pub fn resolve(alloc: Global, program: &Program) -> Result<Code, AllocError>
     ensures { IfOk result (λ c. IsCodeOf (parts program.now) (code_view c)) }
 {
-    resolve_items(alloc, program.tree())
+    let items = program.tree();
+    let globals = globals_of(alloc, items, program.expressions())?;
+    code(alloc, &globals, items)
 }

@@ -11,7 +11,9 @@
 //! | `states;EXPRESSION;FROM;TEXT` | the same, and whether the table of states was emptied |
 //! | `all;EXPRESSION` | the same for the texts below from the bytes 0, 1 and 3 on |
 //!
-//! A question is known by its first letter.
+//! A question is known by its first letter. Where memory is refused to a search, the matcher is asked again.
+
+ghost use Rattle.std.specs.Prelude.{◌≤◌, length};
 
 use crate::text::{number, piece, push_decimal, push_parts};
 use pawk_ere::{Ere, Matcher, needed_words_of};
@@ -63,6 +65,20 @@ fn push_place(found: Option<(usize, usize)>, out: &mut Vec<u8>) -> Result<(), Al
     }
 }
 
+/// What a matcher finds, asked again where memory was refused.
+fn find(
+    matcher: &mut Matcher,
+    text: &[u8],
+    from: usize,
+) -> Result<Option<(usize, usize)>, AllocError>
+    requires { from ≤ length text.now }
+{
+    match matcher.find(text, from) {
+        Ok(found) => Ok(found),
+        Err(_) => matcher.find(text, from),
+    }
+}
+
 /// Adds the answers for a text from each place, with blanks between them.
 fn push_from_places(
     matcher: &mut Matcher,
@@ -72,8 +88,7 @@ fn push_from_places(
     for from in PLACES {
         if from <= text.len() {
             out.extend_from_slice(if out.is_empty() { b"" } else { b" " })?;
-            let found = matcher.find(text, from)?;
-            push_place(found, out)?;
+            push_place(find(matcher, text, from)?, out)?;
         }
     }
     Ok(())
@@ -106,8 +121,7 @@ fn push_one(
     if from > text.len() {
         return out.extend_from_slice(b"no such place");
     }
-    let found = matcher.find(text.as_slice(), from)?;
-    push_place(found, out)?;
+    push_place(find(matcher, text.as_slice(), from)?, out)?;
     if row.first() == Some(&b's') {
         let emptied = matcher.emptyings() > 0;
         out.extend_from_slice(if emptied { b" emptied" } else { b" kept" })?;
@@ -115,13 +129,21 @@ fn push_one(
     Ok(())
 }
 
+/// Adds the answer to a row on matches.
+fn push_matches(alloc: Global, ere: &Ere, row: &[u8], out: &mut Vec<u8>) -> Result<(), AllocError> {
+    let mut matcher = Matcher::new(alloc, ere)?;
+    match row.first() {
+        Some(b'a') => push_all(&mut matcher, out),
+        _ => push_one(alloc, &mut matcher, row, out),
+    }
+}
+
 /// Adds the answer to a row on an expression.
 fn push_of_ere(alloc: Global, ere: &Ere, row: &[u8], out: &mut Vec<u8>) -> Result<(), AllocError> {
     match row.first() {
         Some(b'p') => out.extend_from_slice(b"ok"),
         Some(b'w') => push_words(alloc, ere, out),
-        Some(b'a') => push_all(&mut Matcher::new(alloc, ere)?, out),
-        _ => push_one(alloc, &mut Matcher::new(alloc, ere)?, row, out),
+        _ => push_matches(alloc, ere, row, out),
     }
 }
 

@@ -3,8 +3,8 @@
 //! A row is calls, parted by tabs; in keys and values a byte may be a backslash and three octal digits. The program has the
 //! scalars FS, OFS, ORS, RS, SUBSEP, CONVFMT, OFMT, n and s, in the slots 0 to 8, and the arrays a and b, in the slots 0 and 1.
 //!
-//! The answers are parted by spaces. A value is `_` where it is uninitialised, and else a number after `#`, a text after
-//! `"` or a candidate after `~`; a call takes values in the same form. A fault answers its name in brackets.
+//! Each answer comes after a space. A value has its mark, and a call takes values in the same form. A fault answers its name
+//! in brackets.
 //!
 //! | call | does | answers |
 //! |---|---|---|
@@ -26,7 +26,7 @@ ghost use Rattle.pawk_array.specs.Texts.{AreWithin};
 
 use crate::marks::{push_value, value};
 use crate::pieces::pieces_between;
-use crate::text::{decode, number, piece, push_encoded};
+use crate::text::{decode, number, piece, push_encoded, push_fault};
 use pawk_array::Texts;
 use pawk_code::word::Sign;
 use pawk_store::Globals;
@@ -35,32 +35,18 @@ use pawk_world::{Halt, World};
 use std::alloc::{AllocError, Global};
 use std::ops::Range;
 
-/// The globals of a run, and what they answered.
-#[derive(Drop)]
-struct Calls {
-    globals: Globals,
-    bytes: Vec<u8>,
-    is_begun: bool,
-}
+/// The names of the scalars.
+const NAMES: [&[u8]; 9] = [
+    b"FS", b"OFS", b"ORS", b"RS", b"SUBSEP", b"CONVFMT", b"OFMT", b"n", b"s",
+];
 
-/// The names that a text has between spaces.
-fn names(alloc: Global, text: &[u8]) -> Result<Vec<Vec<u8>>, AllocError> {
+/// Globals with these scalars and two arrays.
+fn begin(alloc: Global) -> Result<Globals, AllocError> {
     let mut names = Vec::new(alloc);
-    for name in text.split(|byte| *byte == b' ') {
-        names.push(Vec::from_slice(alloc, name)?)?;
+    for name in &NAMES {
+        names.push(Vec::from_slice(alloc, *name)?)?;
     }
-    Ok(names)
-}
-
-/// Adds all keys, parted by `|`.
-fn push_keys(keys: &Texts, out: &mut Vec<u8>) -> Result<(), AllocError> {
-    for place in 0..keys.len() {
-        if place > 0 {
-            out.push(b'|')?;
-        }
-        push_encoded(keys.text(place), out)?;
-    }
-    Ok(())
+    Globals::open(alloc, names.as_slice(), 2, &[])
 }
 
 /// The slot that a call names.
@@ -78,125 +64,134 @@ fn pieces_between_bars(alloc: Global, text: &[u8]) -> Result<Vec<Range<usize>>, 
     pieces_between(alloc, text, b'|')
 }
 
-impl Calls {
-    /// Parts the next answer from those before it.
-    fn part(&mut self) -> Result<(), AllocError> {
-        if self.is_begun {
-            self.bytes.extend_from_slice(b" ")?;
+/// Adds all keys, parted by `|`.
+fn push_keys(keys: &Texts, out: &mut Vec<u8>) -> Result<(), AllocError> {
+    out.push(b' ')?;
+    for place in 0..keys.len() {
+        if place > 0 {
+            out.push(b'|')?;
         }
-        self.is_begun = true;
-        Ok(())
+        push_encoded(keys.text(place), out)?;
     }
+    Ok(())
+}
 
-    /// Reads an element.
-    fn read(&mut self, alloc: Global, word: u8, slot: usize, key: &[u8]) -> Result<(), Halt> {
-        let mut bytes = Vec::new(alloc);
-        let held = if word == b'o' {
-            self.globals.old_element(slot, key, &mut bytes)?
-        } else {
-            self.globals.element(slot, key, &mut bytes)?
-        };
-        self.part()?;
-        push_value(lend_held(held, bytes.as_slice()), &mut self.bytes)?;
-        Ok(())
+/// Reads an element, or an old one.
+fn read(
+    alloc: Global,
+    globals: &mut Globals,
+    word: u8,
+    slot: usize,
+    key: &[u8],
+    out: &mut Vec<u8>,
+) -> Result<(), Halt> {
+    let mut bytes = Vec::new(alloc);
+    let held = if word == b'o' {
+        globals.old_element(slot, key, &mut bytes)?
+    } else {
+        globals.element(slot, key, &mut bytes)?
+    };
+    out.push(b' ')?;
+    push_value(lend_held(held, bytes.as_slice()), out)?;
+    Ok(())
+}
+
+/// Changes an element by a value.
+fn change(
+    alloc: Global,
+    globals: &mut Globals,
+    word: u8,
+    rest: &[u8],
+    key: &[u8],
+) -> Result<(), Halt> {
+    let value = value(alloc, piece(rest, b'=', 2))?;
+    match word {
+        b's' => globals.set_element(slot(rest), key, lend(&value)),
+        _ => globals.add_element(slot(rest), key, Sign::Plus, to_num(&value)),
     }
+}
 
-    /// Changes an element by a value.
-    fn change(&mut self, alloc: Global, word: u8, rest: &[u8], key: &[u8]) -> Result<(), Halt> {
-        let value = value(alloc, piece(rest, b'=', 2))?;
-        match word {
-            b's' => self.globals.set_element(slot(rest), key, lend(&value)),
-            _ => self
-                .globals
-                .add_element(slot(rest), key, Sign::Plus, to_num(&value)),
+/// A call with a key or a text.
+fn ask_with(
+    alloc: Global,
+    globals: &mut Globals,
+    word: u8,
+    rest: &[u8],
+    out: &mut Vec<u8>,
+) -> Result<(), Halt> {
+    let key = decode(alloc, piece(rest, b'=', 1))?;
+    let key = key.as_slice();
+    match word {
+        b'a' => globals.append_scalar(slot(rest), key),
+        b'r' | b'o' => read(alloc, globals, word, slot(rest), key, out),
+        b'i' => {
+            let is_there = globals.holds(slot(rest), key)?;
+            Ok(out.extend_from_slice(if is_there { b" 1" } else { b" 0" })?)
         }
+        b'd' => globals.remove(slot(rest), key),
+        b'u' => globals.fill(slot(rest), key, pieces_between_bars(alloc, key)?),
+        _ => change(alloc, globals, word, rest, key),
     }
+}
 
-    /// Whether an element is there.
-    fn test(&mut self, slot: usize, key: &[u8]) -> Result<(), Halt> {
-        let is_there = self.globals.holds(slot, key)?;
-        self.part()?;
-        self.bytes.push(if is_there { b'1' } else { b'0' })?;
-        Ok(())
-    }
-
-    /// Asks for keys.
-    fn walk(&mut self, array: usize) -> Result<(), Halt> {
-        self.part()?;
-        let keys = self.globals.keys(array)?;
-        push_keys(&keys, &mut self.bytes)?;
-        Ok(())
-    }
-
-    /// Gives an array the pieces of a text.
-    fn fill(&mut self, alloc: Global, array: usize, text: &[u8]) -> Result<(), Halt> {
-        let pieces = pieces_between_bars(alloc, text)?;
-        self.globals.fill(array, text, pieces)
-    }
-
-    /// A call with a key or a text.
-    fn ask_with(&mut self, alloc: Global, word: u8, rest: &[u8]) -> Result<(), Halt> {
-        let key = decode(alloc, piece(rest, b'=', 1))?;
-        match word {
-            b'a' => self.globals.append_scalar(slot(rest), key.as_slice()),
-            b'r' | b'o' => self.read(alloc, word, slot(rest), key.as_slice()),
-            b'i' => self.test(slot(rest), key.as_slice()),
-            b'd' => self.globals.remove(slot(rest), key.as_slice()),
-            b'u' => self.fill(alloc, slot(rest), key.as_slice()),
-            _ => self.change(alloc, word, rest, key.as_slice()),
+/// A call.
+fn ask(
+    alloc: Global,
+    globals: &mut Globals,
+    word: u8,
+    rest: &[u8],
+    out: &mut Vec<u8>,
+) -> Result<(), Halt> {
+    match word {
+        b'l' => {
+            out.push(b' ')?;
+            Ok(push_value(globals.scalar(slot(rest)), out)?)
         }
-    }
-
-    /// A call that may halt.
-    fn ask(&mut self, alloc: Global, word: u8, rest: &[u8]) -> Result<(), Halt> {
-        match word {
-            b'l' => {
-                self.part()?;
-                push_value(self.globals.scalar(slot(rest)), &mut self.bytes)?;
-                Ok(())
-            }
-            b'w' => {
-                let value = value(alloc, piece(rest, b'=', 1))?;
-                self.globals.set_scalar(slot(rest), lend(&value))
-            }
-            b'k' => self.walk(slot(rest)),
-            b'c' => self.globals.clear(slot(rest)),
-            b'y' => {
-                self.globals = self.globals.copy(alloc)?;
-                Ok(())
-            }
-            _ => self.ask_with(alloc, word, rest),
+        b'w' => {
+            let value = value(alloc, piece(rest, b'=', 1))?;
+            globals.set_scalar(slot(rest), lend(&value))
         }
-    }
-
-    /// A call, or the name of its fault.
-    fn call(&mut self, alloc: Global, call: &[u8]) -> Result<(), AllocError> {
-        let [word, rest @ ..] = call else {
-            return Ok(());
-        };
-        match self.ask(alloc, *word, rest) {
-            Ok(()) => Ok(()),
-            Err(Halt::Fault(fault)) => {
-                self.part()?;
-                self.bytes.push(b'[')?;
-                self.bytes.extend_from_slice(fault.name().as_bytes())?;
-                self.bytes.extend_from_slice(b"]")
-            }
-            Err(_) => Err(AllocError),
+        b'k' => Ok(push_keys(&globals.keys(slot(rest))?, out)?),
+        b'c' => globals.clear(slot(rest)),
+        b'y' => {
+            *globals = globals.copy(alloc)?;
+            Ok(())
         }
+        _ => ask_with(alloc, globals, word, rest, out),
     }
+}
+
+/// A call, or the name of its fault.
+fn call(
+    alloc: Global,
+    globals: &mut Globals,
+    call: &[u8],
+    out: &mut Vec<u8>,
+) -> Result<(), AllocError> {
+    let [word, rest @ ..] = call else {
+        return Ok(());
+    };
+    match ask(alloc, globals, *word, rest, out) {
+        Ok(()) => Ok(()),
+        Err(Halt::Fault(fault)) => push_fault(fault, out),
+        Err(_) => Err(AllocError),
+    }
+}
+
+/// Adds what the calls of a row answer, one after another.
+fn push_calls(
+    alloc: Global,
+    globals: &mut Globals,
+    row: &[u8],
+    out: &mut Vec<u8>,
+) -> Result<(), AllocError> {
+    for word in row.split(|byte| *byte == b'\t') {
+        call(alloc, globals, word, out)?;
+    }
+    Ok(())
 }
 
 /// Adds the answer to a row.
 pub fn push_answer(alloc: Global, row: &[u8], out: &mut Vec<u8>) -> Result<(), AllocError> {
-    let scalars = names(alloc, b"FS OFS ORS RS SUBSEP CONVFMT OFMT n s")?;
-    let mut calls = Calls {
-        globals: Globals::open(alloc, scalars.as_slice(), 2, &[])?,
-        bytes: Vec::new(alloc),
-        is_begun: false,
-    };
-    for call in row.split(|byte| *byte == b'\t') {
-        calls.call(alloc, call)?;
-    }
-    out.extend_from_slice(calls.bytes.as_slice())
+    push_calls(alloc, &mut begin(alloc)?, row, out)
 }

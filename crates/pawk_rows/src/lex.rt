@@ -100,13 +100,13 @@ fn push_tokens(alloc: Global, lexer: &mut Lexer<'_>, out: &mut Vec<u8>) -> Resul
 }
 
 /// Adds a refusal in numbers, in brackets.
-fn push_in_numbers(
-    alloc: Global,
-    refusal: SyntaxRefusal,
-    out: &mut Vec<u8>,
-) -> Result<(), AllocError> {
+fn push_in_numbers(refusal: SyntaxRefusal, out: &mut Vec<u8>) -> Result<(), AllocError> {
     out.extend_from_slice(b" (")?;
-    out.extend_from_slice(refusal.in_numbers(alloc)?.as_bytes())?;
+    push_decimal(u64::from(refusal.number()), out)?;
+    if let Some(place) = refusal.place() {
+        out.extend_from_slice(b" at byte ")?;
+        push_decimal(place as u64, out)?;
+    }
     out.extend_from_slice(b")")
 }
 
@@ -117,7 +117,7 @@ fn push_text(alloc: Global, text: &[u8], out: &mut Vec<u8>) -> Result<(), AllocE
     match lexer.next() {
         Ok(Some(_)) => out.extend_from_slice(b" (token)"),
         Ok(None) => out.extend_from_slice(b" (end)"),
-        Err(again) => push_in_numbers(alloc, again, out),
+        Err(again) => push_in_numbers(again, out),
     }
 }
 
@@ -138,7 +138,7 @@ pub fn push_answer(alloc: Global, row: &[u8], out: &mut Vec<u8>) -> Result<(), A
         Some(b'm') => {
             let memory = SyntaxRefusal::Memory;
             push_refusal(memory, out)?;
-            push_in_numbers(alloc, memory, out)
+            push_in_numbers(memory, out)
         }
         _ => out.extend_from_slice(b"no such row"),
     }

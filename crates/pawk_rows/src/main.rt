@@ -4,7 +4,6 @@
 //! | topic | answer |
 //! |---|---|
 //! | `ere` | why an expression is refused, and where it matches from a place on |
-//! | `fields` | the ranges of a record's fields |
 //! | `globals` | what the globals of a run have |
 //! | `input` | the records of blocks, and plans of chunks |
 //! | `lex` | the tokens of a text, with their spans |
@@ -15,7 +14,6 @@
 #![tactic(auto)]
 
 mod ere;
-mod fields;
 mod globals;
 mod input;
 mod lex;
@@ -27,7 +25,7 @@ mod text;
 use pawk_value::Fault;
 use std::alloc::{AllocError, Global};
 use std::io;
-use text::{answer_lines, first_and_rest, push_decimal};
+use text::{first_and_rest, push_decimal};
 
 /// Each fault in the order of its number.
 const FAULTS: [Fault; 15] = [
@@ -59,23 +57,30 @@ fn push_faults(out: &mut Vec<u8>) -> Result<(), AllocError> {
     Ok(())
 }
 
-/// The answer to a line.
-fn answer(alloc: Global, line: &[u8]) -> Result<Vec<u8>, AllocError> {
+/// Adds the answer to a line.
+fn push_answer(alloc: Global, line: &[u8], out: &mut Vec<u8>) -> Result<(), AllocError> {
     let (topic, row) = first_and_rest(line);
-    let mut out = Vec::new(alloc);
     match topic.first() {
-        Some(b'e') => ere::push_answer(alloc, row, &mut out)?,
-        Some(b'f') => fields::push_answer(alloc, row, &mut out)?,
-        Some(b'g') => globals::push_answer(alloc, row, &mut out)?,
-        Some(b'i') => input::push_answer(alloc, row, &mut out)?,
-        Some(b'l') => lex::push_answer(alloc, row, &mut out)?,
-        Some(b'r') => record::push_answer(alloc, row, &mut out)?,
-        Some(b'v') => push_faults(&mut out)?,
-        _ => out.extend_from_slice(b"no topic")?,
+        Some(b'e') => ere::push_answer(alloc, row, out),
+        Some(b'g') => globals::push_answer(alloc, row, out),
+        Some(b'i') => input::push_answer(alloc, row, out),
+        Some(b'l') => lex::push_answer(alloc, row, out),
+        Some(b'r') => record::push_answer(alloc, row, out),
+        Some(b'v') => push_faults(out),
+        _ => out.extend_from_slice(b"no topic"),
     }
-    Ok(out)
 }
 
 fn main(rt: HostRuntime) -> io::Result<()> {
-    answer_lines(&rt, answer)
+    let mut answer = Vec::new(rt.alloc());
+    for line in rt.lines(rt.alloc()) {
+        let row = line?;
+        answer.clear();
+        push_answer(rt.alloc(), row.as_str().as_bytes(), &mut answer)?;
+        println!(rt;
+            "{}",
+            str::from_utf8(answer.as_slice()).unwrap_or("not a text")
+        )?;
+    }
+    Ok(())
 }

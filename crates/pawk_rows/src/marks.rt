@@ -1,4 +1,5 @@
-//! Values as rows write them: after a mark.
+//! Values as rows write them: `_` where it is uninitialised, and else a number after `#`, a text after `"` or a candidate
+//! after `~`.
 
 use crate::text::{decode, push_decimal, push_encoded};
 use pawk_value::{Value, ValueRef};

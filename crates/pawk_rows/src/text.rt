@@ -3,8 +3,8 @@
 ghost use Rattle.std.specs.Prelude.{◌≤◌, IfSome};
 
 use itoa::Buffer;
+use pawk_value::Fault;
 use std::alloc::{AllocError, Global};
-use std::io;
 
 /// The piece of a text with that number, counted from 0, of those between the places of a byte. A text without it has an
 /// empty one.
@@ -125,22 +125,9 @@ pub fn push_parts(alloc: Global, parts: &[u8], out: &mut Vec<u8>) -> Result<(), 
     Ok(())
 }
 
-/// Answers each line of standard input with a line, which is `not a text` where the answer is none.
-///
-/// The error comes where a read or a write fails, and where memory was refused.
-pub fn answer_lines<F: FnMut(Global, &[u8]) -> Result<Vec<u8>, AllocError>>(
-    rt: &HostRuntime,
-    mut answer: F,
-) -> io::Result<()>
-    requires { F.IsAlwaysCallable answer }
-{
-    for line in rt.lines(rt.alloc()) {
-        let row = line?;
-        let line = answer(rt.alloc(), row.as_str().as_bytes())?;
-        println!(rt;
-            "{}",
-            str::from_utf8(line.as_slice()).unwrap_or("not a text")
-        )?;
-    }
-    Ok(())
+/// Adds the name of a fault in brackets, after a space.
+pub fn push_fault(fault: Fault, out: &mut Vec<u8>) -> Result<(), AllocError> {
+    out.extend_from_slice(b" [")?;
+    out.extend_from_slice(fault.name().as_bytes())?;
+    out.extend_from_slice(b"]")
 }

@@ -17,13 +17,13 @@ abbrev with_front : {S : Type 0} → List ℕ → Outcome S (List ℕ) → Outco
 with_front front (gives x m) = gives (front ++ x) m
 with_front front (halts h s state out) = halts h s state out
 
-text_behind : {S : Type 0} (o : Outcome S Val) (front : List ℕ) → then_do o (λ v. give (front ++ text_of v)) ≡ with_front front (then_do o (λ v. give ([] ++ text_of v)))
-text_behind (gives v m) front = refl
-text_behind (halts h s state out) front = refl
+text_after : {S : Type 0} (o : Outcome S Val) (front : List ℕ) → then_do o (λ v. give (front ++ text_of v)) ≡ with_front front (then_do o (λ v. give ([] ++ text_of v)))
+text_after (gives v m) front = refl
+text_after (halts h s state out) front = refl
 
 -- a text that is found without an effect, after another
-as_text_behind : {S : Type 0} (part : Part S Val) (front t : List ℕ) (m : Moment S) → as_text [] part m ≡ gives t m → as_text front part m ≡ gives (front ++ t) m
-as_text_behind part front t m is = text_behind (part m) front ∙ ap (with_front front) is
+as_text_after : {S : Type 0} (part : Part S Val) (front t : List ℕ) (m : Moment S) → as_text [] part m ≡ gives t m → as_text front part m ≡ gives (front ++ t) m
+as_text_after part front t m is = text_after (part m) front ∙ ap (with_front front) is
 
 within : (s : List ℕ) → length s ≤ length_limit → within_limit s ≡ Ok s
 within s h = ap (λ b. if b then Ok s else Err fault.Length) (le-leb (length s) length_limit h)
@@ -35,5 +35,5 @@ suffixed_next calls eres enter es i e front t m lt is says short =
     let fit : length (front ++ t) ≤ length_limit = omega (arith, short, length-append front t) in
     rw add-one
     (ap (λ xs. suffixed calls eres enter (exprs (views xs)) front m) (drop-cons es i e lt ∙ ap (λ x. x ∷ drop (suc i) es) (sym is))
-    ∙ ap (λ o. then_do o (λ s. bind (settle (within_limit s)) rest)) (as_text_behind (eval calls eres enter (view e)) front t m says)
+    ∙ ap (λ o. then_do o (λ s. bind (settle (within_limit s)) rest)) (as_text_after (eval calls eres enter (view e)) front t m says)
     ∙ ap (λ r. then_do (settle r m) rest) (within (front ++ t) fit))

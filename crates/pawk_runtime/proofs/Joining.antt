@@ -2,7 +2,7 @@
 use Rattle.std.proofs.Common.{◌≡◌, ℕ, ◌+◌, List, ◌∷◌, ◌++◌, Some, sym, ◌∙◌, ap, add-one, drop, suc, drop-cons, append_assoc}
 use Rattle.std.specs.Prelude.{slice_get}
 use Rattle.std.proofs.lemmas.Option.{slice_get_within, get_or_from_slice_get}
-use Rattle.pawk_semantics.specs.Builtins.{joined_behind}
+use Rattle.pawk_semantics.specs.Builtins.{joined_after}
 
 -- the items from one on are that and those from the next on
 pub drop_at : {A : Type 0} (xs : List A) (i : ℕ) (x : A) → slice_get xs i ≡ Some x → drop i xs ≡ x ∷ drop (i + 1) xs
@@ -11,9 +11,9 @@ drop_at xs i x h =
 
 -- the texts so far and the next one
 pub joined_next : (out separator whole : List ℕ) (ts : List (List ℕ)) (i : ℕ) (t : List ℕ) → slice_get ts i ≡ Some t
-    → out ++ joined_behind separator (drop i ts) ≡ whole → ((out ++ separator) ++ t) ++ joined_behind separator (drop (i + 1) ts) ≡ whole
+    → out ++ joined_after separator (drop i ts) ≡ whole → ((out ++ separator) ++ t) ++ joined_after separator (drop (i + 1) ts) ≡ whole
 joined_next out separator whole ts i t h so_far =
-    append_assoc (out ++ separator) t (joined_behind separator (drop (i + 1) ts))
-    ∙ append_assoc out separator (t ++ joined_behind separator (drop (i + 1) ts))
-    ∙ ap (λ l. out ++ joined_behind separator l) (sym (drop_at ts i t h))
+    append_assoc (out ++ separator) t (joined_after separator (drop (i + 1) ts))
+    ∙ append_assoc out separator (t ++ joined_after separator (drop (i + 1) ts))
+    ∙ ap (λ l. out ++ joined_after separator l) (sym (drop_at ts i t h))
     ∙ so_far

@@ -44,7 +44,7 @@ fn operands_of(e: &Expr) -> Option<&[Expr]>
 }
 
 /// The expressions after the first one, where that is the global of this slot.
-fn rest_behind(slot: usize, es: &[Expr]) -> Option<&[Expr]>
+fn rest_after(slot: usize, es: &[Expr]) -> Option<&[Expr]>
     ensures { IfSome result (λ rest.
         exprs (views es.now) ≡ more (leaf (global slot)) (exprs (views rest.now))) }
 {
@@ -159,7 +159,7 @@ pub fn assign_in_place<W: World>(
 {
     if let Lvalue::Global(slot) = to {
         if let Some(es) = operands_of(e) {
-            if let Some(rest) = rest_behind(*slot, es) {
+            if let Some(rest) = rest_after(*slot, es) {
                 return append(*slot, rest, world, run);
             }
         }

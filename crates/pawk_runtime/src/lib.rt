@@ -7,6 +7,7 @@
 mod append;
 mod arithmetic;
 mod arrays;
+mod at_once;
 mod conditions;
 mod leaves;
 mod letters;
@@ -30,6 +31,10 @@ pub use arrays::{
     SplitSeparator, array_keys, clear_array, element_exists, field_exists, number_exists,
     remove_element, split_into,
 };
+pub use at_once::{
+    leaf_add, leaf_find, leaf_function, leaf_member, leaf_read, leaf_read_number, leaf_read_text,
+    leaf_set, leaf_tally,
+};
 pub use conditions::quick_test;
 pub use leaves::{
     arithmetic_after, compare_leaves, compare_number, leaf_copy, leaf_length, leaf_number,
@@ -51,7 +56,7 @@ pub use run::{
     Parameter, Run, close_arrays, give_back, give_back_frame, give_back_value, parameters,
     take_buffer, take_frame, value_with,
 };
-pub use shapes::{field_element, leaf_element};
+pub use shapes::{field_element, leaf_element, numeric_element};
 pub use target::{
     ArrayReference, Target, element_target, give_back_target, table_of, variable_target,
 };

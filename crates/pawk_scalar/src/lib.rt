@@ -21,7 +21,7 @@ pub use comparison::{compare, compare_lent, compare_texts, text_order_law};
 pub use conversion::{candidate_truth, text_in, to_num, to_num_lent, truth, truth_lent};
 pub use faults::{Fault, Stop};
 pub use limits::{LENGTH_LIMIT, NUMBER_LIMIT, limits_law};
-pub use look::{candidate_number, look_law, looks};
+pub use look::{candidate_number, look_law};
 pub use numeral::{Digits, leading_digits, number_of, numeral_law};
 pub use range::whole_number;
 pub use values::{Value, ValueRef, lend};

@@ -88,13 +88,6 @@ pub fn candidate_number(text: &[u8]) -> Option<Result<i64, Fault>>
     unsigned_candidate(is_negative(numeral), past_sign(numeral))
 }
 
-/// Whether a text from outside is numeric. It takes no memory.
-pub fn looks(text: &[u8]) -> bool
-    ensures { result ≡ spec.looks text.now }
-{
-    candidate_number(text).is_some()
-}
-
 /// A text looks like a numeral exactly where it is blanks, a numeral and blanks.
 pub fn look_law(text: &[u8])
     ensures { LookLaw text.now }

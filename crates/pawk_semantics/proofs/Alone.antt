@@ -15,11 +15,11 @@ use Rattle.pawk_input.specs.Input.{File, Item}
 use Rattle.pawk_semantics.specs.Parts.{Moment, Outcome, gives, halts}
 use Rattle.pawk_semantics.specs.Places.{text_at}
 use Rattle.pawk_semantics.specs.Records.{Left, through, next_file, exit, fault, clash, End, end_of_halt, end_of, run_part, one_record}
-use Rattle.pawk_semantics.specs.Runs.{Ending, disallowed, behind, records_from, run}
+use Rattle.pawk_semantics.specs.Runs.{Ending, disallowed, after_leaving, records_from, run}
 use Rattle.pawk_semantics.specs.Lockstep.{Access, Resource, Pair, AllHeld, refusal_of, record_state_of, SameAnswer, AreInLockstep, RefusesIn, GoesOn}
 use Rattle.pawk_semantics.specs.Allows.{AllowsMain}
 use Rattle.pawk_semantics.specs.Laws.{IsFinal, RefusalsAreFinal, LeftBy, EndingBy, IsNoClash}
-use Rattle.pawk_semantics.specs.Steady.{IsSteady, StaysInFile, HaltsBy, state_behind_record, status_behind, state_behind_records, RecordsKeep, onward, ReadsAnewLaw}
+use Rattle.pawk_semantics.specs.Steady.{IsSteady, StaysInFile, HaltsBy, state_after_record, status_after, state_after_records, RecordsKeep, onward, ReadsAnewLaw}
 use Rattle.pawk_semantics.proofs.Later.{Any, Order, Meets}
 use Rattle.pawk_semantics.proofs.Going.{Track, track, goes_bind}
 use Rattle.pawk_semantics.proofs.InRecords.{goes_after_read, goes_rules}
@@ -151,7 +151,7 @@ halts_in_file permits (gives x m) h = tt
 halts_in_file permits (halts i s state out) h = stays_in_file i h
 
 module _ {S : Type 0} (permits : Access → Resource → Type 0) (calls : Calls S) (steady : IsSteady permits) (final : RefusalsAreFinal calls) (eres : List (List ℕ)) where
-  pub record_keeps : (functions : List Function) (rules : List Rule) → AllowsMain permits functions rules → (i : Item) (m : Moment S) → AllHeld permits m.frame → let o = one_record calls eres functions rules i m in (record_state_of o ≡ state_behind_record (record_state_of o).line i m.state) × HaltsBy StaysInFile o
+  pub record_keeps : (functions : List Function) (rules : List Rule) → AllowsMain permits functions rules → (i : Item) (m : Moment S) → AllHeld permits m.frame → let o = one_record calls eres functions rules i m in (record_state_of o ≡ state_after_record (record_state_of o).line i m.state) × HaltsBy StaysInFile o
   record_keeps functions rules may i m held =
       let t = alone permits calls steady final in
       let fs = text_at calls fs_slot m in
@@ -163,21 +163,21 @@ module _ {S : Type 0} (permits : Access → Resource → Type 0) (calls : Calls 
 
 -- the record state at the end of a record, and how it is left
 abbrev EndKeeps : {S : Type 0} → RecordState → End S → Type 0
-EndKeeps before e = (e.state ≡ state_behind_records 1 e.left before e.state) × LeftBy StaysInFile e.left
+EndKeeps before e = (e.state ≡ state_after_records 1 e.left before e.state) × LeftBy StaysInFile e.left
 
-one_later : (i : Item) (before now : RecordState) → now ≡ state_behind_record now.line i before → now ≡ record before { line = now.line; nr = before.nr + 1; fnr = now.fnr; name = now.name }
+one_later : (i : Item) (before now : RecordState) → now ≡ state_after_record now.line i before → now ≡ record before { line = now.line; nr = before.nr + 1; fnr = now.fnr; name = now.name }
 one_later i before now e =
     e ∙ ap (λ n. record before { line = now.line; nr = n; fnr = i.fnr; name = Maybe i.name }) (suc-eq-add-one before.nr)
     ∙ ap (λ (x : RecordState). record before { line = now.line; nr = before.nr + 1; fnr = x.fnr; name = x.name }) (sym e)
 
-halt_keeps : {S : Type 0} (i : Item) (before : RecordState) (h : Halt) (s : S) (state : RecordState) (out : List ℕ) → state ≡ state_behind_record state.line i before → StaysInFile h → EndKeeps before (end_of_halt h s state out)
+halt_keeps : {S : Type 0} (i : Item) (before : RecordState) (h : Halt) (s : S) (state : RecordState) (out : List ℕ) → state ≡ state_after_record state.line i before → StaysInFile h → EndKeeps before (end_of_halt h s state out)
 halt_keeps i before (halt.fault f) s state out e stay = (one_later i before state e, tt)
 halt_keeps i before halt.clash s state out e stay = (one_later i before state e, tt)
 halt_keeps i before halt.next s state out e stay = (one_later i before state e, tt)
 halt_keeps i before halt.next_file s state out e stay = absurd stay
 halt_keeps i before (halt.exit n) s state out e stay = (ap (λ (x : RecordState). record x { status = n }) (one_later i before state e), tt)
 
-end_keeps : {S X : Type 0} (i : Item) (before : RecordState) (o : Outcome S X) → record_state_of o ≡ state_behind_record (record_state_of o).line i before → HaltsBy StaysInFile o → EndKeeps before (end_of o)
+end_keeps : {S X : Type 0} (i : Item) (before : RecordState) (o : Outcome S X) → record_state_of o ≡ state_after_record (record_state_of o).line i before → HaltsBy StaysInFile o → EndKeeps before (end_of o)
 end_keeps i before (gives x m) e stay = (one_later i before m.state e, tt)
 end_keeps i before (halts h s state out) e stay = halt_keeps i before h s state out e stay
 
@@ -188,8 +188,8 @@ one_and : (n k : ℕ) → n + 1 + k ≡ n + suc k
 one_and n k = omega arith
 
 module _ {S : Type 0} (permits : Access → Resource → Type 0) (calls : Calls S) (steady : IsSteady permits) (final : RefusalsAreFinal calls) (eres : List (List ℕ)) (code : Code) (may : AllowsMain permits code.functions code.rules) (budget : ℕ) where
-  abbrev behind_one : Item → End S → End S
-  behind_one i e = run_part (one_record calls eres code.functions code.rules i) budget e.world e.state e.output
+  abbrev after_one : Item → End S → End S
+  after_one i e = run_part (one_record calls eres code.functions code.rules i) budget e.world e.state e.output
 
   abbrev all_from : End S → List Item → End S
   all_from e items = records_from calls eres code budget None e items
@@ -197,7 +197,7 @@ module _ {S : Type 0} (permits : Access → Resource → Type 0) (calls : Calls 
   abbrev go_on : List Item → Option ℕ → End S → End S
   go_on items skip e = records_from calls eres code budget skip e items
 
-  one_keeps : (i : Item) (e : End S) → EndKeeps e.state (behind_one i e)
+  one_keeps : (i : Item) (e : End S) → EndKeeps e.state (after_one i e)
   one_keeps i e =
       let m : Moment S = record { world = e.world; state = e.state; frame = []; arrays = []; output = e.output; left = budget } in
       let k = record_keeps permits calls steady final eres code.functions code.rules may i m tt in
@@ -210,14 +210,14 @@ module _ {S : Type 0} (permits : Access → Resource → Type 0) (calls : Calls 
     in_order = refl;
     of_read = refl;
     all_read = λ _. refl;
-    state = subst (λ x. e.state ≡ state_behind_records 0 x e.state e.state) (sym h) (none_later e.state);
+    state = subst (λ x. e.state ≡ state_after_records 0 x e.state e.state) (sym h) (none_later e.state);
     in_file = subst (LeftBy StaysInFile) (sym h) tt;
   }
 
   -- the run ends after a record
-  keep_last : (i : Item) (items : List Item) (e : End S) → ((go : Option ℕ → End S → End S) → behind go i.file (behind_one i e).left (behind_one i e) ≡ behind_one i e) → ((behind_one i e).left ≡ through → ⊥) → RecordsKeep calls eres code budget e (i ∷ items)
+  keep_last : (i : Item) (items : List Item) (e : End S) → ((go : Option ℕ → End S → End S) → after_leaving go i.file (after_one i e).left (after_one i e) ≡ after_one i e) → ((after_one i e).left ≡ through → ⊥) → RecordsKeep calls eres code budget e (i ∷ items)
   keep_last i items e is stops =
-      let r = behind_one i e in
+      let r = after_one i e in
       let f = all_from e (i ∷ items) in
       let k = one_keeps i e in
       let there : f ≡ r = is (go_on items) in
@@ -227,41 +227,41 @@ module _ {S : Type 0} (permits : Access → Resource → Type 0) (calls : Calls 
         in_order = refl;
         of_read = there ∙ sym (is (go_on []));
         all_read = λ h. absurd (stops (subst (λ (x : End S). x.left ≡ through) there h));
-        state = subst (λ (x : End S). x.state ≡ state_behind_records 1 x.left e.state x.state) (sym there) k.0;
+        state = subst (λ (x : End S). x.state ≡ state_after_records 1 x.left e.state x.state) (sym there) k.0;
         in_file = subst (λ (x : End S). LeftBy StaysInFile x.left) (sym there) k.1;
       }
 
   -- the run goes on after a record
-  keep_more : (i : Item) (items : List Item) (e : End S) → (behind_one i e).left ≡ through → RecordsKeep calls eres code budget (behind_one i e) items → RecordsKeep calls eres code budget e (i ∷ items)
+  keep_more : (i : Item) (items : List Item) (e : End S) → (after_one i e).left ≡ through → RecordsKeep calls eres code budget (after_one i e) items → RecordsKeep calls eres code budget e (i ∷ items)
   keep_more i items e on k =
-      let r = behind_one i e in
+      let r = after_one i e in
       let f = all_from e (i ∷ items) in
       let g = all_from r items in
-      let there : f ≡ g = ap (λ x. behind (go_on items) i.file x r) on in
-      let state : r.state ≡ state_behind_records 1 through e.state r.state = subst (λ x. r.state ≡ state_behind_records 1 x e.state r.state) on (one_keeps i e).0 in
+      let there : f ≡ g = ap (λ x. after_leaving (go_on items) i.file x r) on in
+      let state : r.state ≡ state_after_records 1 through e.state r.state = subst (λ x. r.state ≡ state_after_records 1 x e.state r.state) on (one_keeps i e).0 in
       record {
         read = i ∷ k.read;
         unread = k.unread;
         in_order = ap (λ l. i ∷ l) k.in_order;
-        of_read = there ∙ k.of_read ∙ ap (λ x. behind (go_on k.read) i.file x r) (sym on);
+        of_read = there ∙ k.of_read ∙ ap (λ x. after_leaving (go_on k.read) i.file x r) (sym on);
         all_read = λ h. ap (λ l. i ∷ l) (k.all_read (subst (λ (x : End S). x.left ≡ through) there h));
-        state = subst (λ (x : End S). x.state ≡ state_behind_records (suc (length k.read)) x.left e.state x.state) (sym there)
-            (k.state ∙ ap (λ x. state_behind_records (length k.read) g.left x g.state) state
-            ∙ ap (λ n. record e.state { line = g.state.line; nr = n; fnr = g.state.fnr; name = g.state.name; status = status_behind e.state.status g.left }) (one_and e.state.nr (length k.read)));
+        state = subst (λ (x : End S). x.state ≡ state_after_records (suc (length k.read)) x.left e.state x.state) (sym there)
+            (k.state ∙ ap (λ x. state_after_records (length k.read) g.left x g.state) state
+            ∙ ap (λ n. record e.state { line = g.state.line; nr = n; fnr = g.state.fnr; name = g.state.name; status = status_after e.state.status g.left }) (one_and e.state.nr (length k.read)));
         in_file = subst (λ (x : End S). LeftBy StaysInFile x.left) (sym there) k.in_file;
       }
 
   -- an end of a record, by how it is left
-  keep_behind : (i : Item) (items : List Item) (e : End S) (left : Left) → (behind_one i e).left ≡ left → ((behind_one i e).left ≡ through → RecordsKeep calls eres code budget (behind_one i e) items) → RecordsKeep calls eres code budget e (i ∷ items)
-  keep_behind i items e through is more = keep_more i items e is (more is)
-  keep_behind i items e next_file is more = absurd (subst (LeftBy StaysInFile) is (one_keeps i e).1)
-  keep_behind i items e (exit n) is more = keep_last i items e (λ go. ap (λ x. behind go i.file x (behind_one i e)) is) (λ h. let bad : exit n ≡ through = sym is ∙ h in absurd cc)
-  keep_behind i items e (fault f) is more = keep_last i items e (λ go. ap (λ x. behind go i.file x (behind_one i e)) is) (λ h. let bad : fault f ≡ through = sym is ∙ h in absurd cc)
-  keep_behind i items e clash is more = keep_last i items e (λ go. ap (λ x. behind go i.file x (behind_one i e)) is) (λ h. let bad : clash ≡ through = sym is ∙ h in absurd cc)
+  keep_after : (i : Item) (items : List Item) (e : End S) (left : Left) → (after_one i e).left ≡ left → ((after_one i e).left ≡ through → RecordsKeep calls eres code budget (after_one i e) items) → RecordsKeep calls eres code budget e (i ∷ items)
+  keep_after i items e through is more = keep_more i items e is (more is)
+  keep_after i items e next_file is more = absurd (subst (LeftBy StaysInFile) is (one_keeps i e).1)
+  keep_after i items e (exit n) is more = keep_last i items e (λ go. ap (λ x. after_leaving go i.file x (after_one i e)) is) (λ h. let bad : exit n ≡ through = sym is ∙ h in absurd cc)
+  keep_after i items e (fault f) is more = keep_last i items e (λ go. ap (λ x. after_leaving go i.file x (after_one i e)) is) (λ h. let bad : fault f ≡ through = sym is ∙ h in absurd cc)
+  keep_after i items e clash is more = keep_last i items e (λ go. ap (λ x. after_leaving go i.file x (after_one i e)) is) (λ h. let bad : clash ≡ through = sym is ∙ h in absurd cc)
 
   pub records_keep : (items : List Item) (e : End S) → e.left ≡ through → RecordsKeep calls eres code budget e items
   records_keep [] e h = keep_none e h
-  records_keep (i ∷ items) e h = keep_behind i items e (behind_one i e).left refl (λ on. records_keep items (behind_one i e) on)
+  records_keep (i ∷ items) e h = keep_after i items e (after_one i e).left refl (λ on. records_keep items (after_one i e) on)
 
   -- ---- records in two parts
 
@@ -271,16 +271,16 @@ module _ {S : Type 0} (permits : Access → Resource → Type 0) (calls : Calls 
   follow_none : (more : List Item) (e : End S) → e.left ≡ through → Follows [] more e
   follow_none more e h = subst (λ x. all_from e more ≡ onward (λ g. all_from g more) x e) (sym h) refl
 
-  follow_behind : (i : Item) (items more : List Item) (e : End S) (left : Left) → (behind_one i e).left ≡ left → ((behind_one i e).left ≡ through → Follows items more (behind_one i e)) → let r = behind_one i e in let f = behind (go_on items) i.file left r in behind (go_on (items ++ more)) i.file left r ≡ onward (λ g. all_from g more) f.left f
-  follow_behind i items more e through is on = on is
-  follow_behind i items more e next_file is on = absurd (subst (LeftBy StaysInFile) is (one_keeps i e).1)
-  follow_behind i items more e (exit n) is on = ap (λ x. onward (λ g. all_from g more) x (behind_one i e)) (sym is)
-  follow_behind i items more e (fault f) is on = ap (λ x. onward (λ g. all_from g more) x (behind_one i e)) (sym is)
-  follow_behind i items more e clash is on = ap (λ x. onward (λ g. all_from g more) x (behind_one i e)) (sym is)
+  follow_after : (i : Item) (items more : List Item) (e : End S) (left : Left) → (after_one i e).left ≡ left → ((after_one i e).left ≡ through → Follows items more (after_one i e)) → let r = after_one i e in let f = after_leaving (go_on items) i.file left r in after_leaving (go_on (items ++ more)) i.file left r ≡ onward (λ g. all_from g more) f.left f
+  follow_after i items more e through is on = on is
+  follow_after i items more e next_file is on = absurd (subst (LeftBy StaysInFile) is (one_keeps i e).1)
+  follow_after i items more e (exit n) is on = ap (λ x. onward (λ g. all_from g more) x (after_one i e)) (sym is)
+  follow_after i items more e (fault f) is on = ap (λ x. onward (λ g. all_from g more) x (after_one i e)) (sym is)
+  follow_after i items more e clash is on = ap (λ x. onward (λ g. all_from g more) x (after_one i e)) (sym is)
 
   pub records_follow : (items more : List Item) (e : End S) → e.left ≡ through → Follows items more e
   records_follow [] more e h = follow_none more e h
-  records_follow (i ∷ items) more e h = follow_behind i items more e (behind_one i e).left refl (λ on. records_follow items more (behind_one i e) on)
+  records_follow (i ∷ items) more e h = follow_after i items more e (after_one i e).left refl (λ on. records_follow items more (after_one i e) on)
 
 -- ---- what a record reads
 
@@ -297,7 +297,7 @@ module _ {S : Type 0} (permits : Access → Resource → Type 0) (calls : Calls 
   records_resume items i more e h on =
       let f = records_from calls eres code budget None e items in
       let k = records_keep permits calls steady final eres code may budget items e h in
-      let kept : f.state ≡ state_behind_records (length k.read) f.left e.state f.state = k.state in
-      let through_it : f.state ≡ state_behind_records (length k.read) through e.state f.state = kept ∙ ap (λ x. state_behind_records (length k.read) x e.state f.state) on in
-      let all : f.state ≡ state_behind_records (length items) through e.state f.state = through_it ∙ ap (λ (l : List Item). state_behind_records (length l) through e.state f.state) (sym (k.all_read on)) in
+      let kept : f.state ≡ state_after_records (length k.read) f.left e.state f.state = k.state in
+      let through_it : f.state ≡ state_after_records (length k.read) through e.state f.state = kept ∙ ap (λ x. state_after_records (length k.read) x e.state f.state) on in
+      let all : f.state ≡ state_after_records (length items) through e.state f.state = through_it ∙ ap (λ (l : List Item). state_after_records (length l) through e.state f.state) (sym (k.all_read on)) in
       sym ((reads_anew calls eres code i (record e.state { nr = e.state.nr + length items }) f.state all).1 budget more f)

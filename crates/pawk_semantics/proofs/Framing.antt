@@ -40,7 +40,7 @@ use Rattle.pawk_semantics.specs.Builtins.{within_limit, joined_by, index, bytes_
 use Rattle.pawk_semantics.specs.Meaning.{Way, on, by_break, by_continue, by_return, value_of_way, left_by, status_by, one_or_zero, both_of, decide, and_then, after_left, after_turn, turns, while_loop, pattern_of, print_text, value_of_leaf, print_line, key_of, fill_from, pieces_of, split_into, put_replaced, visit_keys, for_keys, eval, number_of, function_of, truth_of, text_of_textual, joined_texts, suffixed, texts_of, values_of, arguments_of, argument_of, aim_of, operand_of, format_of, separator_of, subscripts, act, leaves, act_or_none, test_or_true, exec, execs, run_function, run_function_at, call_at}
 use Rattle.pawk_semantics.specs.Records.{Left, through, clash, is_inside, End, end_of_halt, end_of, run_part, after_read, stays_inside, holds, does, reads, begins, in_range, selects, does_rule, rules_from, one_record, actions}
 use Rattle.pawk_semantics.specs.Records as records
-use Rattle.pawk_semantics.specs.Runs.{is_skipped, behind, at_end, records_from, ends_from, behind_records}
+use Rattle.pawk_semantics.specs.Runs.{is_skipped, after_leaving, at_end, records_from, ends_from, after_records}
 use Rattle.pawk_semantics.specs.Outputs.{with_output_before, finish_with_output_before}
 
 -- a moment and an outcome with this in front of the output
@@ -470,12 +470,12 @@ module _ {S : Type 0} (out : List ℕ) where
       let m : Moment S = record { world = e.world; state = e.state; frame = []; arrays = []; output = e.output; left = budget } in
       ap end_of (h.same m) ∙ end_appends (part m)
 
-  behind_appends : (go : Option ℕ → End S → End S) (file : ℕ) (left : Left) (e : End S) → ((skip : Option ℕ) → go skip (with_output_before out e) ≡ with_output_before out (go skip e)) → behind go file left (with_output_before out e) ≡ with_output_before out (behind go file left e)
-  behind_appends go file through e h = h None
-  behind_appends go file records.next_file e h = h (Some file)
-  behind_appends go file (records.exit n) e h = refl
-  behind_appends go file (records.fault f) e h = refl
-  behind_appends go file clash e h = refl
+  after_appends : (go : Option ℕ → End S → End S) (file : ℕ) (left : Left) (e : End S) → ((skip : Option ℕ) → go skip (with_output_before out e) ≡ with_output_before out (go skip e)) → after_leaving go file left (with_output_before out e) ≡ with_output_before out (after_leaving go file left e)
+  after_appends go file through e h = h None
+  after_appends go file records.next_file e h = h (Some file)
+  after_appends go file (records.exit n) e h = refl
+  after_appends go file (records.fault f) e h = refl
+  after_appends go file clash e h = refl
 
   skip_appends : (b : Bool) (e f e' f' : End S) → e ≡ with_output_before out e' → f ≡ with_output_before out f' → (if b then e else f) ≡ with_output_before out (if b then e' else f')
   skip_appends true e f e' f' h k = h
@@ -496,11 +496,11 @@ module _ {S : Type 0} (out : List ℕ) where
         let go : Option ℕ → End S → End S = λ s x. records_from calls eres program budget s x is' in
         let f = with_output_before out e in
         skip_appends (is_skipped skip i)
-        (records_from calls eres program budget skip f is') (behind go i.file (one f).left (one f))
-        (records_from calls eres program budget skip e is') (behind go i.file (one e).left (one e))
+        (records_from calls eres program budget skip f is') (after_leaving go i.file (one f).left (one f))
+        (records_from calls eres program budget skip e is') (after_leaving go i.file (one e).left (one e))
         (records_append skip is' e)
-        (ap (λ x. behind go i.file x.left x) (part_appends (record_run_appends calls eres program.functions program.rules i) budget e)
-        ∙ behind_appends go i.file (one e).left (one e) (λ s. records_append s is' (one e)))
+        (ap (λ x. after_leaving go i.file x.left x) (part_appends (record_run_appends calls eres program.functions program.rules i) budget e)
+        ∙ after_appends go i.file (one e).left (one e) (λ s. records_append s is' (one e)))
 
     ends_append : (e : End S) → ends_from calls eres program budget (with_output_before out e) ≡ finish_with_output_before out (ends_from calls eres program budget e)
     ends_append e =
@@ -508,9 +508,9 @@ module _ {S : Type 0} (out : List ℕ) where
         ap (λ x. at_end x.left x) (part_appends (actions_appends calls eres program.functions program.ends) budget e)
         ∙ at_end_appends r.left r
 
-    pub behind_records_append : (left : Left) (e : End S) → behind_records calls eres program budget left (with_output_before out e) ≡ finish_with_output_before out (behind_records calls eres program budget left e)
-    behind_records_append through e = ends_append e
-    behind_records_append records.next_file e = ends_append e
-    behind_records_append (records.exit n) e = ends_append e
-    behind_records_append (records.fault f) e = refl
-    behind_records_append clash e = refl
+    pub after_records_append : (left : Left) (e : End S) → after_records calls eres program budget left (with_output_before out e) ≡ finish_with_output_before out (after_records calls eres program budget left e)
+    after_records_append through e = ends_append e
+    after_records_append records.next_file e = ends_append e
+    after_records_append (records.exit n) e = ends_append e
+    after_records_append (records.fault f) e = refl
+    after_records_append clash e = refl

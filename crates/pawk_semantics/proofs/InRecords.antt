@@ -17,7 +17,7 @@ use Rattle.pawk_semantics.specs.Limits.{greatest_calls}
 use Rattle.pawk_semantics.specs.Parts.{Moment, Outcome, gives, halts, Part, give}
 use Rattle.pawk_semantics.specs.Meaning.{call_at}
 use Rattle.pawk_semantics.specs.Records.{Left, through, next_file, exit, fault, clash, is_inside, End, end_of_halt, end_of, opening_moment, run_part, after_read, stays_inside, holds, does, reads, begins, in_range, selects, rules_from, one_record, actions}
-use Rattle.pawk_semantics.specs.Runs.{is_skipped, behind, records_from}
+use Rattle.pawk_semantics.specs.Runs.{is_skipped, after_leaving, records_from}
 use Rattle.pawk_semantics.specs.Lockstep.{Access, writes, Resource, rule_ranges, Pair, IsPrefix, refusal_of, state_of, world_of, output_of, Reaches, SameOutcome, InStep, GoesOn, EndsBy}
 use Rattle.pawk_semantics.specs.Allows.{LooksAt, Allows, AllowsStmts, AllowsFunctions, AllowsSelector, AllowsRules, AllowsMain, AllowsActions}
 use Rattle.pawk_semantics.specs.Laws.{EndReaches, IsFinal, RefusalsAreFinal, LeftBy, SameEnd, EndsInStep}
@@ -130,37 +130,37 @@ module _ {S : Type 0} (permits : Access → Resource → Type 0) (before : S →
   onto_if true e f g h k = h
   onto_if false e f g h k = k
 
-  behind_onto : (go : Option ℕ → End S → End S) (file : ℕ) (left : Left) (e : End S) → ((skip : Option ℕ) → Onto e (go skip e)) → Onto e (behind go file left e)
-  behind_onto go file through e h = h None
-  behind_onto go file next_file e h = h (Some file)
-  behind_onto go file (exit n) e h = onto_here e
-  behind_onto go file (fault f) e h = onto_here e
-  behind_onto go file clash e h = onto_here e
+  after_onto : (go : Option ℕ → End S → End S) (file : ℕ) (left : Left) (e : End S) → ((skip : Option ℕ) → Onto e (go skip e)) → Onto e (after_leaving go file left e)
+  after_onto go file through e h = h None
+  after_onto go file next_file e h = h (Some file)
+  after_onto go file (exit n) e h = onto_here e
+  after_onto go file (fault f) e h = onto_here e
+  after_onto go file clash e h = onto_here e
 
   left_if : (b : Bool) (f g : End S) → LeftBy (EndsBy on) f.left → LeftBy (EndsBy on) g.left → LeftBy (EndsBy on) (if b then f else g).left
   left_if true f g h k = h
   left_if false f g h k = k
 
-  behind_left : (go : Option ℕ → End S → End S) (file : ℕ) (left : Left) (e : End S) → LeftBy (EndsBy on) e.left → ((skip : Option ℕ) → LeftBy (EndsBy on) (go skip e).left) → LeftBy (EndsBy on) (behind go file left e).left
-  behind_left go file through e k h = h None
-  behind_left go file next_file e k h = h (Some file)
-  behind_left go file (exit n) e k h = k
-  behind_left go file (fault f) e k h = k
-  behind_left go file clash e k h = k
+  leaving_left : (go : Option ℕ → End S → End S) (file : ℕ) (left : Left) (e : End S) → LeftBy (EndsBy on) e.left → ((skip : Option ℕ) → LeftBy (EndsBy on) (go skip e).left) → LeftBy (EndsBy on) (after_leaving go file left e).left
+  leaving_left go file through e k h = h None
+  leaving_left go file next_file e k h = h (Some file)
+  leaving_left go file (exit n) e k h = k
+  leaving_left go file (fault f) e k h = k
+  leaving_left go file clash e k h = k
 
   -- a refusal ends the run, or the run goes on
-  reaches_behind : (r : Option (Halt × S)) (s : S) (state : RecordState) (out : List ℕ) (e : End S) (go : Option ℕ → End S → End S) (file : ℕ) → IsFinal r → ((skip : Option ℕ) → Onto e (go skip e)) → EndReaches before r s state out e → EndReaches before r s state out (behind go file e.left e)
-  reaches_behind (Some (halt.fault f, q)) s state out e go file final h is =
-      subst (λ (x : End S). behind go file x.left x ≡ end_of_halt (halt.fault f) q state out) (sym is) refl
-  reaches_behind (Some (halt.clash, q)) s state out e go file final h is =
-      subst (λ (x : End S). behind go file x.left x ≡ end_of_halt halt.clash q state out) (sym is) refl
-  reaches_behind (Some (halt.exit n, q)) s state out e go file final h is =
-      subst (λ (x : End S). behind go file x.left x ≡ end_of_halt (halt.exit n) q state out) (sym is) refl
-  reaches_behind (Some (halt.next, q)) s state out e go file final h is = absurd final
-  reaches_behind (Some (halt.next_file, q)) s state out e go file final h is = absurd final
-  reaches_behind None s state out e go file final h is =
-      let k = behind_onto go file e.left e h in
-      (on.then s e.world (behind go file e.left e).world is.0 k.0, prefix_then out e.output (behind go file e.left e).output is.1 k.1)
+  reaches_after : (r : Option (Halt × S)) (s : S) (state : RecordState) (out : List ℕ) (e : End S) (go : Option ℕ → End S → End S) (file : ℕ) → IsFinal r → ((skip : Option ℕ) → Onto e (go skip e)) → EndReaches before r s state out e → EndReaches before r s state out (after_leaving go file e.left e)
+  reaches_after (Some (halt.fault f, q)) s state out e go file final h is =
+      subst (λ (x : End S). after_leaving go file x.left x ≡ end_of_halt (halt.fault f) q state out) (sym is) refl
+  reaches_after (Some (halt.clash, q)) s state out e go file final h is =
+      subst (λ (x : End S). after_leaving go file x.left x ≡ end_of_halt halt.clash q state out) (sym is) refl
+  reaches_after (Some (halt.exit n, q)) s state out e go file final h is =
+      subst (λ (x : End S). after_leaving go file x.left x ≡ end_of_halt (halt.exit n) q state out) (sym is) refl
+  reaches_after (Some (halt.next, q)) s state out e go file final h is = absurd final
+  reaches_after (Some (halt.next_file, q)) s state out e go file final h is = absurd final
+  reaches_after None s state out e go file final h is =
+      let k = after_onto go file e.left e h in
+      (on.then s e.world (after_leaving go file e.left e).world is.0 k.0, prefix_then out e.output (after_leaving go file e.left e).output is.1 k.1)
 
   module _ (eres : List (List ℕ)) (code : Code) (budget : ℕ) where
     abbrev record_end : Item → End S → End S
@@ -172,18 +172,18 @@ module _ {S : Type 0} (permits : Access → Resource → Type 0) (before : S →
       records_onto (i ∷ is') skip e =
           let r = record_end i e in
           let go : Option ℕ → End S → End S = λ s x. records_from calls eres code budget s x is' in
-          onto_if (is_skipped skip i) e (records_from calls eres code budget skip e is') (behind go i.file r.left r)
+          onto_if (is_skipped skip i) e (records_from calls eres code budget skip e is') (after_leaving go i.file r.left r)
           (records_onto is' skip e)
-          (onto_then e r (behind go i.file r.left r) (goes i e).0 (behind_onto go i.file r.left r (λ s. records_onto is' s r)))
+          (onto_then e r (after_leaving go i.file r.left r) (goes i e).0 (after_onto go i.file r.left r (λ s. records_onto is' s r)))
 
       pub records_left : (items : List Item) (skip : Option ℕ) (e : End S) → LeftBy (EndsBy on) e.left → LeftBy (EndsBy on) (records_from calls eres code budget skip e items).left
       records_left [] skip e h = h
       records_left (i ∷ is') skip e h =
           let r = record_end i e in
           let go : Option ℕ → End S → End S = λ s x. records_from calls eres code budget s x is' in
-          left_if (is_skipped skip i) (records_from calls eres code budget skip e is') (behind go i.file r.left r)
+          left_if (is_skipped skip i) (records_from calls eres code budget skip e is') (after_leaving go i.file r.left r)
           (records_left is' skip e h)
-          (behind_left go i.file r.left r (goes i e).1 (λ s. records_left is' s r (goes i e).1))
+          (leaving_left go i.file r.left r (goes i e).1 (λ s. records_left is' s r (goes i e).1))
 
 -- ---- two worlds
 
@@ -224,12 +224,12 @@ module _ {S T : Type 0} (w : Pair S T) where
   in_step_if true e e' f f' h k = h
   in_step_if false e e' f f' h k = k
 
-  same_behind : (go : Option ℕ → End S → End S) (go' : Option ℕ → End T → End T) (file : ℕ) (left : Left) (e : End S) (f : End T) → SameEnd w e f → ((skip : Option ℕ) → EndsInStep w (go skip e) (go' skip f)) → EndsInStep w (behind go file left e) (behind go' file left f)
-  same_behind go go' file through e f same h = h None
-  same_behind go go' file next_file e f same h = h (Some file)
-  same_behind go go' file (exit n) e f same h = inl same
-  same_behind go go' file (fault x) e f same h = inl same
-  same_behind go go' file clash e f same h = inl same
+  equal_after : (go : Option ℕ → End S → End S) (go' : Option ℕ → End T → End T) (file : ℕ) (left : Left) (e : End S) (f : End T) → SameEnd w e f → ((skip : Option ℕ) → EndsInStep w (go skip e) (go' skip f)) → EndsInStep w (after_leaving go file left e) (after_leaving go' file left f)
+  equal_after go go' file through e f same h = h None
+  equal_after go go' file next_file e f same h = h (Some file)
+  equal_after go go' file (exit n) e f same h = inl same
+  equal_after go go' file (fault x) e f same h = inl same
+  equal_after go go' file clash e f same h = inl same
 
 -- a part from an end of what came before
 module _ {S T : Type 0} {t : Track S T} (budget : ℕ) {X : Type 0} {P : X → Type 0} {p : Part S X} {q : Part T X} (goes : Goes t P p q) where
@@ -271,9 +271,9 @@ module _ {S T : Type 0} (t : Track S T) (keeps : KeepsItems t) (final : Refusals
   record_in_step i e f same = part_in_step budget (goes_record {t = t} eres code.functions code.rules may keeps i) e f same
 
   -- how both go on after a record
-  behind_in_step : (go : Option ℕ → End S → End S) (go' : Option ℕ → End T → End T) (file : ℕ) (e : End S) (f : End T) → ((skip : Option ℕ) → Onto t.pair.permits t.pair.before t.pair.first_calls t.first e (go skip e)) → ((skip : Option ℕ) → Onto t.pair.permits t.pair.before_second t.pair.second_calls t.second f (go' skip f)) → ((skip : Option ℕ) → SameEnd t.pair e f → EndsInStep t.pair (go skip e) (go' skip f)) → EndsInStep t.pair e f → EndsInStep t.pair (behind go file e.left e) (behind go' file f.left f)
-  behind_in_step go go' file e f onto onto' h = ⊎_elim
-      (λ k. subst (λ x. EndsInStep t.pair (behind go file e.left e) (behind go' file x f)) k.lefts (same_behind t.pair go go' file e.left e f k (λ skip. h skip k)))
+  after_in_step : (go : Option ℕ → End S → End S) (go' : Option ℕ → End T → End T) (file : ℕ) (e : End S) (f : End T) → ((skip : Option ℕ) → Onto t.pair.permits t.pair.before t.pair.first_calls t.first e (go skip e)) → ((skip : Option ℕ) → Onto t.pair.permits t.pair.before_second t.pair.second_calls t.second f (go' skip f)) → ((skip : Option ℕ) → SameEnd t.pair e f → EndsInStep t.pair (go skip e) (go' skip f)) → EndsInStep t.pair e f → EndsInStep t.pair (after_leaving go file e.left e) (after_leaving go' file f.left f)
+  after_in_step go go' file e f onto onto' h = ⊎_elim
+      (λ k. subst (λ x. EndsInStep t.pair (after_leaving go file e.left e) (after_leaving go' file x f)) k.lefts (equal_after t.pair go go' file e.left e f k (λ skip. h skip k)))
       (λ k. let a = t.pair.first_calls.ask k.request k.first in let b = t.pair.second_calls.ask k.request k.second in inr (record {
         request = k.request;
         permitted = k.permitted;
@@ -285,8 +285,8 @@ module _ {S T : Type 0} (t : Track S T) (keeps : KeepsItems t) (final : Refusals
         outputs = k.outputs;
         related = k.related;
         parts_there = k.parts_there;
-        first_then = reaches_behind t.pair.permits t.pair.before t.pair.first_calls t.first (refusal_of a) (state_of a) k.state k.output e go file (final k.request k.first) onto k.first_then;
-        second_then = reaches_behind t.pair.permits t.pair.before_second t.pair.second_calls t.second (refusal_of b) (state_of b) k.state k.second_output f go' file (final' k.request k.second) onto' k.second_then;
+        first_then = reaches_after t.pair.permits t.pair.before t.pair.first_calls t.first (refusal_of a) (state_of a) k.state k.output e go file (final k.request k.first) onto k.first_then;
+        second_then = reaches_after t.pair.permits t.pair.before_second t.pair.second_calls t.second (refusal_of b) (state_of b) k.state k.second_output f go' file (final' k.request k.second) onto' k.second_then;
       }))
 
   pub records_in_step : (items : List Item) (skip : Option ℕ) (e : End S) (f : End T) → SameEnd t.pair e f → EndsInStep t.pair (records_from t.pair.first_calls eres code budget skip e items) (records_from t.pair.second_calls eres code budget skip f items)
@@ -297,10 +297,10 @@ module _ {S T : Type 0} (t : Track S T) (keeps : KeepsItems t) (final : Refusals
       let go : Option ℕ → End S → End S = λ s x. records_from t.pair.first_calls eres code budget s x is' in
       let go' : Option ℕ → End T → End T = λ s x. records_from t.pair.second_calls eres code budget s x is' in
       in_step_if t.pair (is_skipped skip i)
-      (records_from t.pair.first_calls eres code budget skip e is') (behind go i.file r.left r)
-      (records_from t.pair.second_calls eres code budget skip f is') (behind go' i.file r'.left r')
+      (records_from t.pair.first_calls eres code budget skip e is') (after_leaving go i.file r.left r)
+      (records_from t.pair.second_calls eres code budget skip f is') (after_leaving go' i.file r'.left r')
       (records_in_step is' skip e f same)
-      (behind_in_step go go' i.file r r'
+      (after_in_step go go' i.file r r'
       (λ s. records_onto t.pair.permits t.pair.before t.pair.first_calls t.first eres code budget first_goes is' s r)
       (λ s. records_onto t.pair.permits t.pair.before_second t.pair.second_calls t.second eres code budget second_goes is' s r')
       (λ s k. records_in_step is' s r r' k)

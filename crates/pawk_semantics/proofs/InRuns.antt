@@ -12,7 +12,7 @@ use Rattle.pawk_store.specs.Slots.{rs_slot}
 use Rattle.pawk_code.specs.Programs.{Code}
 use Rattle.pawk_input.specs.Input.{File, Item, items}
 use Rattle.pawk_semantics.specs.Records.{Left, through, next_file, exit, fault, clash, End, end_of_halt, run_part, one_record, actions}
-use Rattle.pawk_semantics.specs.Runs.{Place, in_begin, at_record, in_end, Ending, status, fault_at, disallowed, Finish, reads_records, finish_of, at_end, take_separator, records_from, ends_from, behind_records, records_by_rs, behind_begin, run}
+use Rattle.pawk_semantics.specs.Runs.{Place, in_begin, at_record, in_end, Ending, status, fault_at, disallowed, Finish, reads_records, finish_of, at_end, take_separator, records_from, ends_from, after_records, records_by_rs, after_begin, run}
 use Rattle.pawk_semantics.specs.Lockstep.{Access, Resource, IsPrefix, refusal_of, state_of, GoesOn, EndsBy}
 use Rattle.pawk_semantics.specs.Allows.{AllowsCode}
 use Rattle.pawk_semantics.specs.Laws.{EndReaches, RefusalsAreFinal, LeftBy, SameEnd, EndsInStep, IsAt, FinishReaches, EndingBy, FinishInStep}
@@ -78,10 +78,10 @@ module _ {S : Type 0} (calls : Calls S) (p : Program) where
   end_part e = run_part (actions calls p.eres p.code.functions p.code.ends) p.budget e.world e.state e.output
 
   abbrev go_begin : List File → Left → End S → Finish S
-  go_begin files left e = behind_begin calls p.eres p.code p.budget files left e
+  go_begin files left e = after_begin calls p.eres p.code p.budget files left e
 
   abbrev go_records : Left → End S → Finish S
-  go_records left e = behind_records calls p.eres p.code p.budget left e
+  go_records left e = after_records calls p.eres p.code p.budget left e
 
   abbrev go_by_rs : List ℕ → List File → End S → Finish S
   go_by_rs rs files e = records_by_rs calls p.eres p.code p.budget rs files e

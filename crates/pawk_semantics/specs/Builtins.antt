@@ -137,13 +137,13 @@ replaced count.All e r s = replace_from (expand e) r 0 0 false s
 
 -- ---- texts with a separator between
 
-abbrev pub joined_behind : List ℕ → List (List ℕ) → List ℕ
-joined_behind separator [] = []
-joined_behind separator (t ∷ ts) = separator ++ (t ++ joined_behind separator ts)
+abbrev pub joined_after : List ℕ → List (List ℕ) → List ℕ
+joined_after separator [] = []
+joined_after separator (t ∷ ts) = separator ++ (t ++ joined_after separator ts)
 
 abbrev pub joined_by : List ℕ → List (List ℕ) → List ℕ
 joined_by separator [] = []
-joined_by separator (t ∷ ts) = t ++ joined_behind separator ts
+joined_by separator (t ∷ ts) = t ++ joined_after separator ts
 
 -- ---- split
 

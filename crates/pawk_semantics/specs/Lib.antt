@@ -4,6 +4,7 @@ pub mod Builtins
 pub mod Meaning
 pub mod Limits
 pub mod Records
+pub mod LeftViews
 pub mod Runs
 pub mod Lockstep
 pub mod Allows

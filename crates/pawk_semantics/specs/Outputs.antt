@@ -6,7 +6,7 @@ use Rattle.pawk_world.specs.Worlds.{Calls}
 use Rattle.pawk_code.specs.Programs.{Code}
 use Rattle.pawk_input.specs.Input.{Item}
 use Rattle.pawk_semantics.specs.Records.{Left, End}
-use Rattle.pawk_semantics.specs.Runs.{Finish, records_from, behind_records}
+use Rattle.pawk_semantics.specs.Runs.{Finish, records_from, after_records}
 
 -- texts one after the other
 abbrev pub in_a_row : List (Vec ℕ Global) → List ℕ
@@ -31,5 +31,5 @@ finish_with_output_before out f = record f { output = out ++ f.output }
 abbrev pub OutputStaysLaw : {S : Type 0} → Calls S → Type 0
 OutputStaysLaw {S} calls =
     (eres : List (List ℕ)) (code : Code) (budget : ℕ) (left : Left) (out : List ℕ) (e : End S) →
-    behind_records calls eres code budget left (with_output_before out e)
-    ≡ finish_with_output_before out (behind_records calls eres code budget left e)
+    after_records calls eres code budget left (with_output_before out e)
+    ≡ finish_with_output_before out (after_records calls eres code budget left e)

@@ -47,12 +47,12 @@ module _ {S : Type 0} where
   finish_of ending e = record { world = e.world; state = e.state; output = e.output; ending = ending }
 
   -- how a run goes on after a record: `nextfile` leaves the rest of its file unread
-  abbrev pub behind : (Option ℕ → End S → End S) → ℕ → Left → End S → End S
-  behind go file through e = go None e
-  behind go file next_file e = go (Some file) e
-  behind go file (exit n) e = e
-  behind go file (fault f) e = e
-  behind go file clash e = e
+  abbrev pub after_leaving : (Option ℕ → End S → End S) → ℕ → Left → End S → End S
+  after_leaving go file through e = go None e
+  after_leaving go file next_file e = go (Some file) e
+  after_leaving go file (exit n) e = e
+  after_leaving go file (fault f) e = e
+  after_leaving go file clash e = e
 
   -- the end of a run after the actions of END
   abbrev pub at_end : Left → End S → Finish S
@@ -72,37 +72,37 @@ module _ {S : Type 0} (calls : Calls S) (eres : List (List ℕ)) (code : Code) (
   records_from skip e (i ∷ is') =
       if is_skipped skip i then records_from skip e is' else
       (let r = run_part (one_record calls eres code.functions code.rules i) budget e.world e.state e.output in
-      behind (λ s x. records_from s x is') i.file r.left r)
+      after_leaving (λ s x. records_from s x is') i.file r.left r)
 
   abbrev pub ends_from : End S → Finish S
   ends_from e =
       let r = run_part (actions calls eres code.functions code.ends) budget e.world e.state e.output in at_end r.left r
 
   -- how the run goes on after the records; a fault is at the record that was read last
-  abbrev pub behind_records : Left → End S → Finish S
-  behind_records through e = ends_from e
-  behind_records next_file e = ends_from e
-  behind_records (exit n) e = ends_from e
-  behind_records (fault f) e = finish_of (fault_at f (at_record e.state.nr)) e
-  behind_records clash e = finish_of disallowed e
+  abbrev pub after_records : Left → End S → Finish S
+  after_records through e = ends_from e
+  after_records next_file e = ends_from e
+  after_records (exit n) e = ends_from e
+  after_records (fault f) e = finish_of (fault_at f (at_record e.state.nr)) e
+  after_records clash e = finish_of disallowed e
 
   -- the records of files by RS as BEGIN left it; RS of more than one byte is a fault at record 1
   abbrev pub records_by_rs : List ℕ → List File → End S → Finish S
   records_by_rs rs files e =
       if nat_le (length rs) 1
-      then (let r = records_from None (take_separator rs e) (items rs files) in behind_records r.left r)
+      then (let r = records_from None (take_separator rs e) (items rs files) in after_records r.left r)
       else finish_of (fault_at faults.Rs (at_record 1)) (take_separator rs e)
 
   -- how the run goes on after BEGIN: `exit` leads to END
-  abbrev pub behind_begin : List File → Left → End S → Finish S
-  behind_begin files through e =
+  abbrev pub after_begin : List File → Left → End S → Finish S
+  after_begin files through e =
       if reads_records code then records_by_rs (text_of (calls.look rs_slot e.world)) files e else ends_from e
-  behind_begin files next_file e = ends_from e
-  behind_begin files (exit n) e = ends_from e
-  behind_begin files (fault f) e = finish_of (fault_at f in_begin) e
-  behind_begin files clash e = finish_of disallowed e
+  after_begin files next_file e = ends_from e
+  after_begin files (exit n) e = ends_from e
+  after_begin files (fault f) e = finish_of (fault_at f in_begin) e
+  after_begin files clash e = finish_of disallowed e
 
   -- the run of a program from a world and a record state
   abbrev pub run : List File → S → RecordState → Finish S
   run files s state =
-      let r = run_part (actions calls eres code.functions code.begins) budget s state [] in behind_begin files r.left r
+      let r = run_part (actions calls eres code.functions code.begins) budget s state [] in after_begin files r.left r

@@ -38,8 +38,8 @@ HaltsBy ends (halts h s state out) = ends h
 -- ---- one record
 
 -- the state after a record, which is this line by then: NR is one more, FNR and FILENAME are the record's
-abbrev pub state_behind_record : Record → Item → RecordState → RecordState
-state_behind_record line i before = record before { line = line; nr = suc before.nr; fnr = i.fnr; name = Maybe i.name }
+abbrev pub state_after_record : Record → Item → RecordState → RecordState
+state_after_record line i before = record before { line = line; nr = suc before.nr; fnr = i.fnr; name = Maybe i.name }
 
 -- A record changes nothing else of the record state, and does not leave its file. (`exit` gives the status at the end.)
 abbrev pub RecordKeepsLaw : {S : Type 0} → (Access → Resource → Type 0) → Calls S → Type 0
@@ -48,27 +48,27 @@ RecordKeepsLaw {S} permits calls =
     (eres : List (List ℕ)) (functions : List Function) (rules : List Rule) → AllowsMain permits functions rules →
     (i : Item) (m : Moment S) → AllHeld permits m.frame →
     let o = one_record calls eres functions rules i m in
-    (record_state_of o ≡ state_behind_record (record_state_of o).line i m.state) × HaltsBy StaysInFile o
+    (record_state_of o ≡ state_after_record (record_state_of o).line i m.state) × HaltsBy StaysInFile o
 
 -- ---- records
 
 -- the status after records: what `exit` gave, if they were left by it
-abbrev pub status_behind : ℕ → Left → ℕ
-status_behind before through = before
-status_behind before next_file = before
-status_behind before (exit n) = n
-status_behind before (fault f) = before
-status_behind before clash = before
+abbrev pub status_after : ℕ → Left → ℕ
+status_after before through = before
+status_after before next_file = before
+status_after before (exit n) = n
+status_after before (fault f) = before
+status_after before clash = before
 
 -- the state after n records that were left so, of which only the record, FNR and FILENAME are as they are now
-abbrev pub state_behind_records : ℕ → Left → RecordState → RecordState → RecordState
-state_behind_records count left before now =
+abbrev pub state_after_records : ℕ → Left → RecordState → RecordState → RecordState
+state_after_records count left before now =
     record before {
       line = now.line;
       nr = before.nr + count;
       fnr = now.fnr;
       name = now.name;
-      status = status_behind before.status left;
+      status = status_after before.status left;
     }
 
 -- The end of records: they were read up to one that ended the run, or all of them; NR counts what was read, and nothing
@@ -81,7 +81,7 @@ pub record RecordsKeep {S : Type 0} (calls : Calls S) (eres : List (List ℕ)) (
   pub all_read : (records_from calls eres code budget None e items).left ≡ through → items ≡ read
   pub state :
       let f = records_from calls eres code budget None e items in
-      f.state ≡ state_behind_records (length read) f.left e.state f.state
+      f.state ≡ state_after_records (length read) f.left e.state f.state
   pub in_file : LeftBy StaysInFile (records_from calls eres code budget None e items).left
 
 abbrev pub RecordsKeepLaw : {S : Type 0} → (Access → Resource → Type 0) → Calls S → Type 0

@@ -2,3 +2,6 @@
 #![tactic(auto)]
 
 pub mod law;
+mod left;
+
+pub use left::Left;

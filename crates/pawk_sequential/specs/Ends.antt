@@ -6,15 +6,8 @@ use Rattle.pawk_world.specs.declared.halt.Halt.{Halt as Code}
 use Rattle.pawk_world.specs.Halts.{Halt, halt_of}
 use Rattle.pawk_semantics.specs.Parts.{Moment, Outcome, gives, halts}
 use Rattle.pawk_semantics.specs.Records.{Left as Leaving, through, next_file, exit, fault, clash, End}
-use Rattle.pawk_sequential.specs.declared.left.Left.{Left}
-use Rattle.pawk_sequential.specs.declared.left.Left.TheVariants as left
-
-abbrev pub left_view : Left → Leaving
-left_view left.Through = through
-left_view left.NextFile = next_file
-left_view (left.Exit n) = exit n
-left_view (left.Fault f) = fault f
-left_view left.Clash = clash
+use Rattle.pawk_semantics.specs.LeftViews.{left_view}
+use Rattle.pawk_semantics.specs.declared.left.Left.{Left}
 
 -- whether no record is read after a part that is left so
 abbrev pub ends_records : Leaving → Bool

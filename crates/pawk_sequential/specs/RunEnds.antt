@@ -11,7 +11,7 @@ use Rattle.pawk_world.specs.Worlds.{Calls}
 use Rattle.pawk_code.specs.Programs.{Code}
 use Rattle.pawk_input.specs.Input.{Item}
 use Rattle.pawk_semantics.specs.Records.{End}
-use Rattle.pawk_semantics.specs.Runs.{Place, in_begin, at_record, in_end, Ending, status, fault_at, disallowed, Finish, records_from, behind_records}
+use Rattle.pawk_semantics.specs.Runs.{Place, in_begin, at_record, in_end, Ending, status, fault_at, disallowed, Finish, records_from, after_records}
 use Rattle.pawk_sequential.specs.declared.ending.Place.{Place as CodePlace}
 use Rattle.pawk_sequential.specs.declared.ending.Place.TheVariants as place
 use Rattle.pawk_sequential.specs.declared.ending.Ending.{Ending as CodeEnding}
@@ -41,7 +41,7 @@ finish_view world run ending = record {
 -- all records from an end on, and what follows them
 abbrev pub run_and_end : {S : Type 0} → Calls S → Code → ℕ → List Item → End S → Finish S
 run_and_end calls code budget records e =
-    (let r = records_from calls code.expressions code budget None e records in behind_records calls code.expressions code budget r.left r)
+    (let r = records_from calls code.expressions code budget None e records in after_records calls code.expressions code budget r.left r)
 
 -- the variables that a run sets have these values in a record state
 abbrev pub AreSpecials : Specials → RecordState → Type 0
@@ -50,7 +50,7 @@ AreSpecials specials state = (v : Special) → special_of specials v ≡ special
 -- the world, the output, the variables that the run sets and the ending are those with which a run finished
 pub record Finishes {S : Type 0} (meant : Finish S) (now : S) (shown : CodeFinish) : Type 0 where
   pub world : meant.world ≡ now
-  pub output : meant.output ≡ shown.output.items
+  pub output : meant.output ≡ shown.output
   pub specials : AreSpecials shown.specials meant.state
   pub ending : meant.ending ≡ ending_view shown.ending
 
@@ -60,3 +60,8 @@ pub record Answers (meant : Finish Globals) (outcome : CodeOutcome) : Type 0 whe
   pub globals : meant.world ≡ outcome.globals
   pub specials : AreSpecials outcome.specials meant.state
   pub ending : meant.ending ≡ ending_view outcome.ending
+
+-- what a run leaves that finished so over these globals
+abbrev pub outcome_of : CodeFinish → Globals → CodeOutcome
+outcome_of finish globals =
+    record { output = finish.output; globals = globals; specials = finish.specials; ending = finish.ending }

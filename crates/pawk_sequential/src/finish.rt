@@ -5,6 +5,7 @@ ghost use Rattle.pawk_store.specs.StateViews.{state_of};
 ghost use Rattle.pawk_sequential.specs.RunEnds.{AreSpecials};
 
 use crate::ending::Ending;
+use crate::output::Output;
 use pawk_runtime::Run;
 use pawk_store::Specials;
 use std::alloc::AllocError;
@@ -14,7 +15,7 @@ use std::mem;
 /// how it ended.
 #[derive(Drop)]
 pub struct Finish {
-    pub output: Vec<u8>,
+    pub output: Output,
     pub specials: Specials,
     pub ending: Ending,
 }
@@ -22,15 +23,16 @@ pub struct Finish {
 impl Finish {
     /// What a run leaves that ended so; the output is taken out of it.
     pub(crate) fn of(run: &mut Run<'_>, ending: Ending) -> Result<Finish, AllocError>
-        ensures output { IfOk result (λ finish. finish.output.items ≡ run.old.output.items) }
+        ensures output { IfOk result (λ finish. finish.output ≡ run.old.output.items) }
         ensures ending { IfOk result (λ finish. finish.ending ≡ ending) }
         ensures specials { IfOk result (λ finish.
             AreSpecials finish.specials (state_of run.old.state)) }
     {
         let alloc = run.alloc;
         let specials = run.state.specials(alloc)?;
+        let output = mem::replace(&mut run.output, Vec::new(alloc));
         Ok(Finish {
-            output: mem::replace(&mut run.output, Vec::new(alloc)),
+            output: Output::whole(alloc, output)?,
             specials,
             ending,
         })

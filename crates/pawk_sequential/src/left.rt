@@ -7,23 +7,9 @@ ghost use Rattle.pawk_semantics.specs.Records.{end_of};
 ghost use Rattle.pawk_sequential.specs.Ends.{EndsBy, HaltsBy, end_view};
 
 use pawk_runtime::Run;
-use pawk_value::Fault;
+use pawk_semantics::Left;
 use pawk_world::{Halt, World};
 use std::alloc::AllocError;
-
-/// How one record, or the actions of BEGIN or END, are left.
-#[derive(Clone, Copy)]
-pub enum Left {
-    Through,
-    /// `nextfile`.
-    NextFile,
-    /// `exit` with this status.
-    Exit(u8),
-    /// A fault of the language.
-    Fault(Fault),
-    /// The world does not allow what was asked.
-    Clash,
-}
 
 /// How a part is left that halted; `exit` gives the last status.
 #[inline(always)]

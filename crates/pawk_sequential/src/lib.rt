@@ -1,5 +1,8 @@
 //! A run of one thread: one record, records one after the other, the actions of BEGIN and END, and
 //! whole runs.
+//!
+//! `inline(always)` marks what every record or rule passes through, `inline(never)` the loop that passes records over, so
+//! that the loop of other programs stays small (counted by bench/).
 #![tactic(auto)]
 
 mod ending;
@@ -17,10 +20,10 @@ mod whole;
 pub use ending::{Ending, Place};
 pub use finish::Finish;
 pub use job::Job;
-pub use left::Left;
 pub use outcome::{Outcome, opening_run, run_one};
 pub use output::Output;
 pub use part::{actions, record};
 pub use pawk_runtime::Run;
+pub use pawk_semantics::Left;
 pub use records::run_records;
 pub use whole::{make_ready, run_after_begin, run_after_records, run_begin, run_program};

@@ -8,7 +8,7 @@ ghost use Rattle.pawk_store.specs.Openings.{opened, pairs_of};
 ghost use Rattle.pawk_store.specs.RecordStates.{opening};
 ghost use Rattle.pawk_store.specs.StateViews.{state_of};
 ghost use Rattle.pawk_semantics.specs.Runs as spec;
-ghost use Rattle.pawk_sequential.specs.RunEnds.{Answers};
+ghost use Rattle.pawk_sequential.specs.RunEnds.{Answers, outcome_of};
 
 use crate::Job;
 use crate::ending::Ending;
@@ -30,6 +30,25 @@ pub struct Outcome {
     /// What the variables that the run sets had at its end.
     pub specials: Specials,
     pub ending: Ending,
+}
+
+impl Outcome {
+    /// What a run leaves that finished so over these globals.
+    pub fn of(finish: Finish, globals: Globals) -> Outcome
+        ensures { result ≡ outcome_of finish globals }
+    {
+        let Finish {
+            output,
+            specials,
+            ending,
+        } = finish;
+        Outcome {
+            output,
+            globals,
+            specials,
+            ending,
+        }
+    }
 }
 
 /// What a run begins with: no output, no record.
@@ -65,15 +84,6 @@ pub fn run_one(
     let arrays = job.code.arrays.len();
     let mut globals = Globals::open(alloc, names, arrays, assignments)?;
     let run = opening_run(alloc, job)?;
-    let Finish {
-        output,
-        specials,
-        ending,
-    } = run_program(job, input, &mut globals, run)?;
-    Ok(Outcome {
-        output: Output::whole(alloc, output)?,
-        globals,
-        specials,
-        ending,
-    })
+    let finish = run_program(job, input, &mut globals, run)?;
+    Ok(Outcome::of(finish, globals))
 }

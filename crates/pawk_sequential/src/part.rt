@@ -10,13 +10,14 @@ ghost use Rattle.pawk_semantics.specs.Records as spec;
 ghost use Rattle.pawk_runtime.specs.Moments.{moment};
 ghost use Rattle.pawk_sequential.specs.Ends.{EndsBy, end_view};
 
-use crate::left::{Left, left_by};
+use crate::left::left_by;
 use crate::rules::{do_actions, do_rules, read_record};
 use pawk_code::program::Rule;
 use pawk_code::statement::Statement;
 use pawk_eval::Context;
 use pawk_input::Item;
 use pawk_runtime::Run;
+use pawk_semantics::Left;
 use pawk_world::{Halt, World};
 use std::alloc::AllocError;
 

@@ -6,19 +6,20 @@ ghost use Rattle.pawk_input.specs.Input.{item_of};
 ghost use Rattle.pawk_input.specs.Walk.{items_left};
 ghost use Rattle.pawk_semantics.specs.Runs.{records_from};
 ghost use Rattle.pawk_semantics.specs.Runs as spec;
-ghost use Rattle.pawk_sequential.specs.declared.left.Left.{Left};
-ghost use Rattle.pawk_sequential.specs.declared.left.Left.TheVariants.{Through};
-ghost use Rattle.pawk_sequential.specs.Ends.{end_view, left_view};
+ghost use Rattle.pawk_semantics.specs.LeftViews.{left_view};
+ghost use Rattle.pawk_semantics.specs.declared.left.Left.{Left};
+ghost use Rattle.pawk_semantics.specs.declared.left.Left.TheVariants.{Through};
+ghost use Rattle.pawk_sequential.specs.Ends.{end_view};
 ghost use Rattle.pawk_sequential.specs.Ends as ends;
 ghost use Rattle.pawk_code.specs.Programs.{Code};
 ghost use Rattle.pawk_prefilter.specs.Passages.{IsPassage};
 
 use crate::job::Job;
-use crate::left::Left;
 use crate::part::record;
 use pawk_input::{Item, Records};
 use pawk_prefilter::Passage;
 use pawk_runtime::Run;
+use pawk_semantics::Left;
 use pawk_world::World;
 use std::alloc::AllocError;
 

@@ -8,11 +8,12 @@ ghost use Rattle.pawk_store.specs.StateViews.{state_of};
 ghost use Rattle.pawk_value.specs.Conversion.{text_of};
 ghost use Rattle.pawk_semantics.specs.Records.{run_part};
 ghost use Rattle.pawk_semantics.specs.Records as record_spec;
-ghost use Rattle.pawk_semantics.specs.Runs.{ends_from, behind_begin};
-ghost use Rattle.pawk_semantics.specs.Runs.{behind_records, records_by_rs};
+ghost use Rattle.pawk_semantics.specs.Runs.{ends_from, after_begin};
+ghost use Rattle.pawk_semantics.specs.Runs.{after_records, records_by_rs};
 ghost use Rattle.pawk_semantics.specs.Runs as spec;
-ghost use Rattle.pawk_sequential.specs.declared.left.Left.TheVariants.{Through};
-ghost use Rattle.pawk_sequential.specs.Ends.{end_view, left_view};
+ghost use Rattle.pawk_semantics.specs.LeftViews.{left_view};
+ghost use Rattle.pawk_semantics.specs.declared.left.Left.TheVariants.{Through};
+ghost use Rattle.pawk_sequential.specs.Ends.{end_view};
 ghost use Rattle.pawk_sequential.specs.RunEnds.{Finishes, finish_view, run_and_end};
 
 use crate::ending::{Ending, Place};
@@ -59,8 +60,9 @@ pub fn run_after_records<W: World>(
     world: &mut W,
     run: &mut Run<'_>,
 ) -> Result<Ending, AllocError>
-    ensures { IfOk result (λ ending. behind_records W.calls (code_view job.entry.code.now).expressions
-        (code_view job.entry.code.now) job.entry.budget (left_view left)
+    ensures { IfOk result (λ ending. after_records W.calls
+        (code_view job.entry.code.now).expressions (code_view job.entry.code.now)
+        job.entry.budget (left_view left)
         (end_view (W.state world.old) run.old left)
         ≡ finish_view (W.state world.new) run.new ending) }
 {
@@ -198,7 +200,7 @@ pub fn run_after_begin<W: World>(
     world: &mut W,
     run: Run<'_>,
 ) -> Result<Finish, AllocError>
-    ensures ends { IfOk result (Finishes (behind_begin W.calls
+    ensures ends { IfOk result (Finishes (after_begin W.calls
         (code_view job.entry.code.now).expressions
         (code_view job.entry.code.now) job.entry.budget (files_of input.old) (left_view left)
         (end_view (W.state world.old) run.entry left)) (W.state world.new)) }

@@ -14,8 +14,8 @@ abbrev pub texts_of : List (Vec ℕ Global) → List (List ℕ)
 texts_of names = map (λ name. name.items) names
 
 -- whether a name of the code has this text
-abbrev pub stands_in : List ℕ → List (Vec ℕ Global) → Bool
-stands_in text names = list_any (λ name. bytes_eq text name.items) names
+abbrev pub is_named_in : List ℕ → List (Vec ℕ Global) → Bool
+is_named_in text names = list_any (λ name. bytes_eq text name.items) names
 
 -- assignments of the code, as names and what they are assigned
 abbrev pub pairs_of : List Assignment → List (List ℕ × List ℕ)

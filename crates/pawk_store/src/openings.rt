@@ -2,7 +2,7 @@
 
 ghost use Rattle.std.specs.Prelude.{◌≡◌, ◌||◌, ◌++◌, [], map, replicate, IfOk, OnOk};
 ghost use Rattle.pawk_value.specs.Value.{lent_value, shown};
-ghost use Rattle.pawk_store.specs.Openings.{texts_of, pairs_of, names_with, stands_in, with_name};
+ghost use Rattle.pawk_store.specs.Openings.{texts_of, pairs_of, names_with, is_named_in, with_name};
 ghost use Rattle.pawk_store.specs.Openings as spec;
 
 use pawk_array::AssociativeArray;
@@ -59,14 +59,14 @@ pub(crate) fn push_opening_values(
 
 /// Whether a name is among others.
 fn is_among(names: &[Vec<u8>], name: &[u8]) -> bool
-    ensures { result ≡ stands_in name.now names.now }
+    ensures { result ≡ is_named_in name.now names.now }
 {
     names.iter().any(|other| name == other.as_slice())
 }
 
 /// Whether a name is among those of the program or the extras.
 fn is_scalar(names: &[Vec<u8>], extras: &[Vec<u8>], name: &[u8]) -> bool
-    ensures { result ≡ (stands_in name.now names.now || stands_in name.now extras.now) }
+    ensures { result ≡ (is_named_in name.now names.now || is_named_in name.now extras.now) }
 {
     is_among(names, name) || is_among(extras, name)
 }

@@ -1,12 +1,11 @@
 -- What the reading of a program text needs.
-use Rattle.std.proofs.Common.{◌≡◌, ◌≢◌, rules, List, [], ◌∷◌, Option, Some, None, refl, sym, ap, subst, ◌∙◌}
+use Rattle.std.proofs.Common.{◌≡◌, ◌≢◌, rules, List, [], Option, Some, None, refl, sym, ap, subst, ◌∙◌}
 use Rattle.pawk_syntax_check.specs.Fits.{Fits}
 use Rattle.pawk_lex.specs.declared.refusal.SyntaxRefusal.{SyntaxRefusal}
 use Rattle.pawk_lex.specs.declared.refusal.SyntaxRefusal.TheVariants as refusal
 use Rattle.pawk_lex.specs.Bytes.{Text}
 use Rattle.pawk_lex.specs.Tokens.{Tok}
 use Rattle.pawk_lex.specs.TokenLists.{EndsBy}
-use Rattle.pawk_ere_syntax.specs.Pattern.{Pattern}
 use Rattle.pawk_syntax_tree.specs.Item.{Part}
 use Rattle.pawk_syntax_tree.specs.ItemCanonical.{canon_program}
 use Rattle.pawk_syntax_tree.specs.ItemParse.{program}
@@ -14,7 +13,7 @@ use Rattle.pawk_syntax_tree.proofs.ProgramLaws.{read_is_derived, derived_is_read
 use Rattle.pawk_syntax_tree.proofs.ItemLow.{read_is_low}
 use Rattle.pawk_syntax_grammar.proofs.ProgramBrackets.{few_program}
 use Rattle.pawk_syntax_grammar.specs.Expressions.{eres, eres_of_program}
-use Rattle.pawk_syntax_grammar.specs.ExpressionReads.{AreSpelled, AreExpressions, Denies}
+use Rattle.pawk_syntax_grammar.specs.ExpressionReads.{AreExpressions, Denies}
 use Rattle.pawk_syntax_grammar.proofs.DerivedPrograms.{derived_program}
 use Rattle.pawk_syntax_grammar.proofs.CanonicalTokens.{of_program}
 use Rattle.pawk_lex.specs.Canonical.{AreBytes}
@@ -30,23 +29,17 @@ use Rattle.pawk_syntax.specs.Items.{AreRead}
 pub whole_program : (ts rest : List Tok) (xs : List Part) → program ts ≡ Some (xs, rest) → program ts ≡ Some (xs, [])
 whole_program ts rest xs e = let none : rest ≡ [] = (read_is_derived ts rest xs e).1 in subst (λ z. program ts ≡ Some (xs, z)) none e
 
--- what is spelled one by one is expressions
-expressions : (xs : List Text) (es : List Pattern) → AreSpelled xs es → AreExpressions xs
-expressions [] es h = tt
-expressions (x ∷ xs) [] h = absurd h
-expressions (x ∷ xs) (e ∷ es) h = ((e, h.0), expressions xs es h.1)
-
 -- the expressions of the tokens are those of the program
 pub same_expressions : (ts : List Tok) (r : Option SyntaxRefusal) (xs : List Part) → AreRead ts r xs → eres ts ≡ eres_of_program xs
 same_expressions ts r xs h = derived_program ts xs (read_is_derived ts [] xs h.items).0
 
-pub spells : (text : Text) (ts : List Tok) (r : Option SyntaxRefusal) (xs : List Part) (es : List Pattern) →
-    EndsBy text ts r → AreRead ts r xs → AreSpelled (eres ts) es → Fits xs → Spells text xs
-spells text ts r xs es cut h q fits' = record {
+pub spells : (text : Text) (ts : List Tok) (r : Option SyntaxRefusal) (xs : List Part) →
+    EndsBy text ts r → AreRead ts r xs → AreExpressions (eres ts) → Fits xs → Spells text xs
+spells text ts r xs cut h found fits' = record {
   tokens = ts;
   cut = subst (EndsBy text ts) h.whole cut;
   derived = (read_is_derived ts [] xs h.items).0;
-  expressions = subst AreExpressions (same_expressions ts r xs h) (expressions (eres ts) es q);
+  expressions = subst AreExpressions (same_expressions ts r xs h) found;
   fits = fits';
   low = read_is_low ts [] xs h.items;
   few = h.few;

@@ -1,12 +1,11 @@
 //! Reads the regular expressions between slashes.
 
-ghost use Rattle.std.specs.Prelude.{◌≡◌, IfOk, IfErr};
-ghost use Rattle.pawk_ere_syntax.specs.Tokens.{SpellsEre, SpellsNone};
+ghost use Rattle.std.specs.Prelude.{◌≡◌, IfOk, IfErr, map};
+ghost use Rattle.pawk_ere_syntax.specs.Tokens.{SpellsNone};
 ghost use Rattle.pawk_lex.specs.Bytes.{Text};
 ghost use Rattle.pawk_ere_syntax.specs.Refusals.{Tells};
-ghost use Rattle.pawk_ere_syntax.specs.Spelled.{expression};
 ghost use Rattle.pawk_syntax_grammar.specs.Expressions.{eres};
-ghost use Rattle.pawk_syntax_grammar.specs.ExpressionReads.{values, patterns, AreSpelled, Denies};
+ghost use Rattle.pawk_syntax_grammar.specs.ExpressionReads.{values, Denies};
 ghost use Rattle.pawk_syntax_grammar.specs.ExpressionReads.{AreExpressions, IsExpression};
 
 use pawk_ere_syntax::{Ere, EreRefusal};
@@ -28,32 +27,34 @@ fn refusal(why: EreRefusal, start: usize) -> SyntaxRefusal
     }
 }
 
-/// Reads an expression between slashes, of which the first is at this byte.
-fn read(alloc: Global, bytes: &[u8], start: usize) -> Result<Ere, SyntaxRefusal>
-    ensures found { IfOk result (λ e. SpellsEre bytes.now (expression e)) }
+/// Refuses what is no expression between slashes, of which the first is at this byte.
+fn check(alloc: Global, bytes: &[u8], start: usize) -> Result<(), SyntaxRefusal>
+    ensures found { IfOk result (λ done. IsExpression bytes.now) }
     ensures refused { IfErr result (λ why. Denies why (IsExpression bytes.now)) }
 {
     match Ere::parse(alloc, bytes) {
-        Ok(ere) => Ok(ere),
+        Ok(_) => Ok(()),
         Err(why) => Err(refusal(why, start)),
     }
 }
 
-/// Reads each expression between slashes among these tokens, in order
+/// The text of each expression between slashes among these tokens, in order
 /// (POSIX.1-2017, awk, "Regular Expressions").
 ///
 /// The first that is none is refused with 10 at its slash; a refused allocation with 12.
-pub fn read_expressions(alloc: Global, tokens: &[Token]) -> Result<Vec<Ere>, SyntaxRefusal>
-    ensures found { IfOk result (λ v. AreSpelled (eres (values tokens.now)) (patterns v)) }
+pub fn read_expressions(alloc: Global, tokens: &[Token]) -> Result<Vec<Vec<u8>>, SyntaxRefusal>
+    ensures texts { IfOk result (λ v. map (λ t. t.items) v.items ≡ eres (values tokens.now)) }
+    ensures found { IfOk result (λ v. AreExpressions (eres (values tokens.now))) }
     ensures refused { IfErr result (λ why. Denies why (AreExpressions (eres (values tokens.now)))) }
 {
-    let mut all = Vec::new(alloc);
+    let mut texts = Vec::new(alloc);
     let mut rest = tokens;
     while let [token, later @ ..] = rest {
         if let TokenValue::Ere(bytes) = &token.value {
-            all.push(read(alloc, bytes.as_slice(), token.span.start)?)?;
+            check(alloc, bytes.as_slice(), token.span.start)?;
+            texts.push(Vec::from_slice(alloc, bytes.as_slice())?)?;
         }
         rest = later;
     }
-    Ok(all)
+    Ok(texts)
 }

@@ -20,7 +20,7 @@ use Rattle.pawk_syntax_show.specs.TreeText.{closing_text, tree_text, list_text}
 use Rattle.pawk_syntax_show.specs.ProgramText.{body_text, head_text, maybe_text, operand_text, stmt_text, lines_text, other_names_text, names_text, part_text, program_text}
 use Rattle.pawk_syntax_show.proofs.WritableTree.{IsWritableTree}
 use Rattle.pawk_syntax_show.proofs.WritableProgram.{MayWrite, IsWritableStmt, AreWritableStmts, AreWritableNames, IsWritablePart, AreWritableParts}
-use Rattle.pawk_syntax_show.proofs.TreeCut.{CutAnyhow, space_cut, token_cut, mark_cut, word_cut, spaced_cut, opening_cut, closing_cut, left_bracket_cut, right_bracket_cut, comma_cut, Breaks, space_breaks, closing_breaks, comma_breaks, bracket_breaks, name_cut, tree_stands, tree_cut, list_cut}
+use Rattle.pawk_syntax_show.proofs.TreeCut.{CutAnyhow, space_cut, token_cut, mark_cut, word_cut, spaced_cut, opening_cut, closing_cut, left_bracket_cut, right_bracket_cut, comma_cut, Breaks, space_breaks, closing_breaks, comma_breaks, bracket_breaks, name_cut, tree_may_occur, tree_cut, list_cut}
 
 -- ---- braces and newlines
 
@@ -50,15 +50,15 @@ braces_cut c = left_brace_cut (line_cut c false)
 
 head_cut : (e : Tree) → Counts e → IsWritableTree e → (rest : Text) (ts : List Tok) → CutFrom true rest ts → CutAnyhow (head_text e rest) (in_head e ts)
 head_cut e h w rest ts c d =
-    opening_cut (tree_cut e h.1 w false (tree_stands e) (closing_text rest) (closing ts) closing_breaks (closing_cut c true))
+    opening_cut (tree_cut e h.1 w false (tree_may_occur e) (closing_text rest) (closing ts) closing_breaks (closing_cut c true))
 
 maybe_cut : (e : Option Tree) → MayCount e → MayWrite e → (rest : Text) (ts : List Tok) → Breaks (slice_index rest 0) → CutAnyhow rest ts → CutFrom false (maybe_text e rest) (canon_maybe e ts)
 maybe_cut None h w rest ts k c = c false
-maybe_cut (Some e) h w rest ts k c = tree_cut e h.1 w false (tree_stands e) rest ts k (c true)
+maybe_cut (Some e) h w rest ts k c = tree_cut e h.1 w false (tree_may_occur e) rest ts k (c true)
 
 operand_cut : (e : Option Tree) → MayCount e → MayWrite e → (rest : Text) (ts : List Tok) → Breaks (slice_index rest 0) → CutAnyhow rest ts → CutFrom false (operand_text e rest) (canon_maybe e ts)
 operand_cut None h w rest ts k c = c false
-operand_cut (Some e) h w rest ts k c = space_cut (tree_cut e h.1 w false (tree_stands e) rest ts k (c true))
+operand_cut (Some e) h w rest ts k c = space_cut (tree_cut e h.1 w false (tree_may_occur e) rest ts k (c true))
 
 operand_breaks : (e : Option Tree) (rest : Text) → Breaks (slice_index rest 0) → Breaks (slice_index (operand_text e rest) 0)
 operand_breaks None rest k = k
@@ -77,7 +77,7 @@ leave_cut leave.Continue rest ts k c = mark_cut m.Continue rest k.no_name tt c
 
 mutual
   stmt_cut : (x : Stmt) → IsSoundStmt x → IsWritableStmt x → (rest : Text) (ts : List Tok) → Breaks (slice_index rest 0) → CutAnyhow rest ts → CutFrom false (stmt_text x rest) (canon_stmt x ts)
-  stmt_cut (eval e) h w rest ts k c = tree_cut e h.1 w false (tree_stands e) rest ts k (c true)
+  stmt_cut (eval e) h w rest ts k c = tree_cut e h.1 w false (tree_may_occur e) rest ts k (c true)
   stmt_cut (print es) h w rest ts k c = word_cut m.Print (list_text es rest) tt (list_cut None 0 es h.1 w rest ts k c)
   stmt_cut (printf es) h w rest ts k c = word_cut m.Printf (list_text es rest) tt (list_cut None 0 es h.1 w rest ts k c)
   stmt_cut (when e a) h w rest ts k c =
@@ -159,12 +159,12 @@ part_cut (begin a) h w rest ts c = word_cut m.Begin (body_text (lines_text a) re
 part_cut (end a) h w rest ts c = word_cut m.End (body_text (lines_text a) rest) tt (body_cut a h w rest ts c false)
 part_cut (always a) h w rest ts c = body_cut a h w rest ts c false
 part_cut (matching p a) h w rest ts c =
-    tree_cut p h.0.1 w.0 false (tree_stands p) (32 ∷ body_text (lines_text a) rest) (in_braces (canon_lines a) ts) space_breaks (space_cut (body_cut a h.1 w.1 rest ts c true))
+    tree_cut p h.0.1 w.0 false (tree_may_occur p) (32 ∷ body_text (lines_text a) rest) (in_braces (canon_lines a) ts) space_breaks (space_cut (body_cut a h.1 w.1 rest ts c true))
 part_cut (between p q a) h w rest ts c =
     let after = 32 ∷ body_text (lines_text a) rest in
     let us = in_braces (canon_lines a) ts in
-    let second = tree_cut q h.1.1 w.1 false (tree_stands q) after us space_breaks (space_cut (body_cut a h.2 w.2 rest ts c true)) in
-    tree_cut p h.0.1 w.0 false (tree_stands p) (44 ∷ 32 ∷ tree_text q after) (t.mark m.Comma ∷ canon q us) comma_breaks (comma_cut second)
+    let second = tree_cut q h.1.1 w.1 false (tree_may_occur q) after us space_breaks (space_cut (body_cut a h.2 w.2 rest ts c true)) in
+    tree_cut p h.0.1 w.0 false (tree_may_occur p) (44 ∷ 32 ∷ tree_text q after) (t.mark m.Comma ∷ canon q us) comma_breaks (comma_cut second)
 part_cut (define f ps a) h w rest ts c =
     let after = closing_text (32 ∷ body_text (lines_text a) rest) in
     let us = closing (in_braces (canon_lines a) ts) in

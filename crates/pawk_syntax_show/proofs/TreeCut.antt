@@ -13,7 +13,7 @@ use Rattle.pawk_lex.specs.Vocabulary.{mark_text, builtin_text, double}
 use Rattle.pawk_lex.specs.Tokens.{Tok, mark_divides, divides_after}
 use Rattle.pawk_lex.specs.Tokens as t
 use Rattle.pawk_lex.specs.Next.{is_redirection}
-use Rattle.pawk_lex.specs.Cut.{IsName, IsNumeralOf, no_gap, a_blank, MarkEnds, Ends, MarkStands, Stands, CutFrom}
+use Rattle.pawk_lex.specs.Cut.{IsName, IsNumeralOf, no_gap, a_blank, MarkEnds, Ends, MarkMayOccur, MayOccur, CutFrom}
 use Rattle.pawk_lex.specs.Canonical.{token_text, IsWritable}
 use Rattle.pawk_lex.proofs.Numerals.{numeral, begins_digit}
 use Rattle.pawk_lex.proofs.CutLaws.{token_first, gap_before, separator_ends, written_again}
@@ -35,17 +35,17 @@ CutAnyhow rest ts = (d : Bool) → CutFrom d rest ts
 pub space_cut : {d : Bool} {rest : Text} {ts : List Tok} → CutFrom d rest ts → CutFrom d (32 ∷ rest) ts
 space_cut c = gap_before (a_blank refl no_gap) c
 
-pub token_cut : {d : Bool} (x : Tok) (rest : Text) {ts : List Tok} → IsWritable x → Ends x (slice_index rest 0) → Stands d x → CutFrom (divides_after x) rest ts → CutFrom d (token_text x ++ rest) (x ∷ ts)
+pub token_cut : {d : Bool} (x : Tok) (rest : Text) {ts : List Tok} → IsWritable x → Ends x (slice_index rest 0) → MayOccur d x → CutFrom (divides_after x) rest ts → CutFrom d (token_text x ++ rest) (x ∷ ts)
 token_cut x rest w e s c = token_first (token_text x) (written_again x w) e s c
 
-pub mark_cut : {d : Bool} (s : Mark) (rest : Text) {ts : List Tok} → MarkEnds (mark_text s) (slice_index rest 0) → MarkStands d s → CutFrom (mark_divides s) rest ts → CutFrom d (mark_text s ++ rest) (t.mark s ∷ ts)
+pub mark_cut : {d : Bool} (s : Mark) (rest : Text) {ts : List Tok} → MarkEnds (mark_text s) (slice_index rest 0) → MarkMayOccur d s → CutFrom (mark_divides s) rest ts → CutFrom d (mark_text s ++ rest) (t.mark s ∷ ts)
 mark_cut s rest e st c = token_cut (t.mark s) rest tt e st c
 
 -- a mark and a space
-pub word_cut : {d : Bool} (s : Mark) (rest : Text) {ts : List Tok} → MarkStands d s → CutFrom (mark_divides s) rest ts → CutFrom d (mark_text s ++ 32 ∷ rest) (t.mark s ∷ ts)
+pub word_cut : {d : Bool} (s : Mark) (rest : Text) {ts : List Tok} → MarkMayOccur d s → CutFrom (mark_divides s) rest ts → CutFrom d (mark_text s ++ 32 ∷ rest) (t.mark s ∷ ts)
 word_cut s rest st c = mark_cut s (32 ∷ rest) (separator_ends (t.mark s) 32 tt refl) st (space_cut c)
 
-pub spaced_cut : {d : Bool} (s : Mark) (rest : Text) {ts : List Tok} → MarkStands d s → CutFrom (mark_divides s) rest ts → CutFrom d (32 ∷ mark_text s ++ 32 ∷ rest) (t.mark s ∷ ts)
+pub spaced_cut : {d : Bool} (s : Mark) (rest : Text) {ts : List Tok} → MarkMayOccur d s → CutFrom (mark_divides s) rest ts → CutFrom d (32 ∷ mark_text s ++ 32 ∷ rest) (t.mark s ∷ ts)
 spaced_cut s rest st c = space_cut (word_cut s rest st c)
 
 pub opening_cut : {d : Bool} {rest : Text} {ts : List Tok} → CutFrom false rest ts → CutFrom d (40 ∷ rest) (opening ts)
@@ -194,30 +194,30 @@ minus_ends b k = rw (k.no_equal, k.no_minus) (refl, refl)
 -- ---- where an expression is allowed
 
 -- an expression between slashes occurs only where a slash opens one
-abbrev pub TreeStands : Bool → Tree → Type 0
-TreeStands d (ere x) = d ≡ false
-TreeStands d _ = Unit {0}
+abbrev pub TreeMayOccur : Bool → Tree → Type 0
+TreeMayOccur d (ere x) = d ≡ false
+TreeMayOccur d _ = Unit {0}
 
-pub tree_stands : (a : Tree) → TreeStands false a
-tree_stands (ere x) = refl
-tree_stands _ = tt
+pub tree_may_occur : (a : Tree) → TreeMayOccur false a
+tree_may_occur (ere x) = refl
+tree_may_occur _ = tt
 
-value_stands : (a : Tree) → value a ≡ a → TreeStands true a
-value_stands (ere x) h = absurd cc
-value_stands _ h = tt
+value_may_occur : (a : Tree) → value a ≡ a → TreeMayOccur true a
+value_may_occur (ere x) h = absurd cc
+value_may_occur _ h = tt
 
-lvalue_stands : (a : Tree) → IsLvalue a → TreeStands true a
-lvalue_stands (ere x) h = absurd h
-lvalue_stands _ h = tt
+lvalue_may_occur : (a : Tree) → IsLvalue a → TreeMayOccur true a
+lvalue_may_occur (ere x) h = absurd h
+lvalue_may_occur _ h = tt
 
 -- whether a slash divides after what is between two operands
 abbrev after_sign : Double → Bool
 after_sign double.Concatenate = true
 after_sign _ = false
 
-right_stands : (op : Double) (a : Tree) → right_side op a ≡ a → TreeStands (after_sign op) a
-right_stands double.Concatenate a h = value_stands a h
-right_stands _ a h = tree_stands a
+right_may_occur : (op : Double) (a : Tree) → right_side op a ≡ a → TreeMayOccur (after_sign op) a
+right_may_occur double.Concatenate a h = value_may_occur a h
+right_may_occur _ a h = tree_may_occur a
 
 between_cut : (op : Double) (rest : Text) {ts : List Tok} → CutFrom (after_sign op) rest ts → CutFrom true (between_text (sign_of op) rest) (between op ts)
 between_cut double.Concatenate rest c = space_cut c
@@ -258,7 +258,7 @@ in_cut : (x : Text) → IsWritable (t.name x) → (rest : Text) (ts : List Tok) 
 in_cut x w rest ts c d = spaced_cut m.In (x ++ closing_text rest) tt (name_cut x (closing_text rest) w closing_breaks (closing_cut c true))
 
 mutual
-  pub tree_cut : (a : Tree) → IsSound a → IsWritableTree a → (d : Bool) → TreeStands d a → (rest : Text) (ts : List Tok) → Breaks (slice_index rest 0) → CutFrom true rest ts → CutFrom d (tree_text a rest) (canon a ts)
+  pub tree_cut : (a : Tree) → IsSound a → IsWritableTree a → (d : Bool) → TreeMayOccur d a → (rest : Text) (ts : List Tok) → Breaks (slice_index rest 0) → CutFrom true rest ts → CutFrom d (tree_text a rest) (canon a ts)
   tree_cut (number n) h w d o rest ts k c = token_cut (t.number n) rest w (k.no_name, k.no_point) tt c
   tree_cut (string x) h w d o rest ts k c = token_cut (t.string x) rest w tt tt c
   tree_cut (ere x) h w d o rest ts k c = token_cut (t.ere x) rest w tt o c
@@ -267,42 +267,42 @@ mutual
       let keys = list_cut None 0 as' h.1 w.1 (93 ∷ rest) (t.mark m.RightBracket ∷ ts) bracket_breaks (right_bracket_cut c) in
       token_cut (t.name x) (91 ∷ list_text as' (93 ∷ rest)) w.0 (refl, refl) tt (left_bracket_cut keys)
   tree_cut (unary single.Field a) h w d o rest ts k c =
-      dollar_cut (opening_cut (tree_cut a h.2 w false (tree_stands a) (closing_text rest) (closing ts) closing_breaks (closing_cut c true)))
+      dollar_cut (opening_cut (tree_cut a h.2 w false (tree_may_occur a) (closing_text rest) (closing ts) closing_breaks (closing_cut c true)))
   tree_cut (unary single.Not a) h w d o rest ts k c =
       let after = tree_text a (closing_text rest) in
-      let operand = tree_cut a h.2 w false (tree_stands a) (closing_text rest) (closing ts) closing_breaks (closing_cut c true) in
+      let operand = tree_cut a h.2 w false (tree_may_occur a) (closing_text rest) (closing ts) closing_breaks (closing_cut c true) in
       opening_cut (mark_cut m.Not after (not_ends (slice_index after 0) (starts a w (closing_text rest))) tt operand)
   tree_cut (unary single.Plus a) h w d o rest ts k c =
       let after = tree_text a (closing_text rest) in
-      let operand = tree_cut a h.2 w false (tree_stands a) (closing_text rest) (closing ts) closing_breaks (closing_cut c true) in
+      let operand = tree_cut a h.2 w false (tree_may_occur a) (closing_text rest) (closing ts) closing_breaks (closing_cut c true) in
       opening_cut (mark_cut m.Plus after (plus_ends (slice_index after 0) (starts a w (closing_text rest))) tt operand)
   tree_cut (unary single.Minus a) h w d o rest ts k c =
       let after = tree_text a (closing_text rest) in
-      let operand = tree_cut a h.2 w false (tree_stands a) (closing_text rest) (closing ts) closing_breaks (closing_cut c true) in
+      let operand = tree_cut a h.2 w false (tree_may_occur a) (closing_text rest) (closing ts) closing_breaks (closing_cut c true) in
       opening_cut (mark_cut m.Minus after (minus_ends (slice_index after 0) (starts a w (closing_text rest))) tt operand)
   tree_cut (unary single.IncrementBefore a) h w d o rest ts k c =
-      let operand = tree_cut a h.2 w true (lvalue_stands a h.0) (closing_text rest) (closing ts) closing_breaks (closing_cut c true) in
+      let operand = tree_cut a h.2 w true (lvalue_may_occur a h.0) (closing_text rest) (closing ts) closing_breaks (closing_cut c true) in
       opening_cut (mark_cut m.PlusPlus (tree_text a (closing_text rest)) tt tt operand)
   tree_cut (unary single.DecrementBefore a) h w d o rest ts k c =
-      let operand = tree_cut a h.2 w true (lvalue_stands a h.0) (closing_text rest) (closing ts) closing_breaks (closing_cut c true) in
+      let operand = tree_cut a h.2 w true (lvalue_may_occur a h.0) (closing_text rest) (closing ts) closing_breaks (closing_cut c true) in
       opening_cut (mark_cut m.MinusMinus (tree_text a (closing_text rest)) tt tt operand)
   tree_cut (unary single.IncrementAfter a) h w d o rest ts k c =
       let after = mark_cut m.PlusPlus (closing_text rest) tt tt (closing_cut c true) in
-      opening_cut (tree_cut a h.2 w false (tree_stands a) (43 ∷ 43 ∷ closing_text rest) (t.mark m.PlusPlus ∷ closing ts) plus_breaks after)
+      opening_cut (tree_cut a h.2 w false (tree_may_occur a) (43 ∷ 43 ∷ closing_text rest) (t.mark m.PlusPlus ∷ closing ts) plus_breaks after)
   tree_cut (unary single.DecrementAfter a) h w d o rest ts k c =
       let after = mark_cut m.MinusMinus (closing_text rest) tt tt (closing_cut c true) in
-      opening_cut (tree_cut a h.2 w false (tree_stands a) (45 ∷ 45 ∷ closing_text rest) (t.mark m.MinusMinus ∷ closing ts) minus_breaks after)
+      opening_cut (tree_cut a h.2 w false (tree_may_occur a) (45 ∷ 45 ∷ closing_text rest) (t.mark m.MinusMinus ∷ closing ts) minus_breaks after)
   tree_cut (binary op a e) h w d o rest ts k c =
-      let second = tree_cut e h.4 w.1 (after_sign op) (right_stands op e h.2) (closing_text rest) (closing ts) closing_breaks (closing_cut c true) in
+      let second = tree_cut e h.4 w.1 (after_sign op) (right_may_occur op e h.2) (closing_text rest) (closing ts) closing_breaks (closing_cut c true) in
       let after = tree_text e (closing_text rest) in
-      opening_cut (tree_cut a h.3 w.0 false (tree_stands a) (between_text (sign_of op) after) (between op (canon e (closing ts))) (between_breaks op after) (between_cut op after second))
+      opening_cut (tree_cut a h.3 w.0 false (tree_may_occur a) (between_text (sign_of op) after) (between op (canon e (closing ts))) (between_breaks op after) (between_cut op after second))
   tree_cut (choice a e f) h w d o rest ts k c =
-      let third = tree_cut f h.2.1 w.2 false (tree_stands f) (closing_text rest) (closing ts) closing_breaks (closing_cut c true) in
+      let third = tree_cut f h.2.1 w.2 false (tree_may_occur f) (closing_text rest) (closing ts) closing_breaks (closing_cut c true) in
       let after = tree_text f (closing_text rest) in
       let us = canon f (closing ts) in
-      let second = tree_cut e h.1.1 w.1 false (tree_stands e) (32 ∷ 58 ∷ 32 ∷ after) (t.mark m.Colon ∷ us) space_breaks (spaced_cut m.Colon after tt third) in
+      let second = tree_cut e h.1.1 w.1 false (tree_may_occur e) (32 ∷ 58 ∷ 32 ∷ after) (t.mark m.Colon ∷ us) space_breaks (spaced_cut m.Colon after tt third) in
       let next = tree_text e (32 ∷ 58 ∷ 32 ∷ after) in
-      opening_cut (tree_cut a h.0.1 w.0 false (tree_stands a) (32 ∷ 63 ∷ 32 ∷ next) (t.mark m.Question ∷ canon e (t.mark m.Colon ∷ us)) space_breaks (spaced_cut m.Question next tt second))
+      opening_cut (tree_cut a h.0.1 w.0 false (tree_may_occur a) (32 ∷ 63 ∷ 32 ∷ next) (t.mark m.Question ∷ canon e (t.mark m.Colon ∷ us)) space_breaks (spaced_cut m.Question next tt second))
   tree_cut (member as' x) h w d o rest ts k c =
       opening_cut (keys_cut as' h.1 w.0 (32 ∷ 105 ∷ 110 ∷ 32 ∷ x ++ closing_text rest) (t.mark m.In ∷ t.name x ∷ closing ts) space_breaks (in_cut x w.1 rest ts c))
   tree_cut (call f as') h w d o rest ts k c =
@@ -314,20 +314,20 @@ mutual
 
   keys_cut : (as' : Trees) → AreSound None 0 as' → AreWritableTrees as' → (rest : Text) (ts : List Tok) → Breaks (slice_index rest 0) → CutAnyhow rest ts → CutFrom false (keys_text as' rest) (canon_keys as' ts)
   keys_cut none h w rest ts k c = c false
-  keys_cut (more a none) h w rest ts k c = tree_cut a h.1 w.0 false (tree_stands a) rest ts k (c true)
+  keys_cut (more a none) h w rest ts k c = tree_cut a h.1 w.0 false (tree_may_occur a) rest ts k (c true)
   keys_cut (more a (more e bs)) h w rest ts k c =
       let others = others_cut None 2 bs h.2.2 w.1.1 (closing_text rest) (closing ts) closing_breaks (closing_cut (c true)) in
       let us = canon_others bs (closing ts) in
       let after = others_text bs (closing_text rest) in
-      let second = tree_cut e h.2.1 w.1.0 false (tree_stands e) after us (others_break bs (closing_text rest) closing_breaks) others in
-      opening_cut (tree_cut a h.1 w.0 false (tree_stands a) (44 ∷ 32 ∷ tree_text e after) (t.mark m.Comma ∷ canon e us) comma_breaks (comma_cut second))
+      let second = tree_cut e h.2.1 w.1.0 false (tree_may_occur e) after us (others_break bs (closing_text rest) closing_breaks) others in
+      opening_cut (tree_cut a h.1 w.0 false (tree_may_occur a) (44 ∷ 32 ∷ tree_text e after) (t.mark m.Comma ∷ canon e us) comma_breaks (comma_cut second))
 
   pub list_cut : (f : Option Builtin) (place : ℕ) (as' : Trees) → AreSound f place as' → AreWritableTrees as' → (rest : Text) (ts : List Tok) → Breaks (slice_index rest 0) → CutAnyhow rest ts → CutFrom false (list_text as' rest) (canon_first as' ts)
   list_cut f place none h w rest ts k c = c false
   list_cut f place (more a bs) h w rest ts k c =
-      tree_cut a h.1 w.0 false (tree_stands a) (others_text bs rest) (canon_others bs ts) (others_break bs rest k) (others_cut f (suc place) bs h.2 w.1 rest ts k c)
+      tree_cut a h.1 w.0 false (tree_may_occur a) (others_text bs rest) (canon_others bs ts) (others_break bs rest k) (others_cut f (suc place) bs h.2 w.1 rest ts k c)
 
   others_cut : (f : Option Builtin) (place : ℕ) (as' : Trees) → AreSound f place as' → AreWritableTrees as' → (rest : Text) (ts : List Tok) → Breaks (slice_index rest 0) → CutAnyhow rest ts → CutFrom true (others_text as' rest) (canon_others as' ts)
   others_cut f place none h w rest ts k c = c true
   others_cut f place (more a bs) h w rest ts k c =
-      comma_cut (tree_cut a h.1 w.0 false (tree_stands a) (others_text bs rest) (canon_others bs ts) (others_break bs rest k) (others_cut f (suc place) bs h.2 w.1 rest ts k c))
+      comma_cut (tree_cut a h.1 w.0 false (tree_may_occur a) (others_text bs rest) (canon_others bs ts) (others_break bs rest k) (others_cut f (suc place) bs h.2 w.1 rest ts k c))

@@ -19,7 +19,7 @@ use Rattle.pawk_syntax_tree.specs.declared.levels.Turn.TheVariants.{Infix, Besid
 use Rattle.pawk_syntax_tree.specs.declared.levels.Row.{Row}
 use Rattle.pawk_syntax_tree.specs.Tree.{Tree, element, unary, binary, choice, member, call, builtin, Trees, none, more, trees, value, right_side, argument, complete}
 use Rattle.pawk_syntax_tree.specs.Levels.{binding, sign_of, row_of_sign, stepping, beside as beside_row}
-use Rattle.pawk_syntax_tree.specs.Grammar.{MayStand, Signs, not as is_not, plus, minus, StepsBefore, increment_before, decrement_before, StepsAfter, increment_after, decrement_after, IsUnsigned, IsNoStep, NoStep, NotNext, Derives, a_number, a_string, an_ere, a_group, a_call, a_builtin, a_length, a_variable, an_element, a_field, a_field_step, a_primary, no_lvalue, an_lvalue, a_step_before, a_step_after, a_sign, joined, beside, a_member, a_tuple_member, a_choice, wider, DerivesEach, one_phrase, one_more, DerivesAny, no_phrase, some}
+use Rattle.pawk_syntax_tree.specs.Grammar.{MayAppear, Signs, not as is_not, plus, minus, StepsBefore, increment_before, decrement_before, StepsAfter, increment_after, decrement_after, IsUnsigned, IsNoStep, NoStep, NotNext, Derives, a_number, a_string, an_ere, a_group, a_call, a_builtin, a_length, a_variable, an_element, a_field, a_field_step, a_primary, no_lvalue, an_lvalue, a_step_before, a_step_after, a_sign, joined, beside, a_member, a_tuple_member, a_choice, wider, DerivesEach, one_phrase, one_more, DerivesAny, no_phrase, some}
 use Rattle.pawk_syntax_tree.specs.Canonical.{height, IsSome}
 use Rattle.pawk_syntax_tree.specs.Parse.{Parser, and_then, low, Operand, expect, expect_name, sees, row_at, bare, appended, climb_by, climb, turn, turn_by, operand, operand_by_mark, phrase, expr, list_from, list_up_to, arguments, called, built_in, named, group, group_of, signed, step_before, field_step, field, after, skip_lines, after_op, greatest_height}
 use Rattle.pawk_syntax_tree.proofs.Tokens.{OnFound, on_bind, on_found, Expects, sees_sign, expects, names, not_next, skips, gaps}
@@ -66,7 +66,7 @@ lower c least top all ts a (inr asked) (inr (inr fourteen)) le free d = rw asked
 -- ---- what the row of an operator says of the tokens
 
 abbrev pub Fits : Bool → ℕ → List Tok → ℕ → ℕ → ℕ → Turn → Type 0
-Fits c top ts level left right (Infix op) = (s : Mark) × (rest : List Tok) × (ts ≡ t.mark s ∷ rest) × (sign_of op ≡ Some s) × MayStand op c × (level ≡ (binding op).level) × (left ≡ (binding op).left) × (right ≡ (binding op).right)
+Fits c top ts level left right (Infix op) = (s : Mark) × (rest : List Tok) × (ts ≡ t.mark s ∷ rest) × (sign_of op ≡ Some s) × MayAppear op c × (level ≡ (binding op).level) × (left ≡ (binding op).left) × (right ≡ (binding op).right)
 Fits c top ts level left right Beside = IsUnsigned ts × (top ≡ 14 → NoStep ts) × (level ≡ 6) × (left ≡ 6) × (right ≡ 7)
 Fits c top ts level left right Membership = (rest : List Tok) × (ts ≡ t.mark m.In ∷ rest) × (level ≡ 3) × (left ≡ 3)
 Fits c top ts level left right Choosing = (rest : List Tok) × (ts ≡ t.mark m.Question ∷ rest) × (level ≡ 0) × (left ≡ 1)

@@ -27,9 +27,9 @@ Gap double.And ts rest = Newlines ts rest
 Gap _ ts rest = ts ≡ rest
 
 -- In a list of print outside all brackets `>` is no comparison.
-abbrev pub MayStand : Double → Bool → Type 0
-MayStand double.Greater false = ⊥
-MayStand _ _ = Unit {0}
+abbrev pub MayAppear : Double → Bool → Type 0
+MayAppear double.Greater false = ⊥
+MayAppear _ _ = Unit {0}
 
 pub data Signs : Mark → Single → Type 0 where
   not : Signs m.Not single.Not
@@ -116,7 +116,7 @@ mutual
         Derives c 9 ts rest a → Derives c 9 (t.mark s ∷ ts) rest (unary op (value a))
     -- expr '+' expr and so on, expr AND newline_opt expr, expr OR newline_opt expr, lvalue '=' expr and so on
     joined : {c : Bool} {s : Mark} {op : Double} {ts mid next rest : List Tok} {a d : Tree} → sign_of op ≡ Some s →
-        MayStand op c → Derives c (binding op).left ts (t.mark s ∷ mid) a → Gap op mid next →
+        MayAppear op c → Derives c (binding op).left ts (t.mark s ∷ mid) a → Gap op mid next →
         Derives c (binding op).right next rest d → Derives c (binding op).level ts rest (binary op (value a) (right_side op d))
     -- non_unary_expr non_unary_expr
     beside : {c : Bool} {ts mid rest : List Tok} {a d : Tree} → Derives c 6 ts mid a → IsUnsigned mid →

@@ -163,8 +163,8 @@ fn has_roles(alloc: Global, text: &[u8], wanted: &[u8]) -> Result<bool, Fail> {
 
 #[test]
 fn globals_have_roles(rt: HostRuntime) -> Result<(), Fail> {
-    for (text, wanted) in ROLES {
-        assert!(rt; has_roles(rt.alloc(), text, wanted)?);
+    for (text, wanted) in &ROLES {
+        assert!(rt; has_roles(rt.alloc(), *text, *wanted)?);
     }
     Ok(())
 }
@@ -210,14 +210,18 @@ fn number_of(answer: Result<Settings, SettingsRefusal>) -> u64 {
     }
 }
 
+/// The number of these settings for a program.
+fn number_for(alloc: Global, budget: u64, assigned: &[(&[u8], &[u8])]) -> Result<u64, Fail> {
+    let assigned = copies(alloc, assigned)?;
+    let program = parse(alloc, b"{ x = y }").map_err(|_| "refused")?;
+    Ok(number_of(Settings::new(alloc, program.tree(), assigned.as_slice(), budget)))
+}
+
 #[test]
 fn settings_are_refused(rt: HostRuntime) -> Result<(), Fail> {
-    let alloc = rt.alloc();
-    let program = parse(alloc, b"{ x = y }").map_err(|_| "refused")?;
-    for (budget, assigned, wanted) in SETTINGS {
-        let assigned = copies(alloc, assigned)?;
-        let answer = Settings::new(alloc, program.tree(), assigned.as_slice(), budget);
-        assert!(rt; number_of(answer) == wanted);
+    for (budget, assigned, wanted) in &SETTINGS {
+        let number = number_for(rt.alloc(), *budget, *assigned)?;
+        assert!(rt; number == *wanted);
     }
     Ok(())
 }

@@ -2,10 +2,8 @@
 
 use crate::fixtures::SUM;
 use pawk_par::{
-    Cutting, Ending, Open, Reader, Report, Request, Route, SettingsRefusal, StreamRefusal, Writer,
-    run_streams,
+    Cutting, Ending, Open, Reader, Report, Request, StreamRefusal, Writer, run_streams,
 };
-use std::alloc::{AllocError, Global};
 use std::io;
 use std::io::{ErrorKind, Read, Write};
 use std::sync::Wait;
@@ -70,14 +68,7 @@ impl Write for Narrow {
     }
 }
 
-/// What a run answered, and whether the writer took what is wanted.
-#[derive(Clone, Copy)]
-struct Answer {
-    answer: Result<(Ending, Report), StreamRefusal>,
-    is_taken: bool,
-}
-
-/// How much a reader and a writer do, and whether the writer then fails, or takes nothing.
+/// How many reads succeed, how many bytes a writer takes, and whether the next write then fails, or takes nothing.
 #[derive(Clone, Copy)]
 struct Limits {
     reads: usize,
@@ -85,28 +76,38 @@ struct Limits {
     fails: bool,
 }
 
-/// A reader and a writer without a limit that is met.
-const ENOUGH: Limits = Limits {
-    reads: 100,
-    room: 100,
-    fails: true,
-};
+/// Why a run was refused, by the number of the cause, and by that of the program's or the setting's own cause, or by how many
+/// bytes were written: none where it ended with status 0.
+fn cause_of(answer: Result<(Ending, Report), StreamRefusal>) -> Option<(u8, u64)> {
+    match answer {
+        Ok((Ending::Status(0), _)) => None,
+        Ok(_) => Some((0, 0)),
+        Err(refusal) => Some((
+            refusal.number(),
+            match refusal {
+                StreamRefusal::Program(why) => u64::from(why.number()),
+                StreamRefusal::Settings(why) => u64::from(why.number()),
+                StreamRefusal::Write(bytes) => bytes,
+                _ => 0,
+            },
+        )),
+    }
+}
 
-/// Runs a text with assignments and a budget over the lines 1, 2 and 3, each of which is a chunk; the writer is wanted to
-/// take this output.
+/// Runs a text with a budget over the lines 1, 2 and 3, each of which is a chunk: why that was refused, and whether the writer
+/// took this output.
 fn run_lines<R: AllocGlobal + Threads + Wait>(
     rt: &R,
     text: &[u8],
-    assigns: &[(Vec<u8>, Vec<u8>)],
     budget: u64,
     limits: Limits,
     output: &[u8],
-) -> Answer {
+) -> (Option<(u8, u64)>, bool) {
     let alloc = rt.alloc();
     let cutting = Cutting::Size(1);
     let request = Request {
         text,
-        assigns,
+        assigns: &[],
         budget,
         cutting: &cutting,
         workers: 2,
@@ -122,165 +123,71 @@ fn run_lines<R: AllocGlobal + Threads + Wait>(
         fails: limits.fails,
     });
     let answer = run_streams(rt, alloc, &request, &mut source, &mut sink, &Open);
-    Answer {
-        answer,
-        is_taken: sink.inner.taken.as_slice() == output,
-    }
+    (cause_of(answer), sink.inner.taken.as_slice() == output)
 }
 
-/// The refusal, or none where the run ended with status 0.
-fn refusal_in(answer: Answer) -> Result<Option<StreamRefusal>, Fail> {
-    match answer.answer {
-        Ok((Ending::Status(0), _)) => Ok(None),
-        Ok(_) => Err(Fail::from("another ending")),
-        Err(refusal) => Ok(Some(refusal)),
-    }
-}
+/// A program, a budget, how many reads succeed, why the run is refused, and what is written.
+type ReadRow = (&'static [u8], u64, usize, Option<(u8, u64)>, &'static [u8]);
 
-// A read fails after a given number of them, or none does: the seventh finds the end.
+/// The seventh read finds the end. Where each read would fail, nothing is read for a program that is refused, a budget that
+/// is none, and a program without a main rule and END.
+const READS: [ReadRow; 11] = [
+    (SUM, 1, 100, None, b"6\n"),
+    (SUM, 1, 7, None, b"6\n"),
+    (SUM, 1, 6, Some((6, 0)), b""),
+    (SUM, 1, 2, Some((6, 0)), b""),
+    (SUM, 1, 0, Some((6, 0)), b""),
+    (b"{ @ }", 1, 0, Some((4, 1)), b""),
+    (b"{ n += $1; n[1] = 2 }", 1, 0, Some((4, 5)), b""),
+    (b"{ getline }", 1, 0, Some((4, 3)), b""),
+    (SUM, 0, 0, Some((5, 4)), b""),
+    (SUM, 1_000_000_000_001, 0, Some((5, 4)), b""),
+    (b"BEGIN { print 6 }", 1, 0, None, b"6\n"),
+];
+
 #[test]
 fn a_read_fails(rt: HostRuntime) -> Result<(), Fail> {
-    let rows: [(usize, Option<StreamRefusal>, &[u8]); 5] = [
-        (100, None, b"6\n"),
-        (7, None, b"6\n"),
-        (6, Some(StreamRefusal::Read), b""),
-        (2, Some(StreamRefusal::Read), b""),
-        (0, Some(StreamRefusal::Read), b""),
-    ];
-    for (reads, wanted, output) in rows {
-        let limits = Limits { reads, ..ENOUGH };
-        let answer = run_lines(&rt, SUM, &[], 1, limits, output);
-        assert!(rt; refusal_in(answer)? == wanted, "{reads} reads");
-        assert!(rt; answer.is_taken, "{reads} reads");
+    for (text, budget, reads, wanted, output) in &READS {
+        let limits = Limits {
+            reads: *reads,
+            room: 100,
+            fails: true,
+        };
+        let got = run_lines(&rt, *text, *budget, limits, *output);
+        assert!(rt; got == (*wanted, true));
     }
     Ok(())
 }
 
-// A write fails, or takes nothing, after a given number of bytes of the output 6 and a newline.
+/// A program, how many bytes of its output are taken, whether the next write then fails, why the run is refused, and what is
+/// written.
+type WriteRow = (&'static [u8], usize, bool, Option<(u8, u64)>, &'static [u8]);
+
+/// A program that writes in BEGIN, for each record and in END.
+const FIVE: &[u8] = b"BEGIN { print 0 } { print $1 } END { print 4 }";
+
+/// The count of the bytes that went out goes over the outputs of all chunks, here a line each, and of BEGIN and END.
+const WRITES: [WriteRow; 8] = [
+    (SUM, 2, true, None, b"6\n"),
+    (SUM, 1, true, Some((7, 1)), b"6"),
+    (SUM, 1, false, Some((7, 1)), b"6"),
+    (SUM, 0, true, Some((7, 0)), b""),
+    (FIVE, 10, true, None, b"0\n1\n2\n3\n4\n"),
+    (FIVE, 9, true, Some((7, 9)), b"0\n1\n2\n3\n4"),
+    (FIVE, 5, true, Some((7, 5)), b"0\n1\n2"),
+    (FIVE, 2, true, Some((7, 2)), b"0\n"),
+];
+
 #[test]
 fn a_write_fails(rt: HostRuntime) -> Result<(), Fail> {
-    let rows: [(usize, bool, Option<StreamRefusal>, &[u8]); 4] = [
-        (2, true, None, b"6\n"),
-        (1, true, Some(StreamRefusal::Write(1)), b"6"),
-        (1, false, Some(StreamRefusal::Write(1)), b"6"),
-        (0, true, Some(StreamRefusal::Write(0)), b""),
-    ];
-    for (room, fails, wanted, output) in rows {
+    for (text, room, fails, wanted, output) in &WRITES {
         let limits = Limits {
-            room,
-            fails,
-            ..ENOUGH
+            reads: 100,
+            room: *room,
+            fails: *fails,
         };
-        let answer = run_lines(&rt, SUM, &[], 1, limits, output);
-        assert!(rt; refusal_in(answer)? == wanted, "room {room}");
-        assert!(rt; answer.is_taken, "room {room}");
-    }
-    Ok(())
-}
-
-// The count of the bytes that went out goes over the outputs of all chunks, here a line each, and of BEGIN and END.
-#[test]
-fn a_write_fails_after_others(rt: HostRuntime) -> Result<(), Fail> {
-    let text = b"BEGIN { print 0 } { print $1 } END { print 4 }";
-    let rows: [(usize, Option<StreamRefusal>, &[u8]); 4] = [
-        (10, None, b"0\n1\n2\n3\n4\n"),
-        (9, Some(StreamRefusal::Write(9)), b"0\n1\n2\n3\n4"),
-        (5, Some(StreamRefusal::Write(5)), b"0\n1\n2"),
-        (2, Some(StreamRefusal::Write(2)), b"0\n"),
-    ];
-    for (room, wanted, output) in rows {
-        let limits = Limits { room, ..ENOUGH };
-        let answer = run_lines(&rt, text, &[], 1, limits, output);
-        assert!(rt; refusal_in(answer)? == wanted, "room {room}");
-        assert!(rt; answer.is_taken, "room {room}");
-    }
-    Ok(())
-}
-
-/// The numbers of a refusal: its own, and that of the program's cause or of the setting, else 0.
-fn numbers_in(answer: Answer) -> Result<(u8, u8), Fail> {
-    match refusal_in(answer)? {
-        Some(refusal) => Ok(match refusal {
-            StreamRefusal::Program(why) => (refusal.number(), why.number()),
-            StreamRefusal::Settings(why) => (refusal.number(), why.number()),
-            _ => (refusal.number(), 0),
-        }),
-        None => Err(Fail::from("no refusal")),
-    }
-}
-
-// A program or a budget that is refused is reported as such where each read would fail: a bad token, a name in two
-// uses, a form of input that is left out, and budgets that are none.
-#[test]
-fn refuses_before_it_reads(rt: HostRuntime) -> Result<(), Fail> {
-    let limits = Limits { reads: 0, ..ENOUGH };
-    let rows: [(&[u8], u64, (u8, u8)); 5] = [
-        (b"{ @ }", 1, (4, 1)),
-        (b"{ n += $1; n[1] = 2 }", 1, (4, 5)),
-        (b"{ getline }", 1, (4, 3)),
-        (SUM, 0, (5, 4)),
-        (SUM, 1_000_000_000_001, (5, 4)),
-    ];
-    for (text, budget, wanted) in rows {
-        let answer = run_lines(&rt, text, &[], budget, limits, b"");
-        assert!(rt; numbers_in(answer)? == wanted);
-        assert!(rt; answer.is_taken);
-    }
-    Ok(())
-}
-
-/// One assignment, where it is made.
-fn assignment(
-    alloc: Global,
-    name: &[u8],
-    value: &[u8],
-) -> Result<Vec<(Vec<u8>, Vec<u8>)>, AllocError> {
-    let mut assigns = Vec::new(alloc);
-    assigns.push((
-        Vec::from_slice(alloc, name)?,
-        Vec::from_slice(alloc, value)?,
-    ))?;
-    Ok(assigns)
-}
-
-// An assignment that is refused: no name, a variable that the run sets, an escape that is none.
-#[test]
-fn refuses_an_assignment(rt: HostRuntime) -> Result<(), Fail> {
-    let limits = Limits { reads: 0, ..ENOUGH };
-    let rows: [(&[u8], &[u8], SettingsRefusal); 3] = [
-        (b"1n", b"4", SettingsRefusal::Name),
-        (b"NR", b"4", SettingsRefusal::Target),
-        (b"n", b"\\q", SettingsRefusal::Escape),
-    ];
-    for (name, value, wanted) in rows {
-        let assigns = assignment(rt.alloc(), name, value)?;
-        let answer = run_lines(&rt, SUM, assigns.as_slice(), 1, limits, b"");
-        assert!(rt; refusal_in(answer)? == Some(StreamRefusal::Settings(wanted)));
-        assert!(rt; answer.is_taken);
-    }
-    Ok(())
-}
-
-// An assignment is made before BEGIN.
-#[test]
-fn assigns_before_it_runs(rt: HostRuntime) -> Result<(), Fail> {
-    let assigns = assignment(rt.alloc(), b"n", b"4")?;
-    let text = b"BEGIN { print n } { n += $1 } END { print n }";
-    let answer = run_lines(&rt, text, assigns.as_slice(), 1, ENOUGH, b"4\n10\n");
-    assert!(rt; refusal_in(answer)? == None);
-    assert!(rt; answer.is_taken);
-    Ok(())
-}
-
-// Nothing is read for a program without a main rule and END, here where each read would fail.
-#[test]
-fn reads_nothing_without_records(rt: HostRuntime) -> Result<(), Fail> {
-    let limits = Limits { reads: 0, ..ENOUGH };
-    let answer = run_lines(&rt, b"BEGIN { print 6 }", &[], 1, limits, b"6\n");
-    assert!(rt; refusal_in(answer)? == None);
-    assert!(rt; answer.is_taken);
-    if let Ok((_, report)) = answer.answer {
-        assert!(rt; report.route == Route::NoMain);
+        let got = run_lines(&rt, *text, 1, limits, *output);
+        assert!(rt; got == (*wanted, true));
     }
     Ok(())
 }

@@ -31,35 +31,6 @@ pub(crate) fn code_of(alloc: Global, text: &[u8]) -> Result<Code, Fail> {
     Ok(resolve(alloc, &program)?)
 }
 
-/// Runs a program's text over these bytes, with 1,000 steps for each record.
-pub(crate) fn run_text<R, G>(
-    rt: &R,
-    text: &[u8],
-    bytes: &[u8],
-    cutting: &Cutting,
-    workers: usize,
-    gate: &G,
-) -> Result<Result<(Outcome, Route), Refusal>, Fail>
-where
-    R: AllocGlobal + Threads + Wait,
-    G: Gate + Sync,
-    requires sized { IsSized cutting.now }
-    requires workers { IsCrew workers }
-{
-    let alloc = rt.alloc();
-    let code = code_of(alloc, text)?;
-    let mut input = one_file(alloc, bytes)?;
-    let job = Job {
-        code: &code,
-        budget: 1000,
-    };
-    let way = Way { cutting, workers };
-    Ok(match run(rt, alloc, job, &[], &mut input, way, gate) {
-        Ok((outcome, report)) => Ok((outcome, report.route)),
-        Err(refusal) => Err(refusal),
-    })
-}
-
 /// Whether these parts are a text.
 fn are_text(parts: &[Vec<u8>], text: &[u8]) -> bool {
     let mut rest = text;
@@ -98,24 +69,48 @@ pub(crate) fn chunks_show(output: &[u8]) -> RunOutcome<'_> {
     }
 }
 
-/// Whether a run showed this.
-pub(crate) fn is_shown(answer: &Result<(Outcome, Route), Refusal>, shown: RunOutcome<'_>) -> bool {
-    match answer {
-        Ok((outcome, route)) => {
-            are_text(outcome.output.parts(), shown.output)
-                && is_ending(outcome.ending, shown.fault)
-                && *route == shown.route
-        }
-        Err(_) => false,
-    }
+/// Whether a run that went this way showed this.
+fn is_shown(outcome: &Outcome, route: Route, shown: RunOutcome<'_>) -> bool {
+    are_text(outcome.output.parts(), shown.output)
+        && is_ending(outcome.ending, shown.fault)
+        && route == shown.route
 }
 
-/// Whether a program's text shows this over these bytes, cut into chunks of this size.
+/// Whether a program's text shows this over these bytes, with 1,000 steps for each record: not where the cutting is refused.
+/// None where the run is refused for another reason.
+pub(crate) fn runs<R, G>(
+    rt: &R,
+    text: &[u8],
+    bytes: &[u8],
+    way: Way<'_>,
+    gate: &G,
+    shown: RunOutcome<'_>,
+) -> Result<Option<bool>, Fail>
+where
+    R: AllocGlobal + Threads + Wait,
+    G: Gate + Sync,
+    requires sized { IsSized way.cutting.now }
+    requires workers { IsCrew way.workers }
+{
+    let alloc = rt.alloc();
+    let mut input = one_file(alloc, bytes)?;
+    let code = code_of(alloc, text)?;
+    let job = Job {
+        code: &code,
+        budget: 1000,
+    };
+    Ok(match run(rt, alloc, job, &[], &mut input, way, gate) {
+        Ok((outcome, report)) => Some(is_shown(&outcome, report.route, shown)),
+        Err(Refusal::Cutting) => Some(false),
+        Err(_) => None,
+    })
+}
+
+/// Whether a program's text shows this over these bytes, cut into chunks of one byte or more.
 pub(crate) fn shows<R, G>(
     rt: &R,
     text: &[u8],
     bytes: &[u8],
-    size: u64,
     workers: usize,
     gate: &G,
     shown: RunOutcome<'_>,
@@ -123,10 +118,12 @@ pub(crate) fn shows<R, G>(
 where
     R: AllocGlobal + Threads + Wait,
     G: Gate + Sync,
-    requires sized { 1 ≤ size }
-    requires workers { IsCrew workers }
+    requires { IsCrew workers }
 {
-    let cutting = Cutting::Size(size);
-    let answer = run_text(rt, text, bytes, &cutting, workers, gate)?;
-    Ok(is_shown(&answer, shown))
+    let cutting = Cutting::Size(1);
+    let way = Way {
+        cutting: &cutting,
+        workers,
+    };
+    Ok(runs(rt, text, bytes, way, gate, shown)? == Some(true))
 }

@@ -10,6 +10,7 @@ ghost use Rattle.pawk_chunks.specs.Task.{IsChunked, IsTask};
 use crate::fixtures::{RunOutcome, SUM, chunks_show, code_of, one_file, shows};
 use pawk_admit::admit;
 use pawk_board::{Board, BoardSeat};
+use pawk_code::program::Code;
 use pawk_input::{Input, Plan};
 use pawk_par::{ChunkResult, Chunked, Gate, Job, Left, Opening, Route, Task, work};
 use pawk_store::{Globals, RecordState};
@@ -103,7 +104,7 @@ fn seen_by(gate: &Holding<'_>) -> (u64, u64, u64, u64) {
 fn two_workers_run_at_once(rt: HostRuntime) -> Result<(), Fail> {
     for (held, awaited) in [(0, 1), (1, 0)] {
         let gate = Holding::new(&rt, held, awaited, Until::Entered);
-        let is_shown = shows(&rt, SUM, b"1\n2\n", 1, 2, &gate, chunks_show(b"3\n"))?;
+        let is_shown = shows(&rt, SUM, b"1\n2\n", 2, &gate, chunks_show(b"3\n"))?;
         assert!(rt; seen_by(&gate) == (0, 2, 3, 3), "chunk {held} was held");
         assert!(rt; is_shown);
     }
@@ -124,7 +125,7 @@ const FAULT_AT_THREE: RunOutcome<'static> = RunOutcome {
 #[test]
 fn skips_past_a_fault(rt: HostRuntime) -> Result<(), Fail> {
     let gate = Holding::new(&rt, 99, 99, Until::Left);
-    let is_shown = shows(&rt, SUM, FAULTY, 1, 1, &gate, FAULT_AT_THREE)?;
+    let is_shown = shows(&rt, SUM, FAULTY, 1, &gate, FAULT_AT_THREE)?;
     assert!(rt; seen_by(&gate) == (0, 3, 7, 7));
     assert!(rt; is_shown);
     Ok(())
@@ -134,7 +135,7 @@ fn skips_past_a_fault(rt: HostRuntime) -> Result<(), Fail> {
 #[test]
 fn a_chunk_past_a_fault_is_dropped(rt: HostRuntime) -> Result<(), Fail> {
     let gate = Holding::new(&rt, 2, 3, Until::Left);
-    let is_shown = shows(&rt, SUM, FAULTY, 1, 2, &gate, FAULT_AT_THREE)?;
+    let is_shown = shows(&rt, SUM, FAULTY, 2, &gate, FAULT_AT_THREE)?;
     assert!(rt; seen_by(&gate) == (0, 4, 15, 15));
     assert!(rt; is_shown);
     Ok(())
@@ -208,28 +209,24 @@ fn both_work<G: Gate + Sync, R: AllocGlobal + Threads>(
 /// Both threads run a program over an input with a chunk for each line.
 fn both_run<G: Gate + Sync, R: AllocGlobal + Threads>(
     rt: &R,
-    text: &[u8],
+    code: &Code,
     input: &Input,
     gate: &G,
 ) -> Result<(Option<(u64, u8)>, Option<(u64, u8)>), Fail>
     requires { IsReady (10 ∷ []) input.now }
 {
     let alloc = rt.alloc();
-    let code = code_of(alloc, text)?;
+    let plan = plan_of_lines(alloc, input)?;
+    let roles = admit(alloc, code).map_err(|_| "not admitted")?;
+    let state = RecordState::new(alloc, code.rules.len())?;
     let names = code.scalars.as_slice();
     let globals = Globals::open(alloc, names, code.arrays.len(), &[])?;
-    let state = RecordState::new(alloc, code.rules.len())?;
-    let roles = admit(alloc, &code).map_err(|_| "not admitted")?;
     let opening = Opening {
-        job: Job {
-            code: &code,
-            budget: 1000,
-        },
+        job: Job { code, budget: 1000 },
         globals: &globals,
         roles: &roles,
         state: &state,
     };
-    let plan = plan_of_lines(alloc, input)?;
     let source = Chunked {
         input,
         plan: &plan,
@@ -244,7 +241,8 @@ fn two_threads_work(rt: HostRuntime) -> Result<(), Fail> {
     let mut input = one_file(rt.alloc(), b"5\n7\n")?;
     input.mend(b"\n")?;
     let gate = Holding::new(&rt, 0, 1, Until::Entered);
-    let lines = both_run(&rt, b"{ print $1 }", &input, &gate)?;
+    let code = code_of(rt.alloc(), b"{ print $1 }")?;
+    let lines = both_run(&rt, &code, &input, &gate)?;
     let (zero, one) = (Some((0, b'5')), Some((1, b'7')));
     assert!(rt; seen_by(&gate) == (0, 2, 3, 3));
     assert!(rt; lines == (zero, one) || lines == (one, zero));

@@ -10,20 +10,19 @@ use Rattle.pawk_admit.specs.Admission.{IsAdmissible, AreRoles}
 use Rattle.pawk_admit.specs.Reaches.{Occurs}
 use Rattle.pawk_admit.specs.Roles.{Roles}
 use Rattle.pawk_semantics.specs.Records.{End, Left}
-use Rattle.pawk_semantics.specs.Runs.{records_from, behind_records, records_by_rs}
+use Rattle.pawk_semantics.specs.Runs.{records_from, after_records, records_by_rs}
 use Rattle.pawk_merge.specs.Merges.{Stop, at_cell, at_fault, at_clash, merge, before_chunks}
-use Rattle.pawk_merge.specs.MergeViews.{stop_of}
+use Rattle.pawk_merge.specs.MergeViews.{chunk_of, stop_of}
+use Rattle.pawk_merge.specs.declared.chunk_result.ChunkResult.{ChunkResult}
 use Rattle.pawk_merge.specs.declared.stop.JoinStop.{JoinStop}
 use Rattle.pawk_merge.specs.declared.stop.JoinStop.TheVariants.{Cell, Fault, Clash, Memory}
 use Rattle.pawk_merge_law.specs.Chunks.{Opening, chunk_end, AreResults}
-use Rattle.pawk_merge_law.specs.ChunkResult.{ChunkResult}
 use Rattle.pawk_merge_law.specs.Ready.{MayRunFrom}
 use Rattle.pawk_merge_law.specs.Phases.{Phase, FaultsOrCreates, in_order}
-use Rattle.pawk_merge_law.specs.Gathered.{behind_output, ResultsLaw}
-use Rattle.pawk_merge_law.specs.Results.{chunk_of}
+use Rattle.pawk_merge_law.specs.Gathered.{after_output, ResultsLaw}
 use Rattle.pawk_threads.specs.declared.report.Refusal.TheVariants as refusal
 use Rattle.pawk_threads.specs.Prologue.{IsTaken}
-use Rattle.pawk_threads.specs.Routes.{phase_behind}
+use Rattle.pawk_threads.specs.Routes.{phase_after}
 use Rattle.pawk_threads.proofs.EndLemmas.{phase_of_end, by_taken}
 
 -- a refused allocation is no refusal for a cutting
@@ -44,23 +43,23 @@ module _ (code : Code) (roles : Roles) (budget : ℕ) (rs : List ℕ) (files : L
   abbrev pub Law : Result (End Globals) Stop → Type 0
   Law r =
       MatchResult r
-      (λ x. (in_order phase (items rs files) ≡ behind_output e.output x) × ¬ FaultsOrCreates phase (items rs files))
+      (λ x. (in_order phase (items rs files) ≡ after_output e.output x) × ¬ FaultsOrCreates phase (items rs files))
       (λ stop. FaultsOrCreates phase (items rs files))
 
   abbrev Stops : Phase → Type 0
   Stops p = FaultsOrCreates p (items rs files)
 
   pub merged : (r : Result (End Globals) Stop) (x : End Globals) → length rs ≤ 1 → Law r → r ≡ Ok x →
-      (records_by_rs calls code.expressions code budget rs files e ≡ behind_records calls code.expressions code budget x.left (behind_output e.output x))
-      × (Stops (phase_behind code roles budget e) → ⊥)
+      (records_by_rs calls code.expressions code budget rs files e ≡ after_records calls code.expressions code budget x.left (after_output e.output x))
+      × (Stops (phase_after code roles budget e) → ⊥)
   merged r x few law is =
       let l = subst Law is law in
       let records : Left → End Globals = λ left. records_from calls code.expressions code budget None (record e { left = left }) (items rs files) in (
-        by_taken code budget rs files e (behind_output e.output x) few taken (ap records taken.came ∙ l.0),
+        by_taken code budget rs files e (after_output e.output x) few taken (ap records taken.came ∙ l.0),
         λ stops. l.1 (subst Stops (phase_of_end code roles budget rs e taken) stops),
       )
 
-  pub stopped : (r : Result (End Globals) Stop) (s : Stop) → Law r → r ≡ Err s → Stops (phase_behind code roles budget e)
+  pub stopped : (r : Result (End Globals) Stop) (s : Stop) → Law r → r ≡ Err s → Stops (phase_after code roles budget e)
   stopped r s law is = subst Stops (sym (phase_of_end code roles budget rs e taken)) (subst Law is law)
 
   abbrev begins : Opening

@@ -7,8 +7,8 @@ use Rattle.pawk_code.specs.Programs.{Code}
 use Rattle.pawk_store.specs.Globals.{Globals, calls}
 use Rattle.pawk_semantics.specs.Outputs.{in_a_row, finish_with_output_before}
 use Rattle.pawk_semantics.specs.Records.{Left, End}
-use Rattle.pawk_semantics.specs.Runs.{Finish, behind_records}
-use Rattle.pawk_semantics.proofs.Framing.{behind_records_append}
+use Rattle.pawk_semantics.specs.Runs.{Finish, after_records}
+use Rattle.pawk_semantics.proofs.Framing.{after_records_append}
 use Rattle.pawk_merge.proofs.MergeLemmas.{in_a_row-push}
 
 -- what the parts of an output are together
@@ -18,15 +18,15 @@ parts_together before outputs behind = in_a_row-push (before ∷ outputs) behind
 
 -- what follows the records, with what was written before them in front
 pub in_front : (code : Code) (budget : ℕ) (left : Left) (out : List ℕ) (e : End Globals) (f : Finish Globals) → e.output ≡ [] →
-    behind_records calls code.expressions code budget left e ≡ f →
-    behind_records calls code.expressions code budget left (record e { output = out }) ≡ finish_with_output_before out f
+    after_records calls code.expressions code budget left e ≡ f →
+    after_records calls code.expressions code budget left (record e { output = out }) ≡ finish_with_output_before out f
 in_front code budget left out e f none is =
-    ap (λ (o : List ℕ). behind_records calls code.expressions code budget left (record e { output = o })) (sym (append-nil out) ∙ ap (λ (o : List ℕ). out ++ o) (sym none))
-    ∙ behind_records_append out calls code.expressions code budget left e ∙ ap (finish_with_output_before out) is
+    ap (λ (o : List ℕ). after_records calls code.expressions code budget left (record e { output = o })) (sym (append-nil out) ∙ ap (λ (o : List ℕ). out ++ o) (sym none))
+    ∙ after_records_append out calls code.expressions code budget left e ∙ ap (finish_with_output_before out) is
 
 -- the same of an end that is reported otherwise
 pub gone_on : (code : Code) (budget : ℕ) (out : List ℕ) (e x : End Globals) (f : Finish Globals) → x ≡ record e { output = out } → e.output ≡ [] →
-    behind_records calls code.expressions code budget e.left e ≡ f →
-    behind_records calls code.expressions code budget x.left x ≡ finish_with_output_before out f
+    after_records calls code.expressions code budget e.left e ≡ f →
+    after_records calls code.expressions code budget x.left x ≡ finish_with_output_before out f
 gone_on code budget out e x f same none is =
-    ap (λ (y : End Globals). behind_records calls code.expressions code budget y.left y) same ∙ in_front code budget e.left out e f none is
+    ap (λ (y : End Globals). after_records calls code.expressions code budget y.left y) same ∙ in_front code budget e.left out e f none is

@@ -15,12 +15,12 @@ use Rattle.pawk_admit.specs.Admission.{IsRole, IsReader, IsAdmissible, IsAnswer,
 use Rattle.pawk_admit.specs.Reaches.{Occurs}
 use Rattle.pawk_admit.specs.Roles.{Roles, role_of_array}
 use Rattle.pawk_semantics.specs.Records.{End}
-use Rattle.pawk_semantics.specs.Runs.{Finish, behind_begin, records_by_rs, ends_from, reads_records, take_separator}
+use Rattle.pawk_semantics.specs.Runs.{Finish, after_begin, records_by_rs, ends_from, reads_records, take_separator}
 use Rattle.pawk_merge_law.specs.Phases.{FaultsOrCreates}
 use Rattle.pawk_sequential.specs.RunEnds.{Answers}
 use Rattle.pawk_sequential.specs.declared.outcome.Outcome.{Outcome}
 use Rattle.pawk_threads.specs.Prologue.{Goes}
-use Rattle.pawk_threads.specs.Routes.{HasRecords, IsRedone, phase_behind, separator_of}
+use Rattle.pawk_threads.specs.Routes.{HasRecords, IsRedone, phase_after, separator_of}
 use Rattle.pawk_threads.specs.declared.report.Route.TheVariants.{Parallel}
 use Rattle.pawk_threads.proofs.EndLemmas.{chosen}
 
@@ -37,7 +37,7 @@ same_reader Stands roles others are are' n is =
 
 module _ (code : Code) (budget : ℕ) (files : List File) (e : End Globals) where
   abbrev Stops : Roles → Type 0
-  Stops roles = FaultsOrCreates (phase_behind code roles budget e) (items (separator_of e) files)
+  Stops roles = FaultsOrCreates (phase_after code roles budget e) (items (separator_of e) files)
 
   other_roles : (roles others : Roles) → AreRoles (Occurs code) roles → AreRoles (Occurs code) others → Stops others → Stops roles
   other_roles roles others are are' (inl faults) = inl faults
@@ -64,14 +64,14 @@ first_reason Stands b reason.NextFile off on is = is
 -- how a run goes on whose BEGIN ends so, and whose records begin so once RS was taken
 module _ (code : Code) (roles : Roles) (budget : ℕ) (rs : List ℕ) (files : List File) (e t : End Globals) (taken : take_separator rs e ≡ t) (text : rs ≡ separator_of e) where
   abbrev StopsBy : End Globals → List ℕ → Type 0
-  StopsBy x s = FaultsOrCreates (phase_behind code roles budget x) (items s files)
+  StopsBy x s = FaultsOrCreates (phase_after code roles budget x) (items s files)
 
   abbrev ends_by : List ℕ → End Globals → Finish Globals
   ends_by s x = records_by_rs calls code.expressions code budget s files x
 
-  by_records : HasRecords code e → behind_begin calls code.expressions code budget files e.left e ≡ ends_by rs t
+  by_records : HasRecords code e → after_begin calls code.expressions code budget files e.left e ≡ ends_by rs t
   by_records records =
-      ap (λ l. behind_begin calls code.expressions code budget files l e) records.0
+      ap (λ l. after_begin calls code.expressions code budget files l e) records.0
       ∙ chosen (reads_records code) (ends_by (separator_of e) e) (ends_from calls code.expressions code budget e) records.1
       ∙ ap (λ s. ends_by s e) (sym text) ∙ ap (λ x. ends_by rs x) taken
 

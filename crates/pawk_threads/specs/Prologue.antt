@@ -3,17 +3,15 @@ use Rattle.std.specs.Prelude.{◌≡◌, ℕ, List, Option, Some, None}
 use Rattle.pawk_code.specs.Programs.{Code}
 use Rattle.pawk_input.specs.Input.{File}
 use Rattle.pawk_store.specs.Globals.{Globals, calls}
+use Rattle.pawk_semantics.specs.LeftViews.{left_view}
 use Rattle.pawk_semantics.specs.Records.{End, through}
-use Rattle.pawk_semantics.specs.Runs.{behind_begin, behind_records, records_by_rs, take_separator}
-use Rattle.pawk_merge.specs.MergeViews.{leaving_view}
+use Rattle.pawk_semantics.specs.Runs.{after_begin, after_records, records_by_rs, take_separator}
 use Rattle.pawk_merge.specs.MergeViews as merges
 use Rattle.pawk_merge.specs.declared.merging.Merged.{Merged}
-use Rattle.pawk_merge_law.specs.Gathered.{behind_output}
-use Rattle.pawk_merge_law.specs.Ends.{end_view}
+use Rattle.pawk_merge_law.specs.Gathered.{after_output}
+use Rattle.pawk_sequential.specs.Ends.{end_view}
 use Rattle.pawk_sequential.specs.RunEnds.{Answers}
-use Rattle.pawk_sequential.specs.declared.ending.Ending.{Ending}
 use Rattle.pawk_sequential.specs.declared.outcome.Outcome.{Outcome}
-use Rattle.pawk_store.specs.declared.specials.Specials.{Specials}
 use Rattle.pawk_threads.specs.Routes.{IsRoute, separator_of}
 use Rattle.pawk_threads.specs.declared.prologue.Prologue.{Prologue}
 use Rattle.pawk_threads.specs.declared.report.Route.{Route}
@@ -33,16 +31,11 @@ pub record IsTaken (rs : List ℕ) (e : End Globals) : Type 0 where
 abbrev pub IsMerged : Code → ℕ → List ℕ → List File → End Globals → Prologue → Merged → Type 0
 IsMerged code budget rs files e prologue merged =
     records_by_rs calls code.expressions code budget rs files e
-    ≡ behind_records calls code.expressions code budget (leaving_view merged.leaving)
-    (behind_output prologue.run.output.items (merges.end_view prologue.globals merged))
-
--- An outcome: what was written, the globals and the specials that were left, and how the run ended.
-abbrev pub outcome_of : List ℕ → Globals → Specials → Ending → Outcome
-outcome_of output globals specials ending =
-    record { output = output; globals = globals; specials = specials; ending = ending }
+    ≡ after_records calls code.expressions code budget (left_view merged.left)
+    (after_output prologue.run.output.items (merges.end_view prologue.globals merged))
 
 -- After BEGIN the run went a way that is reported, and ended so; or it has to be run again, one record after the other.
 abbrev pub Goes : Code → ℕ → List File → End Globals → Option (Outcome × Route) → Type 0
 Goes code budget files e None = IsRoute code budget files e Redo
 Goes code budget files e (Some went) =
-    Answers (behind_begin calls code.expressions code budget files e.left e) went.0 × IsRoute code budget files e went.1
+    Answers (after_begin calls code.expressions code budget files e.left e) went.0 × IsRoute code budget files e went.1

@@ -41,8 +41,8 @@ abbrev pub IsPlanned : Code → End Globals → Type 0
 IsPlanned code e = HasRecords code e × IsAdmissible code × (length (separator_of e) ≤ 1)
 
 -- the records after BEGIN
-abbrev pub phase_behind : Code → Roles → ℕ → End Globals → Phase
-phase_behind code roles budget e = record {
+abbrev pub phase_after : Code → Roles → ℕ → End Globals → Phase
+phase_after code roles budget e = record {
   code = code;
   roles = roles;
   eres = code.expressions;
@@ -57,7 +57,7 @@ phase_behind code roles budget e = record {
 abbrev pub IsRedone : Code → ℕ → List File → End Globals → Type 0
 IsRedone code budget files e =
     (1 < length (separator_of e))
-    ⊎ ((roles : Roles) × AreRoles (Occurs code) roles × FaultsOrCreates (phase_behind code roles budget e) (items (separator_of e) files))
+    ⊎ ((roles : Roles) × AreRoles (Occurs code) roles × FaultsOrCreates (phase_after code roles budget e) (items (separator_of e) files))
 
 -- the route of a run whose BEGIN ends so
 abbrev pub IsRoute : Code → ℕ → List File → End Globals → Route → Type 0

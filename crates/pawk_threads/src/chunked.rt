@@ -13,16 +13,16 @@ ghost use Rattle.pawk_merge_law.specs.Phases.{FaultsOrCreates};
 ghost use Rattle.pawk_chunks.specs.Task.{IsChunked, IsCrew};
 ghost use Rattle.pawk_sequential.specs.RunEnds.{Answers};
 ghost use Rattle.pawk_threads.specs.Prologue.{IsMerged, IsTaken, end_of};
-ghost use Rattle.pawk_threads.specs.Routes.{phase_behind};
+ghost use Rattle.pawk_threads.specs.Routes.{phase_after};
 
 use crate::merging::{go_on_merged, lacks_memory};
 use crate::prologue::Prologue;
 use crate::report::Refusal;
 use pawk_admit::Roles;
-use pawk_chunks::{Chunked, Gate, run_chunks};
-use pawk_merge::Merged;
+use pawk_chunks::{Chunked, Gate, Opening, run_chunks};
+use pawk_merge::{Merged, merge};
 use pawk_merge_law::gathered_law::results_merge;
-use pawk_merge_law::{Opening, may_run, merge_results};
+use pawk_merge_law::may_run;
 use pawk_sequential::{Job, Outcome};
 use pawk_store::RecordState;
 use std::mem;
@@ -48,13 +48,13 @@ fn merge_plan<'a, G: Gate + Sync, R: Threads + Wait>(
     requires roles { AreRoles (Occurs (code_view job.code.now)) (roles_view roles.now) }
     ensures refused { IfErr result (λ e. e ≢ Refusal.Cutting) }
     ensures went { IfOk result (λ o. MatchOption o
-        (FaultsOrCreates (phase_behind (code_view job.entry.code.now) (roles_view roles.now)
+        (FaultsOrCreates (phase_after (code_view job.entry.code.now) (roles_view roles.now)
         job.entry.budget (end_of prologue.old))
         (items source.entry.rs.now (files_of source.entry.input.now)))
         (λ merged. IsMerged (code_view job.entry.code.now) job.entry.budget
         source.entry.rs.now (files_of source.entry.input.now)
         (end_of prologue.old) prologue.new merged
-        × ¬ FaultsOrCreates (phase_behind (code_view job.entry.code.now) (roles_view roles.now)
+        × ¬ FaultsOrCreates (phase_after (code_view job.entry.code.now) (roles_view roles.now)
         job.entry.budget (end_of prologue.old))
         (items source.entry.rs.now (files_of source.entry.input.now)))) }
 {
@@ -71,7 +71,7 @@ fn merge_plan<'a, G: Gate + Sync, R: Threads + Wait>(
     let results = run_chunks(rt, alloc, opening, source, workers, gate)?;
     results_merge();
     let state = mem::replace(&mut prologue.run.state, RecordState::new(alloc, 0)?);
-    match merge_results(alloc, &mut prologue.globals, state, results) {
+    match merge(alloc, &mut prologue.globals, state, results) {
         Ok(merged) => Ok(Some(merged)),
         Err(stop) => {
             if lacks_memory(stop) {
@@ -102,13 +102,13 @@ pub(crate) fn run_plan<'a, G: Gate + Sync, R: Threads + Wait>(
     requires roles { AreRoles (Occurs (code_view job.code.now)) (roles_view roles.now) }
     ensures refused { IfErr result (λ e. e ≢ Refusal.Cutting) }
     ensures went { IfOk result (λ o. MatchOption o
-        (FaultsOrCreates (phase_behind (code_view job.entry.code.now) (roles_view roles.now)
+        (FaultsOrCreates (phase_after (code_view job.entry.code.now) (roles_view roles.now)
         job.entry.budget (end_of prologue.entry))
         (items source.entry.rs.now (files_of source.entry.input.now)))
         (λ outcome. Answers (records_by_rs calls (code_view job.entry.code.now).expressions
         (code_view job.entry.code.now) job.entry.budget source.entry.rs.now
         (files_of source.entry.input.now) (end_of prologue.entry)) outcome
-        × ¬ FaultsOrCreates (phase_behind (code_view job.entry.code.now) (roles_view roles.now)
+        × ¬ FaultsOrCreates (phase_after (code_view job.entry.code.now) (roles_view roles.now)
         job.entry.budget (end_of prologue.entry))
         (items source.entry.rs.now (files_of source.entry.input.now)))) }
 {

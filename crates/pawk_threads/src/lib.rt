@@ -10,8 +10,10 @@ mod report;
 mod running;
 
 pub use cutting::{Cutting, Way};
-pub use pawk_chunks::{Chunked, Gate, Open, STACK_BYTES, Task, work};
-pub use pawk_merge_law::{ChunkResult, Opening, merge_results, run_chunk};
+pub use pawk_chunks::{
+    ChunkResult, Chunked, Gate, Open, Opening, STACK_BYTES, Task, run_chunk, work,
+};
+pub use pawk_merge::merge as merge_results;
 pub use pawk_sequential::{Ending, Job, Left, Outcome, Output, Place};
 pub use report::{Refusal, Report, Route};
 pub use running::run;

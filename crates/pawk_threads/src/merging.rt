@@ -4,33 +4,19 @@ ghost use Rattle.std.specs.Prelude.{◌≡◌, ◌↔◌, ◌++◌, IfOk, IsTrue
 ghost use Rattle.pawk_code.specs.ProgramViews.{code_view};
 ghost use Rattle.pawk_store.specs.Globals.{calls};
 ghost use Rattle.pawk_store.specs.StateViews.{state_of};
-ghost use Rattle.pawk_semantics.specs.Runs.{behind_records};
+ghost use Rattle.pawk_semantics.specs.LeftViews.{left_view};
+ghost use Rattle.pawk_semantics.specs.Runs.{after_records};
 ghost use Rattle.pawk_semantics.specs.Outputs.{in_a_row};
-ghost use Rattle.pawk_merge.specs.MergeViews.{leaving_view};
 ghost use Rattle.pawk_merge.specs.MergeViews as merges;
-ghost use Rattle.pawk_merge_law.specs.Ends.{left_view};
-ghost use Rattle.pawk_sequential.specs.RunEnds.{Answers};
-ghost use Rattle.pawk_merge_law.specs.Gathered.{behind_output};
-ghost use Rattle.pawk_threads.specs.Prologue.{outcome_of};
+ghost use Rattle.pawk_sequential.specs.RunEnds.{Answers, Finishes};
+ghost use Rattle.pawk_merge_law.specs.Gathered.{after_output};
 
 use crate::prologue::Prologue;
-use pawk_merge::{JoinStop, Leaving, Merged};
-use pawk_sequential::{Ending, Job, Left, Outcome, Output, Run, run_after_records};
-use pawk_store::{Globals, Specials};
+use pawk_merge::{JoinStop, Merged};
+use pawk_sequential::{Finish, Job, Outcome, Output, Run, run_after_records};
+use pawk_store::Globals;
 use std::alloc::{AllocError, Global};
 use std::mem;
-
-/// How records were left that were merged so.
-fn left_of(leaving: Leaving) -> Left
-    ensures { left_view result ≡ leaving_view leaving }
-{
-    match leaving {
-        Leaving::Through => Left::Through,
-        Leaving::Exit(status) => Left::Exit(status),
-        Leaving::Fault(fault) => Left::Fault(fault),
-        Leaving::Clash => Left::Clash,
-    }
-}
 
 /// Whether a merge stopped because memory was refused.
 pub(crate) fn lacks_memory(stop: JoinStop) -> bool
@@ -62,28 +48,30 @@ fn output_of(
     Ok(Output::of(parts))
 }
 
-/// Goes on after records that were merged into the globals, and gives what is shown beside these.
+/// Goes on after records that were merged into the globals; gives what the run leaves beside them.
 fn end_merged<'a>(
     job: Job<'_>,
     globals: &mut Globals,
     run: &mut Run<'a>,
     merged: Merged<'a>,
-) -> Result<(Output, Specials, Ending), AllocError>
-    ensures { IfOk result (λ shown. Answers (behind_records calls
+) -> Result<Finish, AllocError>
+    ensures { IfOk result (Finishes (after_records calls
         (code_view job.entry.code.now).expressions (code_view job.entry.code.now)
-        job.entry.budget (leaving_view merged.entry.leaving)
-        (behind_output run.old.output.items (merges.end_view globals.old merged.entry)))
-        (outcome_of shown.0 globals.new shown.1 shown.2)) }
+        job.entry.budget (left_view merged.entry.left)
+        (after_output run.old.output.items (merges.end_view globals.old merged.entry)))
+        globals.new) }
 {
     let alloc = run.alloc;
     let before = mem::replace(&mut run.output, Vec::new(alloc));
     run.state = merged.state;
-    let left = left_of(merged.leaving);
-    let ending = run_after_records(job, left, globals, run)?;
+    let ending = run_after_records(job, merged.left, globals, run)?;
     let specials = run.state.specials(alloc)?;
     let behind = mem::replace(&mut run.output, Vec::new(alloc));
-    let output = output_of(alloc, before, merged.outputs, behind)?;
-    Ok((output, specials, ending))
+    Ok(Finish {
+        output: output_of(alloc, before, merged.outputs, behind)?,
+        specials,
+        ending,
+    })
 }
 
 /// Goes on after records that were merged into the globals.
@@ -92,10 +80,10 @@ pub(crate) fn go_on_merged<'a>(
     prologue: Prologue<'a>,
     merged: Merged<'a>,
 ) -> Result<Outcome, AllocError>
-    ensures { IfOk result (Answers (behind_records calls
+    ensures { IfOk result (Answers (after_records calls
         (code_view job.entry.code.now).expressions (code_view job.entry.code.now)
-        job.entry.budget (leaving_view merged.entry.leaving)
-        (behind_output prologue.entry.run.output.items
+        job.entry.budget (left_view merged.entry.left)
+        (after_output prologue.entry.run.output.items
         (merges.end_view prologue.entry.globals merged.entry)))) }
 {
     let Prologue {
@@ -104,11 +92,6 @@ pub(crate) fn go_on_merged<'a>(
         left: _,
     } = prologue;
     let (mut globals, mut run) = (globals, run);
-    let (output, specials, ending) = end_merged(job, &mut globals, &mut run, merged)?;
-    Ok(Outcome {
-        output,
-        globals,
-        specials,
-        ending,
-    })
+    let finish = end_merged(job, &mut globals, &mut run, merged)?;
+    Ok(Outcome::of(finish, globals))
 }

@@ -5,15 +5,15 @@ ghost use Rattle.pawk_code.specs.ProgramViews.{code_view};
 ghost use Rattle.pawk_input.specs.Input.{IsReady, files_of};
 ghost use Rattle.pawk_store.specs.Globals.{calls};
 ghost use Rattle.pawk_store.specs.Openings.{pairs_of};
+ghost use Rattle.pawk_semantics.specs.LeftViews.{left_view};
 ghost use Rattle.pawk_semantics.specs.Runs as spec;
-ghost use Rattle.pawk_merge_law.specs.Ends.{left_view};
 ghost use Rattle.pawk_sequential.specs.RunEnds.{Answers};
 ghost use Rattle.pawk_threads.specs.Prologue.{end_of};
 ghost use Rattle.pawk_threads.specs.Routes.{HasRecords, begin_end, separator_of};
 
 use pawk_input::Input;
 use pawk_sequential::{
-    Finish, Job, Left, Outcome, Output, Run, make_ready, opening_run, run_after_begin, run_begin,
+    Job, Left, Outcome, Run, make_ready, opening_run, run_after_begin, run_begin,
 };
 use pawk_settings::Assignment;
 use pawk_store::Globals;
@@ -81,7 +81,7 @@ pub(crate) fn go_on(
     prologue: Prologue<'_>,
     input: &mut Input,
 ) -> Result<Outcome, AllocError>
-    ensures outcome { IfOk result (Answers (spec.behind_begin calls
+    ensures outcome { IfOk result (Answers (spec.after_begin calls
         (code_view job.entry.code.now).expressions (code_view job.entry.code.now)
         job.entry.budget (files_of input.old) (left_view prologue.entry.left)
         (end_of prologue.entry))) }
@@ -89,16 +89,6 @@ pub(crate) fn go_on(
 {
     let Prologue { globals, run, left } = prologue;
     let mut globals = globals;
-    let alloc = run.alloc;
-    let Finish {
-        output,
-        specials,
-        ending,
-    } = run_after_begin(job, left, input, &mut globals, run)?;
-    Ok(Outcome {
-        output: Output::whole(alloc, output)?,
-        globals,
-        specials,
-        ending,
-    })
+    let finish = run_after_begin(job, left, input, &mut globals, run)?;
+    Ok(Outcome::of(finish, globals))
 }

@@ -17,7 +17,7 @@ pub use pawk_format::{
 pub use pawk_scalar::{
     Digits, Fault, LENGTH_LIMIT, NUMBER_LIMIT, Op, Stop, Value, ValueRef, arith, arithmetic_law,
     candidate_number, candidate_truth, compare, compare_lent, compare_texts, is_blank_byte,
-    is_digit_byte, leading_digits, lend, limits_law, look_law, looks, number_of, numeral_law,
-    text_in, text_order_law, to_num, to_num_lent, truth, truth_lent, whole_number,
+    is_digit_byte, leading_digits, lend, limits_law, look_law, number_of, numeral_law, text_in,
+    text_order_law, to_num, to_num_lent, truth, truth_lent, whole_number,
 };
 pub use texts::{push_text, push_text_lent, to_text};

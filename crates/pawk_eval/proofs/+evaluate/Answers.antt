@@ -4,7 +4,7 @@ use Rattle.pawk_value.specs.Fault.{Fault}
 use Rattle.pawk_world.specs.Halts.{Halt, halt_of, fault}
 use Rattle.pawk_store.specs.StateViews.{state_of}
 use Rattle.pawk_code.specs.Expressions.{exprs, arguments}
-use Rattle.pawk_code.specs.ExpressionViews.{view, views, argument_view, argument_views, format_view, place_view, test_view, textual_view}
+use Rattle.pawk_code.specs.ExpressionViews.{view, views, argument_view, argument_views, format_view, numeric_view, place_view, test_view, textual_view}
 use Rattle.pawk_code.specs.StatementViews.{seen, simple_view, stmt_view}
 use Rattle.pawk_code.specs.ProgramViews.{function_view}
 use Rattle.pawk_semantics.specs.Builtins.{within_limit}
@@ -15,14 +15,14 @@ use Rattle.pawk_runtime.specs.declared.run.Parameter.{Parameter}
 use Rattle.pawk_runtime.specs.Moments.{holds_of, moment}
 use Rattle.pawk_eval.specs.Contexts.{functions_of, eres_of, enter_of, last_view}
 use Rattle.pawk_eval.specs.Contexts as contexts
-use Rattle.pawk_eval.proofs.Behind.{operand_next, operand_halts, text_behind}
+use Rattle.pawk_eval.proofs.AppendedText.{operand_next, operand_halts, text_after}
 use Rattle.pawk_eval.proofs.Bodies.{simple_next}
 use Rattle.pawk_eval.proofs.Calls.{call_no_step, call_too_deep, call_nothing, call_runs}
 use Rattle.pawk_eval.proofs.Rows.{expr_in_row, argument_in_row, statement_in_body, keys_left, text_in_row_halts, value_in_row_halts, argument_in_row_halts, value_argument_halts}
 use Rattle.pawk_runtime.proofs.ElementShapes.{element_shape}
 use Rattle.pawk_eval.proofs.Shapes.{call_shape, member_shape, join_shape, format_shape, simple_shape, if_shape, choose_shape, do_shape}
 use Rattle.pawk_eval.proofs.Turns.{turn_is, turn_no_step}
-use Rattle.pawk_eval.proofs.Weights.{rank, rank_falls, weight, row_weight, place_weight, test_weight, textual_weight, format_weight, argument_weight, arguments_weight, simple_weight, statement_weight, body_weight, body_in_list}
+use Rattle.pawk_eval.proofs.Weights.{rank, rank_falls, weight, numeric_weight, row_weight, place_weight, test_weight, textual_weight, format_weight, argument_weight, arguments_weight, simple_weight, statement_weight, body_weight, body_in_list}
 use Rattle.pawk_eval.proofs.+evaluate.Goals as goal
 use Rattle.pawk_eval.proofs.+evaluate.Goals.{loops::turns-in-None, loops::turns-in-Some+in_ok-truth-in-Some}
 
@@ -92,17 +92,6 @@ pub places::place-returns-in_ok-key-in-Element-clause-outcome : goal.places::pla
 places::place-returns-in_ok-key-in-Element-clause-outcome g t c =
     let is = element_shape c.args.p.now c.in-Element.array c.in-Element.keys c.deref.result.now c.in-Element.is c.deref.ensures.value in
     rw (is, c.in_ok-key-in-Element.ensures.outcome) (grind (arith, common_steps))
-
-pub assignments::tally-tally_element-requires : goal.assignments::tally-tally_element-requires
-assignments::tally-tally_element-requires g t c =
-    let is = element_shape c.args.to.now c.in-Element.array c.in-Element.keys c.deref-in-Element.result.now c.in-Element.is c.deref-in-Element.ensures.value in
-    let falls : row_weight (exprs (views c.deref-in-Element.result.now)) + 3 < place_weight (place_view c.args.to.now) + 2 = rw is (omega arith) in
-    search rules
-
-pub assignments::tally-returns-in-Element-clause-outcome : goal.assignments::tally-returns-in-Element-clause-outcome
-assignments::tally-returns-in-Element-clause-outcome g t c =
-    let is = element_shape c.args.to.now c.in-Element.array c.in-Element.keys c.deref-in-Element.result.now c.in-Element.is c.deref-in-Element.ensures.value in
-    rw is (grind (arith, common_steps))
 
 pub assignments::set-returns-in_err-assign_in_place-clause-outcome : goal.assignments::set-returns-in_err-assign_in_place-clause-outcome
 assignments::set-returns-in_err-assign_in_place-clause-outcome g t c =
@@ -263,9 +252,34 @@ strings::join-loop-e-preserved g t c =
     let start = c.len-start.result in
     let next = operand_next g.W.World.calls eres enter c.in-Some.rest.now c.loop-e.e-index c.e-item.result start c.loop-e.out.items c.text_into-in-loop-e.new.out.items (moment (g.W.World.state c.loop-e.world) c.loop-e.run) _ c.loop-e-test.true c.e-item.is c.loop-e.invariant.3 c.in_ok-text_into-in-Some-2.ensures.outcome in
     let short : within_limit (drop start c.text_into-in-loop-e.new.out.items) ≡ Ok (drop start c.text_into-in-loop-e.new.out.items) = grind (arith, common_steps) in
-    let parts = text_behind (eval g.W.World.calls eres enter (view c.e-item.result)) start c.loop-e.out.items c.text_into-in-loop-e.new.out.items (moment (g.W.World.state c.loop-e.world) c.loop-e.run) _ c.loop-e.invariant.3 c.in_ok-text_into-in-Some-2.ensures.outcome in
+    let parts = text_after (eval g.W.World.calls eres enter (view c.e-item.result)) start c.loop-e.out.items c.text_into-in-loop-e.new.out.items (moment (g.W.World.state c.loop-e.world) c.loop-e.run) _ c.loop-e.invariant.3 c.in_ok-text_into-in-Some-2.ensures.outcome in
     let rest = sym c.loop-e.invariant.0 ∙ next ∙ ap (λ (r : Result (List ℕ) Fault). then_do (settle r (moment (g.W.World.state c.text_into-in-loop-e.new.world) c.text_into-in-loop-e.new.run)) (suffixed g.W.World.calls eres enter (exprs (views (drop (suc c.loop-e.e-index) c.in-Some.rest.now))))) short in
     (rw add-one (sym rest), omega arith, parts.1 ∙ c.loop-e.invariant.2, parts.2)
+
+-- ---- leaves
+
+pub conditions::member-returns-in-Some-clause-outcome : goal.conditions::member-returns-in-Some-clause-outcome
+conditions::member-returns-in-Some-clause-outcome g t c = c.in-Some.ensures.outcome (eres_of c.args.context) (enter_of g.W.World.calls c.args.context c.args.depth)
+
+pub expressions::number_at-returns-in-Some-clause-outcome : goal.expressions::number_at-returns-in-Some-clause-outcome
+expressions::number_at-returns-in-Some-clause-outcome g t c = c.in-Some.ensures.outcome (eres_of c.args.context) (enter_of g.W.World.calls c.args.context c.args.depth)
+
+pub expressions::read-returns-in-Some-clause-outcome : goal.expressions::read-returns-in-Some-clause-outcome
+expressions::read-returns-in-Some-clause-outcome g t c = c.in-Some.ensures.outcome (eres_of c.args.context) (enter_of g.W.World.calls c.args.context c.args.depth)
+
+pub expressions::text_at-returns-in-Some-clause-outcome : goal.expressions::text_at-returns-in-Some-clause-outcome
+expressions::text_at-returns-in-Some-clause-outcome g t c = c.in-Some.ensures.outcome (eres_of c.args.context) (enter_of g.W.World.calls c.args.context c.args.depth)
+
+pub assignments::add-returns-in-Some-clause-outcome : goal.assignments::add-returns-in-Some-clause-outcome
+assignments::add-returns-in-Some-clause-outcome g t c = rw c.in-One.is (c.in-Some.ensures.outcome (eres_of c.args.context) (enter_of g.W.World.calls c.args.context c.args.depth))
+
+pub assignments::add-returns-in-Some-leaf_add : goal.assignments::add-returns-in-Some-leaf_add
+assignments::add-returns-in-Some-leaf_add g t c = record { left = c.in-Some-leaf_add.ensures.left; outcome = rw c.in-Of.is (c.in-Some-leaf_add.ensures.outcome (eres_of c.args.context) (enter_of g.W.World.calls c.args.context c.args.depth)) }
+
+pub assignments::add_elsewhere-numeric-requires : goal.assignments::add_elsewhere-numeric-requires
+assignments::add_elsewhere-numeric-requires g t c =
+    let falls : numeric_weight (numeric_view c.in-Some.n.now) < place_weight (place_view c.args.to.now) = rw c.in-Some.ensures (omega arith) in
+    search rules
 
 -- ---- calls
 

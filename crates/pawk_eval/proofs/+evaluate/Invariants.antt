@@ -7,7 +7,7 @@ use Rattle.pawk_semantics.specs.Places.{variable_aim}
 use Rattle.pawk_runtime.specs.Moments.{holds_of, moment}
 use Rattle.pawk_eval.specs.Contexts.{functions_of, eres_of, enter_of, last_view}
 use Rattle.pawk_eval.specs.Contexts as contexts
-use Rattle.pawk_eval.proofs.Weights.{rank, weight, row_weight, place_weight, numeric_weight, function_weight, test_weight, textual_weight, pattern_weight, separator_weight, format_weight, argument_weight, arguments_weight, simple_weight, option_weight, option_simple_weight, statement_weight, body_weight}
+use Rattle.pawk_eval.proofs.Weights.{rank, weight, row_weight, place_weight, numeric_weight, function_weight, test_weight, textual_weight, pattern_weight, separator_weight, format_weight, argument_weight, arguments_weight, simple_weight, option_weight, option_simple_weight, statement_weight, body_weight, amount_weight}
 use Rattle.pawk_eval.proofs.+evaluate.Given as goal
 
 abbrev pub decreases-expressions::eval : goal.decreases-expressions::eval
@@ -63,12 +63,6 @@ decreases-numbers::arithmetic g l = rank (functions_of l.context) l.depth (weigh
 
 abbrev pub decreases-numbers::arithmetic_with : goal.decreases-numbers::arithmetic_with
 decreases-numbers::arithmetic_with g l = rank (functions_of l.context) l.depth (weight (view l.b.now) + 3)
-
-abbrev pub decreases-numbers::change : goal.decreases-numbers::change
-decreases-numbers::change g l = rank (functions_of l.context) l.depth (place_weight (place_view l.to.now) + weight (view l.e.now) + 3)
-
-abbrev pub decreases-numbers::step_by : goal.decreases-numbers::step_by
-decreases-numbers::step_by g l = rank (functions_of l.context) l.depth (place_weight (place_view l.to.now) + 1)
 
 abbrev pub decreases-conditions::holds : goal.decreases-conditions::holds
 decreases-conditions::holds g l = rank (functions_of l.context) l.depth (weight (view l.e.now) + 3)
@@ -142,20 +136,17 @@ decreases-statements::perform g l = rank (functions_of l.context) l.depth (simpl
 abbrev pub decreases-statements::delete : goal.decreases-statements::delete
 decreases-statements::delete g l = rank (functions_of l.context) l.depth (row_weight (exprs (views l.keys.now)) + 2)
 
+abbrev pub decreases-amount::amount_number : goal.decreases-amount::amount_number
+decreases-amount::amount_number g l = rank (functions_of l.context) l.depth (amount_weight l.amount)
+
+abbrev pub decreases-numbers::change : goal.decreases-numbers::change
+decreases-numbers::change g l = rank (functions_of l.context) l.depth (place_weight (place_view l.to.now) + amount_weight l.amount + 1)
+
 abbrev pub decreases-assignments::add : goal.decreases-assignments::add
-decreases-assignments::add g l = rank (functions_of l.context) l.depth (place_weight (place_view l.to.now) + weight (view l.e.now) + 4)
+decreases-assignments::add g l = rank (functions_of l.context) l.depth (place_weight (place_view l.to.now) + amount_weight l.amount + 2)
 
 abbrev pub decreases-assignments::add_elsewhere : goal.decreases-assignments::add_elsewhere
-decreases-assignments::add_elsewhere g l = rank (functions_of l.context) l.depth (place_weight (place_view l.to.now) + weight (view l.e.now) + 3)
-
-abbrev pub decreases-assignments::tally : goal.decreases-assignments::tally
-decreases-assignments::tally g l = rank (functions_of l.context) l.depth (place_weight (place_view l.to.now) + 2)
-
-abbrev pub decreases-assignments::tally_element : goal.decreases-assignments::tally_element
-decreases-assignments::tally_element g l = rank (functions_of l.context) l.depth (row_weight (exprs (views l.keys.now)) + 3)
-
-abbrev pub decreases-assignments::tally_elsewhere : goal.decreases-assignments::tally_elsewhere
-decreases-assignments::tally_elsewhere g l = rank (functions_of l.context) l.depth (place_weight (place_view l.to.now) + 1)
+decreases-assignments::add_elsewhere g l = rank (functions_of l.context) l.depth (place_weight (place_view l.to.now) + amount_weight l.amount + 1)
 
 abbrev pub decreases-assignments::set_elsewhere : goal.decreases-assignments::set_elsewhere
 decreases-assignments::set_elsewhere g l = rank (functions_of l.context) l.depth (place_weight (place_view l.to.now) + weight (view l.e.now) + 1)

@@ -1,7 +1,7 @@
 use Rattle.std.proofs.Common.{◌≡◌, ◌∙◌, ◌+◌, ◌<◌, length, length-drop, drop, sym, subst, inl, inr, arith}
 use Rattle.std.proofs.lemmas.Bool.{cases_lt, false≢true}
 use Rattle.memchr.specs.Find.{OccursAt}
-use Rattle.pawk_builtins.proofs.OccurrenceLemmas.{none_up_to, occurs_behind, occurs_there}
+use Rattle.pawk_builtins.proofs.OccurrenceLemmas.{none_up_to, occurs_after, occurs_there}
 use Rattle.pawk_builtins.proofs.occurrence.find_short.Goals as goal
 
 pub returns-in_err-place : goal.returns-in_err-place
@@ -20,7 +20,7 @@ returns-then-is_prefix c =
     let none = none_up_to s c.args.sought.now from c.in_ok-place.field-0 c.requires c.loop-from.invariant.none first.0.before in
     let within : from + c.in_ok-place.field-0 < length s = omega (arith, length-drop from s, first.0.high) in
     let here = rw c.split_at-in-loop-from.ensures.back at (c.is_prefix.ensures.0 c.if-is_prefix.true) in
-    (record { low = omega arith; high = omega arith; before = none }, occurs_behind s c.args.sought.now (from + c.in_ok-place.field-0) (omega arith) here)
+    (record { low = omega arith; high = omega arith; before = none }, occurs_after s c.args.sought.now (from + c.in_ok-place.field-0) (omega arith) here)
 
 pub loop-from-preserved : goal.loop-from-preserved
 loop-from-preserved c =

@@ -26,12 +26,12 @@ loop-found-preserved c =
     let ahead = subst (λ (o : Option (ℕ × ℕ)). IfSome o (IsAhead text c.loop-found.from c.loop-found.behind)) c.in-Some.is c.in_ok-found.ensures.ahead in
     record {
       matcher = c.next_match.ensures.matcher ∙ i.matcher;
-      ordered = c.place_behind.ensures.within.0;
-      high = c.place_behind.ensures.within.1;
+      ordered = c.place_past.ensures.within.0;
+      high = c.place_past.ensures.within.1;
       laid = λ e for.
           let next = subst (λ (o : Option (ℕ × ℕ)). IsNextReplaced e text c.loop-found.from c.loop-found.behind o) c.in-Some.is (c.in_ok-found.ensures.found e (subst (IsFor e) (sym i.matcher) for)) in
           laid_step e r text (replaced All e r text) c.loop-found.out.items c.loop-found.place c.loop-found.from c.loop-found.count c.loop-found.behind c.in-Some.found
-          c.push_match.new.out.items c.place_behind.result i.ordered ahead (i.laid e for) next c.in_ok-push_match.ensures c.place_behind.ensures.place;
+          c.push_match.new.out.items c.place_past.result i.ordered ahead (i.laid e for) next c.in_ok-push_match.ensures c.place_past.ensures.place;
     }
 
 pub returns-in_ok-extend_from_slice-clause-text : goal.returns-in_ok-extend_from_slice-clause-text

@@ -1,5 +1,5 @@
 use Rattle.std.proofs.Common.{Some, subst}
-use Rattle.pawk_ere.specs.Kept.{IsOfText}
+use Rattle.pawk_ere.specs.Caches.{IsOfText}
 use Rattle.pawk_ere.proofs.Keeping.{rest_of, taken_of}
 use Rattle.pawk_ere.proofs.cache.take_other.Goals as goal
 

@@ -22,7 +22,7 @@ loop-field-preserved g c =
       adds = adds_one c.args.fields c.loop-field.fields c.next_range.new.self c.args.ranges.now.items c.loop-field.ranges.items c.push.new.self.items c.in-Some.field i.adds step c.in_ok-push.ensures.items;
       front = grind (arith, common_steps, i.front, i.long, c.in_ok-push.ensures.items);
       long = omega (arith, i.long, c.in_ok-push.ensures.len);
-      needs = λ h. i.needs (needed_before c.loop-field.fields c.next_range.new.self c.in_ok-field.ensures.same nearer h);
+      needs = λ h. i.needs (needed_before c.loop-field.fields c.next_range.new.self nearer);
       pattern = search rules;
       finder = c.in_ok-field.ensures.finder ∙ i.finder;
     }

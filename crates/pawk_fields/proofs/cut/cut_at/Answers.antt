@@ -1,5 +1,5 @@
 use Rattle.std.proofs.Common.{◌+◌, [], ◌∷◌, length, refl, subst, sym}
-use Rattle.pawk_fields.proofs.BetweenLemmas.{match_separates, newline_separates, end_separates, field_before, only_before, field_last, only_last, next_behind}
+use Rattle.pawk_fields.proofs.BetweenLemmas.{match_separates, newline_separates, end_separates, field_before, only_before, field_last, only_last, next_after}
 use Rattle.pawk_fields.specs.Between.{AreBetween}
 use Rattle.pawk_fields.proofs.cut.cut_at.Goals as goal
 
@@ -13,7 +13,7 @@ returns-in-Some-clause-cut c = λ pattern n.
     record {
       field = field_before pattern s c.args.paragraph c.args.from i (i + 1) separator;
       only = only_before pattern s c.args.paragraph c.args.from i (i + 1) separator;
-      known = next_behind pattern s c.args.paragraph c.args.from c.args.found stop i n c.match_start-stop.ensures first.low first.high;
+      known = next_after pattern s c.args.paragraph c.args.from c.args.found stop i n c.match_start-stop.ensures first.low first.high;
     }
 
 pub returns-in-Some-found-clause-cut : goal.returns-in-Some-found-clause-cut

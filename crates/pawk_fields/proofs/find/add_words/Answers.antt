@@ -2,7 +2,7 @@ use Rattle.std.proofs.Common.{◌<◌, ◌-◌, ◌++◌, bit_and, map, refl, ap
 use Rattle.pawk_fields.specs.Blocks.{block_from}
 use Rattle.pawk_fields.specs.FieldSeparator.{range_of}
 use Rattle.pawk_fields.proofs.BlockBits.{bits_fit, length-block}
-use Rattle.pawk_fields.proofs.WordBits.{changes_here, end_high, end_near, end_on, left_behind, left_there, on_there, one_added, some_left, word_there}
+use Rattle.pawk_fields.proofs.WordBits.{changes_here, end_high, end_near, end_on, left_after, left_there, on_there, one_added, some_left, word_there}
 use Rattle.pawk_fields.proofs.find.add_words.Goals as goal
 
 pub overflow_add-changes : goal.overflow_add-changes
@@ -65,7 +65,7 @@ loop-start-preserved c =
       low = omega (arith, on, old.low);
       high = end_high s block place n old.low old.high old.near old.left some;
       near = end_near s block place n old.low old.high old.near old.left some;
-      left = left_behind s block place n old.low old.high old.near old.left some _ refl;
+      left = left_after s block place n old.low old.high old.near old.left some _ refl;
       same = one_added _ _ _ _ _ c.in_ok-push.ensures.items (word_there s block place n old.low old.high old.near old.left some) ∙ old.same;
       more = omega (arith, old.more, longer);
       moved = omega (arith, old.moved, longer, on);

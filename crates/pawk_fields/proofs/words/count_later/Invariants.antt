@@ -5,5 +5,5 @@ use Rattle.pawk_fields.proofs.words.count_later.Given as goal
 abbrev pub invariant-loop-byte : goal.invariant-loop-byte
 invariant-loop-byte l = record {
   few : l.count ≤ l.byte-index;
-  left : l.count + length (fields_left l.after_blank (drop l.byte-index l.rest)) ≡ length (fields_left l.fn.behind_blank l.rest);
+  left : l.count + length (fields_left l.after_blank (drop l.byte-index l.rest)) ≡ length (fields_left l.fn.starts_after_blank l.rest);
 }

@@ -17,8 +17,8 @@ loop-rest-preserved c =
     let pieces = c.next_piece-front.ensures.pieces in
     let made = c.in_ok-push_piece.ensures in
     record {
-      text = rw c.arguments_behind-left.ensures (lemmas.step_text _ _ _ values out _ pieces made ∙ invariant.text);
-      first = rw c.arguments_behind-left.ensures (lemmas.step_writes _ _ values out _ made ∙ ap (λ l. has_bytes out || writes l values) (sym pieces) ∙ invariant.first);
+      text = rw c.arguments_after-left.ensures (lemmas.step_text _ _ _ values out _ pieces made ∙ invariant.text);
+      first = rw c.arguments_after-left.ensures (lemmas.step_writes _ _ values out _ made ∙ ap (λ l. has_bytes out || writes l values) (sym pieces) ∙ invariant.first);
     }
 
 pub returns : goal.returns

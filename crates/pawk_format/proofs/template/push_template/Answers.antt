@@ -19,8 +19,8 @@ loop-part-preserved c =
     let pieces = front_part c.args.template.now.parts.items c.loop-part.part-index c.part-item.result c.piece_of-piece.result (omega arith) (rw c.deref-part-items.ensures.value at c.part-item.is) c.piece_of-piece.ensures in
     let made = c.in_ok-push_piece.ensures in
     record {
-      text = rw c.arguments_behind-left.ensures (lemmas.step_text _ _ _ values out _ pieces made ∙ invariant.text);
-      first = rw c.arguments_behind-left.ensures (lemmas.step_writes _ _ values out _ made ∙ ap (λ l. has_bytes out || writes l values) (sym pieces) ∙ invariant.first);
+      text = rw c.arguments_after-left.ensures (lemmas.step_text _ _ _ values out _ pieces made ∙ invariant.text);
+      first = rw c.arguments_after-left.ensures (lemmas.step_writes _ _ values out _ made ∙ ap (λ l. has_bytes out || writes l values) (sym pieces) ∙ invariant.first);
     }
 
 pub returns : goal.returns

@@ -5,7 +5,7 @@ use Rattle.pawk_array.specs.Entries.{Entries}
 use Rattle.pawk_store.specs.Globals.{Globals, array_at}
 use Rattle.pawk_merge.specs.Tables.{array_marks, array_takes, arrays_take, join_array}
 use Rattle.pawk_merge.specs.Tables as spec
-use Rattle.pawk_merge.proofs.SlotLemmas.{done_more, done_all, later_slot, each_below_more, each_below_fewer, each_below_false, left_within, left_at, left_behind, same_globals}
+use Rattle.pawk_merge.proofs.SlotLemmas.{done_more, done_all, later_slot, each_below_more, each_below_fewer, each_below_false, left_within, left_at, left_after, same_globals}
 use Rattle.pawk_merge.proofs.StopLemmas.{stops_too}
 use Rattle.pawk_merge.proofs.table.join_arrays.Goals as goal
 
@@ -25,7 +25,7 @@ loop-of_elements-preserved c =
     let change = done_more [] f i old now c.take_array-elements.result c.join_array.new.elements c.loop-of_elements.invariant.arrays c.take_array-elements.ensures.elements joined in
     record {
       size = omega (arith, c.loop-of_elements.invariant.size, c.in-Some.ensures.steps.1);
-      left = sym (left_behind i ms rest c.in-Some.of_elements left);
+      left = sym (left_after i ms rest c.in-Some.of_elements left);
       taken = each_below_more i (λ n. array_takes (array_marks ms n) (array_at c.args.globals.now n)) c.loop-of_elements.invariant.taken taken;
       arrays = ap (λ (g : Globals). g.arrays) c.put_array.ensures ∙ ap (λ (g : Globals). set g.arrays i c.join_array.new.elements) c.take_array-elements.ensures.globals ∙ change;
       scalars = ap (λ (g : Globals). g.scalars) c.put_array.ensures ∙ ap (λ (g : Globals). g.scalars) c.take_array-elements.ensures.globals ∙ c.loop-of_elements.invariant.scalars;

@@ -11,7 +11,7 @@ use Rattle.pawk_frozen.specs.declared.mark.CellMark.TheVariants as code
 use Rattle.pawk_merge.specs.Joins.{takes, joined_value}
 use Rattle.pawk_merge.specs.Tables.{by_place, each_below, scalar_mark, scalars_take}
 use Rattle.pawk_merge.specs.Tables as spec
-use Rattle.pawk_merge.proofs.SlotLemmas.{done_more, done_all, later_slot, each_below_more, each_below_fewer, each_below_false, left_within, left_at, left_behind, same_globals}
+use Rattle.pawk_merge.proofs.SlotLemmas.{done_more, done_all, later_slot, each_below_more, each_below_fewer, each_below_false, left_within, left_at, left_after, same_globals}
 use Rattle.pawk_merge.proofs.StopLemmas.{stops_too}
 use Rattle.pawk_merge.proofs.table.join_scalars.Goals as goal
 
@@ -32,7 +32,7 @@ loop-mark-preserved c =
     let change = done_more Uninit f i old now (shown c.take_scalar-value.result) (shown c.join_cell.new.cell) c.loop-mark.invariant.scalars c.take_scalar-value.ensures.value joined in
     record {
       size = omega (arith, c.loop-mark.invariant.size, c.in-Some.ensures.steps.1);
-      left = sym (left_behind i marks rest c.in-Some.mark left);
+      left = sym (left_after i marks rest c.in-Some.mark left);
       taken = each_below_more i (λ n. takes (scalar_mark ms n) (value_at (scalar n) c.args.globals.now)) c.loop-mark.invariant.taken taken;
       scalars = ap (λ (g : Globals). g.scalars) c.put_scalar.ensures ∙ ap (λ (g : Globals). set g.scalars i (shown c.join_cell.new.cell)) c.take_scalar-value.ensures.globals ∙ change;
       arrays = ap (λ (g : Globals). g.arrays) c.put_scalar.ensures ∙ ap (λ (g : Globals). g.arrays) c.take_scalar-value.ensures.globals ∙ c.loop-mark.invariant.arrays;

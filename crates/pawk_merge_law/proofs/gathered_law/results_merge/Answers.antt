@@ -7,12 +7,12 @@ use Rattle.pawk_input.specs.Input.{Item, items}
 use Rattle.pawk_input.specs.Plan.{chunk_items}
 use Rattle.pawk_semantics.specs.Records.{through}
 use Rattle.pawk_merge.specs.Merges.{before_chunks, merge}
+use Rattle.pawk_merge.specs.MergeViews.{chunk_of}
 use Rattle.pawk_merge_law.specs.Phases.{in_order, opening, FaultsOrCreates}
-use Rattle.pawk_merge_law.specs.Results.{chunk_of}
 use Rattle.pawk_merge_law.specs.Gathered.{phase_of}
 use Rattle.pawk_merge_law.proofs.NumberLemmas.{AreNumbered, all_numbered}
 use Rattle.pawk_merge_law.proofs.ResultLemmas.{each_has, ran}
-use Rattle.pawk_merge_law.proofs.MergeLemmas.{with_front, merge_behind, without_front}
+use Rattle.pawk_merge_law.proofs.MergeLemmas.{with_front, merge_after, without_front}
 use Rattle.pawk_merge_law.proofs.gathered_law.results_merge.Goals as goal
 
 pub returns : goal.returns
@@ -23,7 +23,7 @@ returns c = λ o written may none rs files plan is results are.
     let begin = before_chunks o.globals o.state in
     let numbered = subst (λ all. AreNumbered 0 all) (sym is.whole) (all_numbered rs 0 0 files) in
     let same : merge told (opening p) ≡ with_front written (merge told begin) =
-    ap (λ (out : List ℕ). merge told (record { world = o.globals; state = o.state; output = out; left = through })) (sym (append-nil written)) ∙ merge_behind written told begin in
+    ap (λ (out : List ℕ). merge told (record { world = o.globals; state = o.state; output = out; left = through })) (sym (append-nil written)) ∙ merge_after written told begin in
     let law = c.chunks_merge.ensures p may chunks told (each_has o written rs files plan is.each)
     (ran o written rs files plan results o.state.nr (subst (λ n. AreNumbered n (flat_map (chunk_items rs files) plan)) (sym none) numbered) is.each are) in
     without_front written (λ e. (in_order p (items rs files) ≡ e) × ¬ FaultsOrCreates p (items rs files)) (λ stop. FaultsOrCreates p (items rs files)) (merge told begin)

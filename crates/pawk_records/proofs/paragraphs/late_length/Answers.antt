@@ -2,7 +2,7 @@ use Rattle.std.proofs.Common.{◌≡◌, ◌+◌, ◌<◌, true, false, cond, le
 use Rattle.std.proofs.lemmas.List.{length-drop}
 use Rattle.pawk_records.specs.Records.{ends_line}
 use Rattle.pawk_records.specs.Paragraph.{paragraph_length}
-use Rattle.pawk_records.proofs.ParagraphLemmas.{length_without, length_with, ends_at_end, ends_before_newline, goes_behind, length_behind}
+use Rattle.pawk_records.proofs.ParagraphLemmas.{length_without, length_with, ends_at_end, ends_before_newline, goes_after, length_after}
 use Rattle.pawk_records.proofs.paragraphs.late_length.Goals as goal
 use Rattle.pawk_records.proofs.paragraphs.late_length.Goals.{then-end-text-via-then-end-text, then-end-text-via-else-end-text+then-text-end-eq-NEWLINE}
 
@@ -34,9 +34,9 @@ loop-from-preserved c =
     let first = rw c.split_at.ensures.back at c.in-Some.ensures in
     let high : i < length (drop from s) = first.0.high in
     let within : from + i + 1 < length s = omega (arith, high, length-drop from s, c.if-end-text.false) in
-    let goes : ends_line (drop (i + 1) (drop from s)) ≡ false = goes_behind s from i within c.if-text-end-eq-NEWLINE.false in
+    let goes : ends_line (drop (i + 1) (drop from s)) ≡ false = goes_after s from i within c.if-text-end-eq-NEWLINE.false in
     let whole : paragraph_length (drop from s) ≡ i + (1 + paragraph_length (drop (i + 1) (drop from s))) = length_with (drop from s) i first.0 first.1 ∙ ap (λ v. i + cond v 0 (1 + paragraph_length (drop (i + 1) (drop from s)))) goes in
     record {
       within = omega (arith, within);
-      none = omega (arith, whole, length_behind s from i, c.loop-from.invariant.none);
+      none = omega (arith, whole, length_after s from i, c.loop-from.invariant.none);
     }

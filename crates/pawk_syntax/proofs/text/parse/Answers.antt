@@ -1,9 +1,9 @@
-use Rattle.std.proofs.Common.{sym, ◌≡◌, rules, map, subst, rules}
+use Rattle.std.proofs.Common.{sym, ap, ◌≡◌, ◌∙◌, rules, map, subst}
 use Rattle.pawk_lex.specs.TokenLists.{values}
 use Rattle.pawk_syntax_tree.specs.Item.{part}
 use Rattle.pawk_syntax_tree.specs.ItemCanonical.{canon_program}
 use Rattle.pawk_syntax_grammar.specs.Expressions.{eres}
-use Rattle.pawk_syntax_grammar.specs.ExpressionReads.{AreSpelled, AreExpressions, Denies, patterns}
+use Rattle.pawk_syntax_grammar.specs.ExpressionReads.{AreExpressions, Denies}
 use Rattle.pawk_syntax_check.specs.Fits.{Fits}
 use Rattle.pawk_syntax.specs.Spells.{Spells}
 use Rattle.pawk_syntax.specs.Items.{AreRead}
@@ -12,9 +12,9 @@ use Rattle.pawk_syntax.proofs.text.parse.Goals as goal
 
 pub returns-in-Ok-clause-found : goal.returns-in-Ok-clause-found
 returns-in-Ok-clause-found c =
-    spells c.args.text.now (values c.in_ok-list.list.tokens.items) c.in_ok-list.list.refusal (map part c.in-Ok.items.items) (patterns c.in_ok-expressions-in-Ok.expressions)
+    spells c.args.text.now (values c.in_ok-list.list.tokens.items) c.in_ok-list.list.refusal (map part c.in-Ok.items.items)
     c.in_ok-list.ensures.tokens c.in-Ok.ensures.found
-    (subst (λ z. AreSpelled (eres (values z)) (patterns c.in_ok-expressions-in-Ok.expressions)) c.deref.ensures.value c.in_ok-expressions-in-Ok.ensures.found)
+    (subst (λ z. AreExpressions (eres (values z))) c.deref.ensures.value c.in_ok-expressions-in-Ok.ensures.found)
     (subst (λ z. Fits (map part z)) c.deref-in-Ok.ensures.value c.in_ok-check-in-Ok.ensures.fit)
 
 pub returns-in-Ok-clause-canonical : goal.returns-in-Ok-clause-canonical
@@ -39,15 +39,14 @@ returns-in_err-expressions-in-Ok-clause-canonical c other xs s cut =
 pub invariant_of-result : goal.invariant_of-result
 invariant_of-result c =
     let found : Spells c.args.text.now (map part c.in-Ok.items.items) =
-    spells c.args.text.now (values c.in_ok-list.list.tokens.items) c.in_ok-list.list.refusal (map part c.in-Ok.items.items) (patterns c.in_ok-expressions-in-Ok.expressions)
+    spells c.args.text.now (values c.in_ok-list.list.tokens.items) c.in_ok-list.list.refusal (map part c.in-Ok.items.items)
     c.in_ok-list.ensures.tokens c.in-Ok.ensures.found
-    (subst (λ z. AreSpelled (eres (values z)) (patterns c.in_ok-expressions-in-Ok.expressions)) c.deref.ensures.value c.in_ok-expressions-in-Ok.ensures.found)
+    (subst (λ z. AreExpressions (eres (values z))) c.deref.ensures.value c.in_ok-expressions-in-Ok.ensures.found)
     (subst (λ z. Fits (map part z)) c.deref-in-Ok.ensures.value c.in_ok-check-in-Ok.ensures.fit) in
     record {
       spelled = ∣ (c.args.text.now, found) ∣₁;
-      expressed = ∣ subst (λ z. AreSpelled z (patterns c.in_ok-expressions-in-Ok.expressions))
-          (same_expressions (values c.in_ok-list.list.tokens.items) c.in_ok-list.list.refusal (map part c.in-Ok.items.items) c.in-Ok.ensures.found)
-          (subst (λ z. AreSpelled (eres (values z)) (patterns c.in_ok-expressions-in-Ok.expressions)) c.deref.ensures.value c.in_ok-expressions-in-Ok.ensures.found) ∣₁;
+      texts = c.in_ok-expressions-in-Ok.ensures.texts ∙ ap (λ z. eres (values z)) c.deref.ensures.value
+          ∙ same_expressions (values c.in_ok-list.list.tokens.items) c.in_ok-list.list.refusal (map part c.in-Ok.items.items) c.in-Ok.ensures.found;
     }
 
 pub returns-in_err-check-in-Ok-clause-canonical : goal.returns-in_err-check-in-Ok-clause-canonical

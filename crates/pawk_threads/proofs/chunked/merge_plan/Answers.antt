@@ -5,8 +5,7 @@ use Rattle.pawk_input.specs.Input.{files_of}
 use Rattle.pawk_store.specs.StateViews.{state_of}
 use Rattle.pawk_admit.specs.Roles.{roles_view}
 use Rattle.pawk_merge.specs.Merges.{merge, before_chunks}
-use Rattle.pawk_merge.specs.MergeViews.{end_view}
-use Rattle.pawk_merge_law.specs.Results.{chunk_of}
+use Rattle.pawk_merge.specs.MergeViews.{chunk_of, end_view}
 use Rattle.pawk_threads.specs.Prologue.{end_of}
 use Rattle.pawk_threads.proofs.MergedLemmas.{law_of, merged, no_cutting, stopped, stop_told}
 use Rattle.pawk_threads.proofs.chunked.merge_plan.Goals as goal
@@ -32,7 +31,7 @@ returns-in-Ok-clause-went g c =
     let results = c.in_ok-results.results.items in
     let may = c.in_ok-may_run.ensures.ready c.if-not-branch.false in
     let law = law_of code roles budget rs files e c.requires.taken c.results_merge.ensures may c.requires.admissible c.requires.roles c.args.source.plan.now c.requires.chunked.planned results c.in_ok-results.ensures in
-    let x = end_view c.merge_results.new.globals c.in-Ok.merged in
+    let x = end_view c.merge.new.globals c.in-Ok.merged in
     let r = merge (map chunk_of results) (before_chunks e.world e.state) in
     let is : r ≡ Ok x = ap (λ s. merge (map chunk_of results) (before_chunks e.world (state_of s))) (sym c.replace-state.ensures.value) ∙ c.in-Ok.ensures in
     let told = merged code roles budget rs files e c.requires.taken r x c.requires.chunked.one_byte law is in

@@ -7,7 +7,7 @@ use Rattle.pawk_merge.specs.declared.merging.Merged.{Merged}
 use Rattle.pawk_merge_law.specs.Phases.{FaultsOrCreates}
 use Rattle.pawk_sequential.specs.RunEnds.{Answers}
 use Rattle.pawk_threads.specs.Prologue.{IsMerged, end_of}
-use Rattle.pawk_threads.specs.Routes.{phase_behind}
+use Rattle.pawk_threads.specs.Routes.{phase_after}
 use Rattle.pawk_threads.proofs.chunked.run_plan.Goals as goal
 
 pub returns-in_ok-go_on_merged-in-Some-clause-went : goal.returns-in_ok-go_on_merged-in-Some-clause-went
@@ -17,6 +17,6 @@ returns-in_ok-go_on_merged-in-Some-clause-went g c =
     let rs = c.args.source.rs.now in
     let files = files_of c.args.source.input.now in
     let e = end_of c.args.prologue in
-    let stops = FaultsOrCreates (phase_behind code (roles_view c.args.roles.now) budget e) (items rs files) in
+    let stops = FaultsOrCreates (phase_after code (roles_view c.args.roles.now) budget e) (items rs files) in
     let told = subst (λ (o : Option Merged). MatchOption o stops (λ m. IsMerged code budget rs files e c.merge_plan.new.prologue m × ¬ stops)) c.in-Some.is c.in_ok-merged.ensures.went in
     (subst (λ f. Answers f c.in_ok-go_on_merged-in-Some.field-0) (sym told.0) c.in_ok-go_on_merged-in-Some.ensures, told.1)

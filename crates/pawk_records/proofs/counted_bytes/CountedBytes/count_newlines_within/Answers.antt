@@ -1,7 +1,7 @@
 use Rattle.std.proofs.Common.{◌≡◌, ◌+◌, ◌-◌, ◌*◌, ◌≤◌, take, drop, sym, ap, ◌∙◌, arith}
 use Rattle.std.proofs.lemmas.List.{drop-drop}
 use Rattle.pawk_records.specs.declared.census.TheConstants.{SEGMENT}
-use Rattle.pawk_records.proofs.CensusLemmas.{newlines, newlines_joined, segments_behind, segments_within}
+use Rattle.pawk_records.proofs.CensusLemmas.{newlines, newlines_joined, segments_after, segments_within}
 use Rattle.pawk_records.proofs.counted_bytes.CountedBytes.count_newlines_within.Goals as goal
 
 pub count_newlines-requires : goal.count_newlines-requires
@@ -11,7 +11,7 @@ count_newlines-requires c =
     let to = c.self.inside.from + c.args.end in
     let up : last * SEGMENT ≤ to = omega (arith, c.min-last.ensures) in
     segments_within SEGMENT (last - first) (to - first * SEGMENT) _ _
-    (segments_behind SEGMENT first c.self.inside.counts.now c.self.inside.text.now c.self.invariant.1) (omega arith)
+    (segments_after SEGMENT first c.self.inside.counts.now c.self.inside.text.now c.self.invariant.1) (omega arith)
 
 pub returns : goal.returns
 returns c =

@@ -3,7 +3,7 @@ use Rattle.std.proofs.lemmas.Bool.Decides.{leb_tells}
 use Rattle.pawk_records.specs.Begins.{begins_at}
 use Rattle.pawk_records.specs.Separator.{rs_of}
 use Rattle.pawk_records.specs.Blocks.{joined}
-use Rattle.pawk_records.proofs.BlocksLemmas.{length_rest, mended_later, begins_first, begins_behind}
+use Rattle.pawk_records.proofs.BlocksLemmas.{length_rest, mended_later, begins_first, begins_after}
 use Rattle.pawk_records.proofs.lent.LentBlocks.next_begin.Goals as goal
 
 pub returns-in-Some-next_begin : goal.returns-in-Some-next_begin
@@ -58,5 +58,5 @@ loop-bytes-preserved c =
       ];
       same = λ k lt. (
           let at : before + length b + k ≡ before + (length b + k) = omega arith in
-          ap (begins_at rs (joined c.args.self.now)) at ∙ held.same (length b + k) (omega (arith, long)) ∙ begins_behind rs rest b later is held.mended k lt);
+          ap (begins_at rs (joined c.args.self.now)) at ∙ held.same (length b + k) (omega (arith, long)) ∙ begins_after rs rest b later is held.mended k lt);
     }

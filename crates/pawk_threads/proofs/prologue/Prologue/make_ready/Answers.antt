@@ -1,7 +1,7 @@
 use Rattle.std.proofs.Common.{ap}
 use Rattle.pawk_store.specs.Globals.{Globals}
+use Rattle.pawk_semantics.specs.LeftViews.{left_view}
 use Rattle.pawk_semantics.specs.Records.{End}
-use Rattle.pawk_merge_law.specs.Ends.{left_view}
 use Rattle.pawk_threads.proofs.prologue.Prologue.make_ready.Goals as goal
 
 pub returns-clause-taken : goal.returns-clause-taken
