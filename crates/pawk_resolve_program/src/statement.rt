@@ -1,40 +1,22 @@
 //! The code of statements.
 
 ghost use Rattle.std.specs.Prelude.{◌≡◌, IfOk};
-ghost use Rattle.pawk_code.specs.ExpressionViews.{view};
 ghost use Rattle.pawk_code.specs.StatementViews.{stmt_view, seen};
-ghost use Rattle.pawk_syntax_tree.specs.Tree.{view as tree_view};
 ghost use Rattle.pawk_syntax_tree.specs.Statement.{stmt_view as tree_stmt_view};
 ghost use Rattle.pawk_syntax_tree.specs.Item.{seen as tree_seen};
 ghost use Rattle.pawk_resolve.specs.ScopeViews.{scope_view};
-ghost use Rattle.pawk_resolve.specs.Resolved.{resolved};
 ghost use Rattle.pawk_resolve.specs.ResolvedStatements as spec;
 
+use crate::compound::{
+    do_statement, for_in_statement, for_statement, if_else_statement, if_statement, while_statement,
+};
 use crate::expression::expression;
 use crate::simple::{head, plain};
-use pawk_code::expression::Expr;
+use crate::vectors::push;
 use pawk_code::statement::Statement;
 use pawk_resolve::scope::Scope;
 use pawk_syntax_tree::statement::StatementTree as TreeStatement;
-use pawk_syntax_tree::tree::ExpressionTree as Tree;
 use std::alloc::{AllocError, Global};
-
-/// The code of an expression and of a body.
-#[cycle(statement)]
-fn guarded<'t>(
-    scope: &Scope<'_, 't>,
-    alloc: Global,
-    a: &'t [TreeStatement],
-    e: &'t Tree,
-) -> Result<(Expr, Vec<Statement>), AllocError>
-    ensures expression { IfOk result (λ both. view both.0 ≡
-        resolved (scope_view scope.now) (tree_view e.now)) }
-    ensures body { IfOk result (λ both. seen both.1.items ≡
-        spec.resolved_body (scope_view scope.now) (tree_seen a.now)) }
-{
-    let e = expression(scope, alloc, e)?;
-    Ok((e, body(scope, alloc, a)?))
-}
 
 /// The code of a statement.
 #[cycle(statement)]
@@ -48,30 +30,27 @@ fn statement<'t>(
 {
     match x {
         TreeStatement::If(e, a) => {
-            let (e, a) = guarded(scope, alloc, a, e)?;
-            Ok(Statement::If(e, a))
+            if_statement(expression(scope, alloc, e), body(scope, alloc, a))
         }
-        TreeStatement::IfElse(e, a, b) => {
-            let (e, a) = guarded(scope, alloc, a, e)?;
-            Ok(Statement::Choose(e, a, body(scope, alloc, b)?))
-        }
+        TreeStatement::IfElse(e, a, b) => if_else_statement(
+            expression(scope, alloc, e),
+            body(scope, alloc, a),
+            body(scope, alloc, b),
+        ),
         TreeStatement::While(e, a) => {
-            let (e, a) = guarded(scope, alloc, a, e)?;
-            Ok(Statement::While(e, a))
+            while_statement(expression(scope, alloc, e), body(scope, alloc, a))
         }
         TreeStatement::DoWhile(a, e) => {
-            let (e, a) = guarded(scope, alloc, a, e)?;
-            Ok(Statement::Do(a, e))
+            do_statement(body(scope, alloc, a), expression(scope, alloc, e))
         }
         TreeStatement::For(a, b, c, turn) => {
-            let head = head(scope, alloc, a, b, c)?;
-            Ok(Statement::For(head, body(scope, alloc, turn)?))
+            for_statement(head(scope, alloc, a, b, c), body(scope, alloc, turn))
         }
-        TreeStatement::ForIn(key, array, turn) => {
-            let turn = body(scope, alloc, turn)?;
-            let key = scope.variable(key.text.as_slice());
-            Ok(Statement::ForIn(key, scope.array(array.text.as_slice()), turn))
-        }
+        TreeStatement::ForIn(key, array, turn) => for_in_statement(
+            scope.variable(key.text.as_slice()),
+            scope.array(array.text.as_slice()),
+            body(scope, alloc, turn),
+        ),
         TreeStatement::Expression(_)
         | TreeStatement::Print(_)
         | TreeStatement::Printf(_)
@@ -95,7 +74,7 @@ pub fn body<'t>(
 {
     let mut codes = Vec::new(alloc);
     for x in statements {
-        codes.push(statement(scope, alloc, x)?)?;
+        push(&mut codes, statement(scope, alloc, x))?;
     }
     Ok(codes)
 }

@@ -1,6 +1,6 @@
 //! Vectors that grow.
 
-ghost use Rattle.std.specs.Prelude.{◌≡◌, ◌++◌, OnOk};
+ghost use Rattle.std.specs.Prelude.{◌≡◌, ◌++◌, ◌∷◌, [], OnOk, IsOkAnd};
 ghost use Rattle.std.specs.Option.{option_to_list};
 
 use std::alloc::AllocError;
@@ -12,5 +12,13 @@ pub fn add<T: Drop>(all: &mut Vec<T>, new: Option<T>) -> Result<(), AllocError>
     if let Some(new) = new {
         all.push(new)?;
     }
+    Ok(())
+}
+
+/// Adds what was made, where memory was not refused.
+pub fn push<T: Drop>(all: &mut Vec<T>, new: Result<T, AllocError>) -> Result<(), AllocError>
+    ensures { OnOk result (IsOkAnd new (λ x. all.new.items ≡ all.old.items ++ x ∷ [])) }
+{
+    all.push(new?)?;
     Ok(())
 }
