@@ -8,7 +8,8 @@ ghost use Rattle.pawk_resolve.specs.ScopeViews.{globals_view};
 ghost use Rattle.pawk_resolve.specs.ResolvedPrograms as spec;
 
 use crate::items::{begin_of, end_of, function_of, rule_of};
-use crate::vectors::add;
+use crate::results::both;
+use crate::vectors::add_result;
 use pawk_code::program::{Function, Rule};
 use pawk_code::statement::Statement;
 use pawk_resolve::scope::GlobalNames;
@@ -34,8 +35,7 @@ fn begins<'t>(
 {
     let mut all = Vec::new(alloc);
     for item in items {
-        let new = begin_of(globals, alloc, item)?;
-        add(&mut all, new)?;
+        add_result(&mut all, begin_of(globals, alloc, item))?;
     }
     Ok(all)
 }
@@ -51,8 +51,7 @@ fn rules<'t>(
 {
     let mut all = Vec::new(alloc);
     for item in items {
-        let new = rule_of(globals, alloc, item)?;
-        add(&mut all, new)?;
+        add_result(&mut all, rule_of(globals, alloc, item))?;
     }
     Ok(all)
 }
@@ -68,8 +67,7 @@ fn ends<'t>(
 {
     let mut all = Vec::new(alloc);
     for item in items {
-        let new = end_of(globals, alloc, item)?;
-        add(&mut all, new)?;
+        add_result(&mut all, end_of(globals, alloc, item))?;
     }
     Ok(all)
 }
@@ -85,8 +83,7 @@ pub fn functions<'t>(
 {
     let mut all = Vec::new(alloc);
     for (index, item) in items.iter().enumerate() {
-        let new = function_of(globals, alloc, index + 1, item)?;
-        add(&mut all, new)?;
+        add_result(&mut all, function_of(globals, alloc, index + 1, item))?;
     }
     Ok(all)
 }
@@ -104,9 +101,8 @@ pub fn actions_of<'t>(
     ensures ends { IfOk result (λ a. map body_view a.ends.items ≡
         flat_map (spec.end_of (globals_view globals.now)) (map part items.now)) }
 {
-    let begins = begins(globals, alloc, items)?;
-    let rules = rules(globals, alloc, items)?;
-    let ends = ends(globals, alloc, items)?;
+    let rules_and_ends = both(rules(globals, alloc, items), ends(globals, alloc, items));
+    let (begins, (rules, ends)) = both(begins(globals, alloc, items), rules_and_ends)?;
     Ok(Actions {
         begins,
         rules,

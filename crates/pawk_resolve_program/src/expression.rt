@@ -13,7 +13,7 @@ use crate::operands::{
     format_by, formatted_text, function_call, membership, push_argument, unary_operation,
 };
 use crate::small::small;
-use crate::vectors::push;
+use crate::vectors::push_result;
 use pawk_code::expression::{Argument, Expr, Format};
 use pawk_lex::token::Builtin;
 use pawk_resolve::scope::Scope;
@@ -111,7 +111,7 @@ pub fn list<'t>(
 {
     let mut codes = Vec::new(alloc);
     for tree in list {
-        push(&mut codes, expression(scope, alloc, tree))?;
+        push_result(&mut codes, expression(scope, alloc, tree))?;
     }
     Ok(codes)
 }

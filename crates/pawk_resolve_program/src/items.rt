@@ -1,6 +1,6 @@
 //! The code of items.
 
-ghost use Rattle.std.specs.Prelude.{◌≡◌, ◌∷◌, [], IfOk, map};
+ghost use Rattle.std.specs.Prelude.{◌≡◌, ◌∷◌, [], IfOk, IsOkAnd, map};
 ghost use Rattle.std.specs.Option.{option_to_list};
 ghost use Rattle.pawk_syntax_tree.specs.Tree.{view as tree_view};
 ghost use Rattle.pawk_syntax_tree.specs.Item.{part, seen as tree_seen, texts as name_texts};
@@ -15,6 +15,7 @@ ghost use Rattle.pawk_resolve.specs.ResolvedPrograms as spec;
 
 use crate::expression::expression;
 use crate::names::table_of;
+use crate::results::{both, some};
 use crate::statement::body;
 use pawk_code::expression::Expr;
 use pawk_code::program::{Function, ParameterKind, Rule, Selector};
@@ -72,7 +73,7 @@ pub fn begin_of<'t>(
         spec.begin_of (globals_view globals.now) (part item.now)) }
 {
     match item {
-        ProgramItem::Begin(a) => Ok(Some(global_body(globals, alloc, a)?)),
+        ProgramItem::Begin(a) => some(global_body(globals, alloc, a)),
         _ => Ok(None),
     }
 }
@@ -87,66 +88,46 @@ pub fn end_of<'t>(
         spec.end_of (globals_view globals.now) (part item.now)) }
 {
     match item {
-        ProgramItem::End(a) => Ok(Some(global_body(globals, alloc, a)?)),
+        ProgramItem::End(a) => some(global_body(globals, alloc, a)),
         _ => Ok(None),
     }
 }
 
-/// The records for which an expression holds, in a box: where memory is refused after it, one thing is dropped.
-fn when<'t>(
-    globals: &GlobalNames<'t>,
-    alloc: Global,
-    e: &'t Tree,
-) -> Result<Box<Selector>, AllocError>
-    ensures { IfOk result (λ s. selector_view s.value ≡ code.matching
+/// The records for which an expression holds.
+fn when<'t>(globals: &GlobalNames<'t>, alloc: Global, e: &'t Tree) -> Result<Selector, AllocError>
+    ensures { IfOk result (λ s. selector_view s ≡ code.matching
         (resolved (spec.global_scope (globals_view globals.now)) (tree_view e.now))) }
 {
-    let e = global_expression(globals, alloc, e)?;
-    Ok(Box::new(alloc, Selector::When(e))?)
+    Ok(Selector::When(global_expression(globals, alloc, e)?))
 }
 
-/// An expression outside of functions, in a box.
-fn boxed_expression<'t>(
-    globals: &GlobalNames<'t>,
-    alloc: Global,
-    e: &'t Tree,
-) -> Result<Box<Expr>, AllocError>
-    ensures { IfOk result (λ x. view x.value ≡
-        resolved (spec.global_scope (globals_view globals.now)) (tree_view e.now)) }
-{
-    let e = global_expression(globals, alloc, e)?;
-    Ok(Box::new(alloc, e)?)
-}
-
-/// A range of records, in a box.
+/// A range of records.
 fn range<'t>(
     globals: &GlobalNames<'t>,
     alloc: Global,
     e: &'t Tree,
     f: &'t Tree,
-) -> Result<Box<Selector>, AllocError>
-    ensures { IfOk result (λ s. selector_view s.value ≡ code.between
+) -> Result<Selector, AllocError>
+    ensures { IfOk result (λ s. selector_view s ≡ code.between
         (resolved (spec.global_scope (globals_view globals.now)) (tree_view e.now))
         (resolved (spec.global_scope (globals_view globals.now)) (tree_view f.now))) }
 {
-    let first = boxed_expression(globals, alloc, e)?;
-    let last = boxed_expression(globals, alloc, f)?;
-    let range = Selector::Range(Box::into_inner(first), Box::into_inner(last));
-    Ok(Box::new(alloc, range)?)
+    let first = global_expression(globals, alloc, e);
+    let (first, last) = both(first, global_expression(globals, alloc, f))?;
+    Ok(Selector::Range(first, last))
 }
 
 /// A rule on the records that are selected.
 fn rule<'t>(
     globals: &GlobalNames<'t>,
     alloc: Global,
-    selector: Box<Selector>,
+    selector: Result<Selector, AllocError>,
     a: &'t [TreeStatement],
 ) -> Result<Option<Rule>, AllocError>
-    ensures { IfOk result (λ o. map rule_view (option_to_list o) ≡ spec.rule
-        (globals_view globals.now) (selector_view selector.value) (tree_seen a.now) ∷ []) }
+    ensures { IfOk result (λ o. IsOkAnd selector (λ s. map rule_view (option_to_list o) ≡
+        spec.rule (globals_view globals.now) (selector_view s) (tree_seen a.now) ∷ [])) }
 {
-    let body = global_body(globals, alloc, a)?;
-    let selector = Box::into_inner(selector);
+    let (selector, body) = both(selector, global_body(globals, alloc, a))?;
     Ok(Some(Rule { selector, body }))
 }
 
@@ -160,9 +141,9 @@ pub fn rule_of<'t>(
         spec.rule_of (globals_view globals.now) (part item.now)) }
 {
     match item {
-        ProgramItem::Always(a) => rule(globals, alloc, Box::new(alloc, Selector::Always)?, a),
-        ProgramItem::When(e, a) => rule(globals, alloc, when(globals, alloc, e)?, a),
-        ProgramItem::Range(e, f, a) => rule(globals, alloc, range(globals, alloc, e, f)?, a),
+        ProgramItem::Always(a) => rule(globals, alloc, Ok(Selector::Always), a),
+        ProgramItem::When(e, a) => rule(globals, alloc, when(globals, alloc, e), a),
+        ProgramItem::Range(e, f, a) => rule(globals, alloc, range(globals, alloc, e, f), a),
         ProgramItem::Begin(_) | ProgramItem::End(_) | ProgramItem::Function(_, _, _) => Ok(None),
     }
 }

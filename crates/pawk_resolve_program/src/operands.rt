@@ -11,7 +11,6 @@ ghost use Rattle.pawk_resolve.specs.ScopeViews.{scope_view};
 ghost use Rattle.pawk_resolve.specs.Sorted as spec;
 
 use crate::results::both;
-use crate::vectors::push;
 use pawk_code::expression::{Argument, Expr, Format};
 use pawk_lex::token::Builtin;
 use pawk_resolve::builtin::{

@@ -1,6 +1,6 @@
 //! Results put together: each gives what it holds only where memory was refused to none of them.
 
-ghost use Rattle.std.specs.Prelude.{◌≡◌, IfOk, Ok};
+ghost use Rattle.std.specs.Prelude.{◌≡◌, IfOk, IsOkAnd, Ok, Some};
 
 use std::alloc::AllocError;
 
@@ -14,4 +14,11 @@ pub fn both<A: Drop, B: Drop>(
 {
     let a = a?;
     Ok((a, b?))
+}
+
+/// The value, as what may be there.
+pub fn some<T: Drop>(value: Result<T, AllocError>) -> Result<Option<T>, AllocError>
+    ensures { IfOk result (λ o. IsOkAnd value (λ x. o ≡ Some x)) }
+{
+    Ok(Some(value?))
 }

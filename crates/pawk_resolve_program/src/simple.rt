@@ -1,6 +1,6 @@
 //! The code of statements with no body.
 
-ghost use Rattle.std.specs.Prelude.{◌≡◌, IfOk};
+ghost use Rattle.std.specs.Prelude.{◌≡◌, IfOk, IsOkAnd};
 ghost use Rattle.std.specs.Option.{option_map};
 ghost use Rattle.pawk_code.specs.Expressions as code;
 ghost use Rattle.pawk_code.specs.ExpressionViews.{view, views, numeric_view};
@@ -17,6 +17,7 @@ ghost use Rattle.pawk_resolve.specs.ResolvedStatements as spec;
 
 use crate::calm::are_calm;
 use crate::expression::{expression, format_of, list};
+use crate::results::{both, some};
 use pawk_code::expression::{Expr, Numeric};
 use pawk_code::statement::{Head, Leave, Operands, Simple, Statement};
 use pawk_code::word::Sign;
@@ -70,7 +71,7 @@ pub fn option<'t>(
 {
     match tree {
         None => Ok(None),
-        Some(tree) => Ok(Some(expression(scope, alloc, tree)?)),
+        Some(tree) => some(expression(scope, alloc, tree)),
     }
 }
 
@@ -93,22 +94,8 @@ fn simple_option<'t>(
 {
     match tree {
         None => Ok(None),
-        Some(tree) => Ok(Some(simple(scope, alloc, tree)?)),
+        Some(tree) => some(simple(scope, alloc, tree)),
     }
-}
-
-/// The code of an expression that is a statement, where there is one, in a box: where memory is refused after it, one
-/// thing is dropped.
-fn boxed_option<'t>(
-    scope: &Scope<'_, 't>,
-    alloc: Global,
-    tree: &'t Option<Tree>,
-) -> Result<Box<Option<Simple>>, AllocError>
-    ensures { IfOk result (λ o. option_map simple_view o.value ≡
-        option_map (spec.simple_of (scope_view scope.now)) (option_view tree.now)) }
-{
-    let code = simple_option(scope, alloc, tree)?;
-    Ok(Box::new(alloc, code)?)
 }
 
 /// The head of `for (a; b; c)`.
@@ -122,14 +109,11 @@ pub fn head<'t>(
     ensures { IfOk result (λ h. head_view h ≡ spec.head_of (scope_view scope.now)
         (option_view a.now) (option_view b.now) (option_view c.now)) }
 {
-    let first = boxed_option(scope, alloc, a)?;
-    let last = boxed_option(scope, alloc, c)?;
-    let test = option(scope, alloc, b)?;
-    Ok(Head {
-        first: Box::into_inner(first),
-        test,
-        last: Box::into_inner(last),
-    })
+    let first = simple_option(scope, alloc, a);
+    let test = option(scope, alloc, b);
+    let last = simple_option(scope, alloc, c);
+    let (first, (test, last)) = both(first, both(test, last))?;
+    Ok(Head { first, test, last })
 }
 
 /// `print` of these.
@@ -150,8 +134,7 @@ fn formatted<'t>(
     ensures { IfOk result (λ x. simple_view x ≡ spec.printf_of (scope_view scope.now)
         (tree.more (tree_view first.now) (trees (tree_views es.now)))) }
 {
-    let format = format_of(scope, alloc, first)?;
-    let values = list(scope, alloc, es)?;
+    let (format, values) = both(format_of(scope, alloc, first), list(scope, alloc, es))?;
     Ok(Simple::Printf(format, operands(values)))
 }
 
@@ -220,6 +203,14 @@ fn leave<'t>(
     }
 }
 
+/// A statement with no body that leaves nothing.
+fn simple_statement(code: Result<Simple, AllocError>) -> Result<Statement, AllocError>
+    ensures { IfOk result (λ y. IsOkAnd code (λ x.
+        stmt_view y ≡ statements.simple (simple_view x))) }
+{
+    Ok(Statement::Simple(code?))
+}
+
 /// The code of a statement with no body; of another one the number 0.
 pub fn plain<'t>(
     scope: &Scope<'_, 't>,
@@ -230,12 +221,10 @@ pub fn plain<'t>(
         spec.resolved_plain (scope_view scope.now) (tree_stmt_view x.now)) }
 {
     match x {
-        TreeStatement::Expression(e) => Ok(Statement::Simple(simple(scope, alloc, e)?)),
-        TreeStatement::Print(es) => Ok(Statement::Simple(print(scope, alloc, es)?)),
-        TreeStatement::Printf(es) => Ok(Statement::Simple(printf(scope, alloc, es)?)),
-        TreeStatement::Delete(name, keys) => {
-            Ok(Statement::Simple(delete(scope, alloc, name, keys)?))
-        }
+        TreeStatement::Expression(e) => simple_statement(simple(scope, alloc, e)),
+        TreeStatement::Print(es) => simple_statement(print(scope, alloc, es)),
+        TreeStatement::Printf(es) => simple_statement(printf(scope, alloc, es)),
+        TreeStatement::Delete(name, keys) => simple_statement(delete(scope, alloc, name, keys)),
         TreeStatement::DeleteArray(name) => Ok(Statement::Simple(clear(scope, name))),
         _ => leave(scope, alloc, x),
     }

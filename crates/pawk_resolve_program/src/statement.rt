@@ -12,7 +12,7 @@ use crate::compound::{
 };
 use crate::expression::expression;
 use crate::simple::{head, plain};
-use crate::vectors::push;
+use crate::vectors::push_result;
 use pawk_code::statement::Statement;
 use pawk_resolve::scope::Scope;
 use pawk_syntax_tree::statement::StatementTree as TreeStatement;
@@ -74,7 +74,7 @@ pub fn body<'t>(
 {
     let mut codes = Vec::new(alloc);
     for x in statements {
-        push(&mut codes, statement(scope, alloc, x))?;
+        push_result(&mut codes, statement(scope, alloc, x))?;
     }
     Ok(codes)
 }

@@ -15,10 +15,21 @@ pub fn add<T: Drop>(all: &mut Vec<T>, new: Option<T>) -> Result<(), AllocError>
     Ok(())
 }
 
-/// Adds what was made, where memory was not refused.
-pub fn push<T: Drop>(all: &mut Vec<T>, new: Result<T, AllocError>) -> Result<(), AllocError>
+/// Adds a result, unless memory was refused to it.
+pub fn push_result<T: Drop>(all: &mut Vec<T>, new: Result<T, AllocError>) -> Result<(), AllocError>
     ensures { OnOk result (IsOkAnd new (λ x. all.new.items ≡ all.old.items ++ x ∷ [])) }
 {
     all.push(new?)?;
     Ok(())
+}
+
+/// Adds what may be there, unless memory was refused to it.
+pub fn add_result<T: Drop>(
+    all: &mut Vec<T>,
+    new: Result<Option<T>, AllocError>,
+) -> Result<(), AllocError>
+    ensures { OnOk result (IsOkAnd new (λ o. all.new.items ≡
+        all.old.items ++ option_to_list o)) }
+{
+    add(all, new?)
 }
