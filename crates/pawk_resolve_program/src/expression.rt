@@ -8,16 +8,18 @@ ghost use Rattle.pawk_resolve.specs.ScopeViews.{scope_view};
 ghost use Rattle.pawk_resolve.specs.Sorted as spec;
 ghost use Rattle.pawk_resolve.specs.Resolved.{resolved, resolved_all, resolved_arguments};
 
-use crate::operands::{
-    OperandResult, binary_operation, call_of_one, call_of_three, call_of_two, choice, element_read,
-    format_by, formatted_text, function_call, membership, push_argument, unary_operation,
-};
+use crate::results::both;
 use crate::small::small;
 use crate::vectors::push_result;
 use pawk_code::expression::{Argument, Expr, Format};
 use pawk_lex::token::Builtin;
+use pawk_resolve::builtin::{
+    Operand, argument, binary, builtin_of_one, builtin_of_three, builtin_of_two,
+};
+use pawk_resolve::lists::{call, element, formatted, member};
+use pawk_resolve::operation::operation_of;
 use pawk_resolve::scope::Scope;
-use pawk_resolve::sorted::nothing;
+use pawk_resolve::sorted::{format, nothing, unary};
 use pawk_syntax_tree::tree::ExpressionTree as Tree;
 use std::alloc::{AllocError, Global};
 
@@ -34,29 +36,78 @@ pub fn expression<'t>(
         Tree::Number(_) | Tree::String(_) | Tree::Ere(_) | Tree::Variable(_) => {
             small(scope, alloc, tree)
         }
-        Tree::Element(name, keys) => element_read(scope, name, list(scope, alloc, keys)),
-        Tree::Unary(op, a) => unary_operation(alloc, *op, expression(scope, alloc, a)),
-        Tree::Binary(op, a, b) => {
-            let left = expression(scope, alloc, a);
-            let code = expression(scope, alloc, b);
-            binary_operation(scope, alloc, *op, left, OperandResult { tree: b, code })
+        Tree::Element(name, keys) => {
+            let keys = list(scope, alloc, keys)?;
+            Ok(element(scope.array(name.text.as_slice()), keys))
         }
-        Tree::Choice(c, a, b) => choice(
-            alloc,
-            expression(scope, alloc, c),
-            expression(scope, alloc, a),
-            expression(scope, alloc, b),
-        ),
-        Tree::Member(keys, name) => membership(scope, name, list(scope, alloc, keys)),
-        Tree::Call(name, list) => function_call(scope, name, arguments(scope, alloc, list)),
-        Tree::Builtin(Builtin::Sprintf, _, arguments) => match arguments.as_slice() {
-            [] => Ok(nothing()),
-            [first, others @ ..] => {
-                let format = expression(scope, alloc, first);
-                formatted_text(alloc, format, list(scope, alloc, others))
-            }
-        },
+        Tree::Unary(op, a) => Ok(unary(*op, operand(scope, alloc, a)?)),
+        Tree::Binary(op, a, b) => {
+            let (left, code) = both(operand(scope, alloc, a), operand(scope, alloc, b))?;
+            let right = Operand { tree: b, code };
+            binary(scope, alloc, operation_of(*op), left, right)
+        }
+        Tree::Choice(c, a, b) => {
+            let answers = both(operand(scope, alloc, a), operand(scope, alloc, b));
+            let (c, (a, b)) = both(operand(scope, alloc, c), answers)?;
+            Ok(Expr::Choice(c, a, b))
+        }
+        Tree::Member(keys, name) => {
+            let keys = list(scope, alloc, keys)?;
+            Ok(member(scope.array(name.text.as_slice()), keys))
+        }
+        Tree::Call(name, list) => {
+            let list = arguments(scope, alloc, list)?;
+            Ok(call(scope.globals.functions.slot(name.text.as_slice()), list))
+        }
+        Tree::Builtin(Builtin::Sprintf, _, arguments) => sprintf(scope, alloc, arguments),
         Tree::Builtin(function, _, arguments) => builtin(scope, alloc, *function, arguments),
+    }
+}
+
+/// The code of an operand, in a box.
+#[cycle(expression)]
+fn operand<'t>(
+    scope: &Scope<'_, 't>,
+    alloc: Global,
+    tree: &'t Tree,
+) -> Result<Box<Expr>, AllocError>
+    ensures { IfOk result (λ e. view e.value ≡
+        resolved (scope_view scope.now) (tree_view tree.now)) }
+{
+    let e = expression(scope, alloc, tree)?;
+    Ok(Box::new(alloc, e)?)
+}
+
+/// The format that an expression is.
+#[cycle(expression)]
+pub fn format_of<'t>(
+    scope: &Scope<'_, 't>,
+    alloc: Global,
+    tree: &'t Tree,
+) -> Result<Format, AllocError>
+    ensures { IfOk result (λ f. format_view f ≡
+        spec.format_by (resolved (scope_view scope.now) (tree_view tree.now))) }
+{
+    format(alloc, operand(scope, alloc, tree)?)
+}
+
+/// `sprintf` of these, of which the first is the format.
+#[cycle(expression)]
+fn sprintf<'t>(
+    scope: &Scope<'_, 't>,
+    alloc: Global,
+    arguments: &'t [Tree],
+) -> Result<Expr, AllocError>
+    ensures { IfOk result (λ e. view e ≡
+        spec.sprintf_of (resolved_all (scope_view scope.now) (trees (tree_views arguments.now)))) }
+{
+    match arguments {
+        [] => Ok(nothing()),
+        [first, others @ ..] => {
+            let first = format_of(scope, alloc, first);
+            let (format, others) = both(first, list(scope, alloc, others))?;
+            Ok(formatted(format, others))
+        }
     }
 }
 
@@ -74,26 +125,32 @@ fn builtin<'t>(
 {
     match arguments {
         [] => Ok(nothing()),
-        [a] => call_of_one(alloc, function, expression(scope, alloc, a)),
+        [a] => Ok(builtin_of_one(function, operand(scope, alloc, a)?)),
         [a, b] => {
-            let first = expression(scope, alloc, a);
-            let code = expression(scope, alloc, b);
-            call_of_two(
-                scope,
-                alloc,
-                function,
-                first,
-                OperandResult { tree: b, code },
-            )
+            let (first, code) = both(operand(scope, alloc, a), operand(scope, alloc, b))?;
+            Ok(builtin_of_two(scope, function, first, Operand { tree: b, code }))
         }
         [a, b, c] => {
-            let code = expression(scope, alloc, a);
-            let first = OperandResult { tree: a, code };
-            let code = expression(scope, alloc, b);
-            let second = OperandResult { tree: b, code };
-            let code = expression(scope, alloc, c);
-            let third = OperandResult { tree: c, code };
-            call_of_three(scope, alloc, function, first, second, third)
+            let others = both(operand(scope, alloc, b), operand(scope, alloc, c));
+            let (first, (second, third)) = both(operand(scope, alloc, a), others)?;
+            let first = Operand {
+                tree: a,
+                code: first,
+            };
+            let second = Operand {
+                tree: b,
+                code: second,
+            };
+            Ok(builtin_of_three(
+                scope,
+                function,
+                first,
+                second,
+                Operand {
+                    tree: c,
+                    code: third,
+                },
+            ))
         }
         _ => Ok(nothing()),
     }
@@ -128,20 +185,8 @@ fn arguments<'t>(
 {
     let mut codes = Vec::new(alloc);
     for tree in list {
-        let code = expression(scope, alloc, tree);
-        push_argument(&mut codes, scope, OperandResult { tree, code })?;
+        let code = expression(scope, alloc, tree)?;
+        codes.push(argument(scope, tree, code))?;
     }
     Ok(codes)
-}
-
-/// The format that an expression is.
-pub fn format_of<'t>(
-    scope: &Scope<'_, 't>,
-    alloc: Global,
-    tree: &'t Tree,
-) -> Result<Format, AllocError>
-    ensures { IfOk result (λ f. format_view f ≡
-        spec.format_by (resolved (scope_view scope.now) (tree_view tree.now))) }
-{
-    format_by(alloc, expression(scope, alloc, tree))
 }

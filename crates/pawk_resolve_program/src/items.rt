@@ -1,6 +1,6 @@
 //! The code of items.
 
-ghost use Rattle.std.specs.Prelude.{◌≡◌, ◌∷◌, [], IfOk, IsOkAnd, map};
+ghost use Rattle.std.specs.Prelude.{◌≡◌, ◌++◌, IfOk, OnOk, IsOkAnd, map};
 ghost use Rattle.std.specs.Option.{option_to_list};
 ghost use Rattle.pawk_syntax_tree.specs.Tree.{view as tree_view};
 ghost use Rattle.pawk_syntax_tree.specs.Item.{part, seen as tree_seen, texts as name_texts};
@@ -15,8 +15,9 @@ ghost use Rattle.pawk_resolve.specs.ResolvedPrograms as spec;
 
 use crate::expression::expression;
 use crate::names::table_of;
-use crate::results::{both, some};
+use crate::results::both;
 use crate::statement::body;
+use crate::vectors::push_result;
 use pawk_code::expression::Expr;
 use pawk_code::program::{Function, ParameterKind, Rule, Selector};
 use pawk_code::statement::Statement;
@@ -26,6 +27,14 @@ use pawk_syntax_tree::item::ProgramItem;
 use pawk_syntax_tree::statement::StatementTree as TreeStatement;
 use pawk_syntax_tree::tree::{ExpressionTree as Tree, Name};
 use std::alloc::{AllocError, Global};
+
+/// What runs before, on and after the records.
+#[derive(Drop)]
+pub struct Actions {
+    pub begins: Vec<Vec<Statement>>,
+    pub rules: Vec<Rule>,
+    pub ends: Vec<Vec<Statement>>,
+}
 
 /// The code of a body outside of functions.
 fn global_body<'t>(
@@ -63,36 +72,6 @@ fn global_expression<'t>(
     expression(&scope, alloc, e)
 }
 
-/// The action of `BEGIN`, if the item is one.
-pub fn begin_of<'t>(
-    globals: &GlobalNames<'t>,
-    alloc: Global,
-    item: &'t ProgramItem,
-) -> Result<Option<Vec<Statement>>, AllocError>
-    ensures { IfOk result (λ o. map body_view (option_to_list o) ≡
-        spec.begin_of (globals_view globals.now) (part item.now)) }
-{
-    match item {
-        ProgramItem::Begin(a) => some(global_body(globals, alloc, a)),
-        _ => Ok(None),
-    }
-}
-
-/// The action of `END`, if the item is one.
-pub fn end_of<'t>(
-    globals: &GlobalNames<'t>,
-    alloc: Global,
-    item: &'t ProgramItem,
-) -> Result<Option<Vec<Statement>>, AllocError>
-    ensures { IfOk result (λ o. map body_view (option_to_list o) ≡
-        spec.end_of (globals_view globals.now) (part item.now)) }
-{
-    match item {
-        ProgramItem::End(a) => some(global_body(globals, alloc, a)),
-        _ => Ok(None),
-    }
-}
-
 /// The records for which an expression holds.
 fn when<'t>(globals: &GlobalNames<'t>, alloc: Global, e: &'t Tree) -> Result<Selector, AllocError>
     ensures { IfOk result (λ s. selector_view s ≡ code.matching
@@ -123,28 +102,47 @@ fn rule<'t>(
     alloc: Global,
     selector: Result<Selector, AllocError>,
     a: &'t [TreeStatement],
-) -> Result<Option<Rule>, AllocError>
-    ensures { IfOk result (λ o. IsOkAnd selector (λ s. map rule_view (option_to_list o) ≡
-        spec.rule (globals_view globals.now) (selector_view s) (tree_seen a.now) ∷ [])) }
+) -> Result<Rule, AllocError>
+    ensures { IfOk result (λ r. IsOkAnd selector (λ s. rule_view r ≡
+        spec.rule (globals_view globals.now) (selector_view s) (tree_seen a.now))) }
 {
     let (selector, body) = both(selector, global_body(globals, alloc, a))?;
-    Ok(Some(Rule { selector, body }))
+    Ok(Rule { selector, body })
 }
 
-/// The rule, if the item is one.
-pub fn rule_of<'t>(
+/// Adds the action or the rule, if the item is one.
+pub fn add_action<'t>(
+    actions: &mut Actions,
     globals: &GlobalNames<'t>,
     alloc: Global,
     item: &'t ProgramItem,
-) -> Result<Option<Rule>, AllocError>
-    ensures { IfOk result (λ o. map rule_view (option_to_list o) ≡
+) -> Result<(), AllocError>
+    ensures begins { OnOk result (map body_view actions.new.begins.items ≡
+        map body_view actions.old.begins.items ++
+        spec.begin_of (globals_view globals.now) (part item.now)) }
+    ensures rules { OnOk result (map rule_view actions.new.rules.items ≡
+        map rule_view actions.old.rules.items ++
         spec.rule_of (globals_view globals.now) (part item.now)) }
+    ensures ends { OnOk result (map body_view actions.new.ends.items ≡
+        map body_view actions.old.ends.items ++
+        spec.end_of (globals_view globals.now) (part item.now)) }
 {
     match item {
-        ProgramItem::Always(a) => rule(globals, alloc, Ok(Selector::Always), a),
-        ProgramItem::When(e, a) => rule(globals, alloc, when(globals, alloc, e), a),
-        ProgramItem::Range(e, f, a) => rule(globals, alloc, range(globals, alloc, e, f), a),
-        ProgramItem::Begin(_) | ProgramItem::End(_) | ProgramItem::Function(_, _, _) => Ok(None),
+        ProgramItem::Begin(a) => push_result(&mut actions.begins, global_body(globals, alloc, a)),
+        ProgramItem::End(a) => push_result(&mut actions.ends, global_body(globals, alloc, a)),
+        ProgramItem::Always(a) => {
+            let rule = rule(globals, alloc, Ok(Selector::Always), a);
+            push_result(&mut actions.rules, rule)
+        }
+        ProgramItem::When(e, a) => {
+            let rule = rule(globals, alloc, when(globals, alloc, e), a);
+            push_result(&mut actions.rules, rule)
+        }
+        ProgramItem::Range(e, f, a) => {
+            let rule = rule(globals, alloc, range(globals, alloc, e, f), a);
+            push_result(&mut actions.rules, rule)
+        }
+        ProgramItem::Function(_, _, _) => Ok(()),
     }
 }
 

@@ -4,13 +4,11 @@
 
 pub mod actions;
 pub mod calm;
-pub mod compound;
 pub mod expression;
 pub mod globals;
 pub mod items;
 pub mod laws;
 pub mod names;
-pub mod operands;
 pub mod program;
 pub mod results;
 pub mod simple;

@@ -1,10 +1,10 @@
-//! Results put together: each gives what it holds only where memory was refused to none of them.
+//! Results put together.
 
-ghost use Rattle.std.specs.Prelude.{◌≡◌, IfOk, IsOkAnd, Ok, Some};
+ghost use Rattle.std.specs.Prelude.{◌≡◌, IfOk, Ok};
 
 use std::alloc::AllocError;
 
-/// Both values.
+/// Both values, unless memory was refused to one of them: the other is then dropped here.
 pub fn both<A: Drop, B: Drop>(
     a: Result<A, AllocError>,
     b: Result<B, AllocError>,
@@ -14,11 +14,4 @@ pub fn both<A: Drop, B: Drop>(
 {
     let a = a?;
     Ok((a, b?))
-}
-
-/// The value, as what may be there.
-pub fn some<T: Drop>(value: Result<T, AllocError>) -> Result<Option<T>, AllocError>
-    ensures { IfOk result (λ o. IsOkAnd value (λ x. o ≡ Some x)) }
-{
-    Ok(Some(value?))
 }

@@ -17,7 +17,7 @@ ghost use Rattle.pawk_resolve.specs.ResolvedStatements as spec;
 
 use crate::calm::are_calm;
 use crate::expression::{expression, format_of, list};
-use crate::results::{both, some};
+use crate::results::both;
 use pawk_code::expression::{Expr, Numeric};
 use pawk_code::statement::{Head, Leave, Operands, Simple, Statement};
 use pawk_code::word::Sign;
@@ -71,7 +71,7 @@ pub fn option<'t>(
 {
     match tree {
         None => Ok(None),
-        Some(tree) => some(expression(scope, alloc, tree)),
+        Some(tree) => Ok(Some(expression(scope, alloc, tree)?)),
     }
 }
 
@@ -94,7 +94,7 @@ fn simple_option<'t>(
 {
     match tree {
         None => Ok(None),
-        Some(tree) => some(simple(scope, alloc, tree)),
+        Some(tree) => Ok(Some(simple(scope, alloc, tree)?)),
     }
 }
 

@@ -7,10 +7,8 @@ ghost use Rattle.pawk_syntax_tree.specs.Item.{seen as tree_seen};
 ghost use Rattle.pawk_resolve.specs.ScopeViews.{scope_view};
 ghost use Rattle.pawk_resolve.specs.ResolvedStatements as spec;
 
-use crate::compound::{
-    do_statement, for_in_statement, for_statement, if_else_statement, if_statement, while_statement,
-};
 use crate::expression::expression;
+use crate::results::both;
 use crate::simple::{head, plain};
 use crate::vectors::push_result;
 use pawk_code::statement::Statement;
@@ -29,28 +27,32 @@ fn statement<'t>(
         spec.resolved_statement (scope_view scope.now) (tree_stmt_view x.now)) }
 {
     match x {
-        TreeStatement::If(e, a) => {
-            if_statement(expression(scope, alloc, e), body(scope, alloc, a))
+        TreeStatement::If(test, turn) => {
+            let (test, turn) = both(expression(scope, alloc, test), body(scope, alloc, turn))?;
+            Ok(Statement::If(test, turn))
         }
-        TreeStatement::IfElse(e, a, b) => if_else_statement(
-            expression(scope, alloc, e),
-            body(scope, alloc, a),
-            body(scope, alloc, b),
-        ),
-        TreeStatement::While(e, a) => {
-            while_statement(expression(scope, alloc, e), body(scope, alloc, a))
+        TreeStatement::IfElse(test, turn, other) => {
+            let turns = both(body(scope, alloc, turn), body(scope, alloc, other));
+            let (test, (turn, other)) = both(expression(scope, alloc, test), turns)?;
+            Ok(Statement::Choose(test, turn, other))
         }
-        TreeStatement::DoWhile(a, e) => {
-            do_statement(body(scope, alloc, a), expression(scope, alloc, e))
+        TreeStatement::While(test, turn) => {
+            let (test, turn) = both(expression(scope, alloc, test), body(scope, alloc, turn))?;
+            Ok(Statement::While(test, turn))
+        }
+        TreeStatement::DoWhile(turn, test) => {
+            let (turn, test) = both(body(scope, alloc, turn), expression(scope, alloc, test))?;
+            Ok(Statement::Do(turn, test))
         }
         TreeStatement::For(a, b, c, turn) => {
-            for_statement(head(scope, alloc, a, b, c), body(scope, alloc, turn))
+            let (head, turn) = both(head(scope, alloc, a, b, c), body(scope, alloc, turn))?;
+            Ok(Statement::For(head, turn))
         }
-        TreeStatement::ForIn(key, array, turn) => for_in_statement(
-            scope.variable(key.text.as_slice()),
-            scope.array(array.text.as_slice()),
-            body(scope, alloc, turn),
-        ),
+        TreeStatement::ForIn(key, array, turn) => {
+            let turn = body(scope, alloc, turn)?;
+            let key = scope.variable(key.text.as_slice());
+            Ok(Statement::ForIn(key, scope.array(array.text.as_slice()), turn))
+        }
         TreeStatement::Expression(_)
         | TreeStatement::Print(_)
         | TreeStatement::Printf(_)

@@ -22,14 +22,3 @@ pub fn push_result<T: Drop>(all: &mut Vec<T>, new: Result<T, AllocError>) -> Res
     all.push(new?)?;
     Ok(())
 }
-
-/// Adds what may be there, unless memory was refused to it.
-pub fn add_result<T: Drop>(
-    all: &mut Vec<T>,
-    new: Result<Option<T>, AllocError>,
-) -> Result<(), AllocError>
-    ensures { OnOk result (IsOkAnd new (λ o. all.new.items ≡
-        all.old.items ++ option_to_list o)) }
-{
-    add(all, new?)
-}
