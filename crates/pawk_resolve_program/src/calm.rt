@@ -58,23 +58,13 @@ fn is_calm_numeric(n: &Numeric) -> bool
     match n {
         Numeric::Arithmetic(_, a, b) => is_calm(a) && is_calm(b),
         Numeric::Sign(_, a) => is_calm(a),
-        Numeric::Function(f) => is_calm_function(f),
+        Numeric::Function(NumericFunction::Length(a) | NumericFunction::Whole(a)) => is_calm(a),
+        Numeric::Function(NumericFunction::Index(a, b)) => is_calm(a) && is_calm(b),
         Numeric::Change(_, _, _)
         | Numeric::Step(_, _)
         | Numeric::Split(_, _, _)
         | Numeric::Replace(_, _, _, _)
         | Numeric::Find(_, _) => false,
-    }
-}
-
-/// Whether a built-in function that gives a number is calm.
-#[cycle(calm)]
-fn is_calm_function(f: &NumericFunction) -> bool
-    ensures { result ≡ spec.is_calm_function (code.function_view f.now) }
-{
-    match f {
-        NumericFunction::Length(a) | NumericFunction::Whole(a) => is_calm(a),
-        NumericFunction::Index(a, b) => is_calm(a) && is_calm(b),
     }
 }
 
@@ -86,7 +76,8 @@ fn is_calm_test(t: &Test) -> bool
     match t {
         Test::Compare(_, a, b) | Test::And(a, b) | Test::Or(a, b) => is_calm(a) && is_calm(b),
         Test::Not(a) => is_calm(a),
-        Test::Match(_, a, p) => is_calm(a) && is_calm_pattern(p),
+        Test::Match(_, a, Pattern::Fixed(_)) => is_calm(a),
+        Test::Match(_, a, Pattern::Value(p)) => is_calm(a) && is_calm(p),
         Test::In(_, keys) => are_calm(keys),
     }
 }
@@ -102,17 +93,6 @@ fn is_calm_textual(t: &Textual) -> bool
         Textual::Substring(a, b, c) => is_calm(a) && (is_calm(b) && is_calm(c)),
         Textual::Case(_, a) => is_calm(a),
         Textual::Format(f, values) => is_calm_format(f) && are_calm(values),
-    }
-}
-
-/// Whether a regular expression is calm.
-#[cycle(calm)]
-fn is_calm_pattern(p: &Pattern) -> bool
-    ensures { result ≡ spec.is_calm_pattern (code.pattern_view p.now) }
-{
-    match p {
-        Pattern::Fixed(_) => true,
-        Pattern::Value(a) => is_calm(a),
     }
 }
 

@@ -6,7 +6,6 @@ ghost use Rattle.pawk_code.specs.Expressions as code;
 ghost use Rattle.pawk_code.specs.ExpressionViews.{view, views, numeric_view};
 ghost use Rattle.pawk_code.specs.Calm as calm;
 ghost use Rattle.pawk_code.specs.StatementViews.{simple_view, head_view, stmt_view, leave_view};
-ghost use Rattle.pawk_syntax_tree.specs.Tree as tree;
 ghost use Rattle.pawk_syntax_tree.specs.Tree.{trees, view as tree_view, views as tree_views};
 ghost use Rattle.pawk_syntax_tree.specs.Statement.{stmt_view as tree_stmt_view, option_view};
 ghost use Rattle.pawk_code.specs.Statements as statements;
@@ -124,20 +123,6 @@ fn print<'t>(scope: &Scope<'_, 't>, alloc: Global, es: &'t [Tree]) -> Result<Sim
     Ok(Simple::Print(operands(list(scope, alloc, es)?)))
 }
 
-/// `printf` of a format and these.
-fn formatted<'t>(
-    scope: &Scope<'_, 't>,
-    alloc: Global,
-    first: &'t Tree,
-    es: &'t [Tree],
-) -> Result<Simple, AllocError>
-    ensures { IfOk result (λ x. simple_view x ≡ spec.printf_of (scope_view scope.now)
-        (tree.more (tree_view first.now) (trees (tree_views es.now)))) }
-{
-    let (format, values) = both(format_of(scope, alloc, first), list(scope, alloc, es))?;
-    Ok(Simple::Printf(format, operands(values)))
-}
-
 /// `printf` of these, of which the first is the format.
 fn printf<'t>(scope: &Scope<'_, 't>, alloc: Global, es: &'t [Tree]) -> Result<Simple, AllocError>
     ensures { IfOk result (λ x. simple_view x ≡
@@ -145,7 +130,11 @@ fn printf<'t>(scope: &Scope<'_, 't>, alloc: Global, es: &'t [Tree]) -> Result<Si
 {
     match es {
         [] => Ok(Simple::Drop(nothing())),
-        [first, others @ ..] => formatted(scope, alloc, first, others),
+        [first, others @ ..] => {
+            let format = format_of(scope, alloc, first);
+            let (format, values) = both(format, list(scope, alloc, others))?;
+            Ok(Simple::Printf(format, operands(values)))
+        }
     }
 }
 
