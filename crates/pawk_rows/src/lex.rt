@@ -41,10 +41,11 @@ fn push_between(
 
 /// Adds a value: a numeral after `#`, a name after `n:`, a name before `(` after `f:`, a built-in
 /// function after `b:`, and any other token as it is written.
-fn push_value(alloc: Global, value: &TokenValue, out: &mut Vec<u8>) -> Result<(), AllocError> {
+fn push_value(value: &TokenValue, out: &mut Vec<u8>) -> Result<(), AllocError> {
     match value {
         TokenValue::Number(number) => {
-            out.extend_from_slice(format!(in alloc; "#{number}")?.as_bytes())
+            out.push(b'#')?;
+            push_decimal(*number, out)
         }
         TokenValue::String(bytes) => push_between(b"\"", bytes.as_slice(), b"\"", out),
         TokenValue::Ere(bytes) => push_between(b"/", bytes.as_slice(), b"/", out),
@@ -57,12 +58,12 @@ fn push_value(alloc: Global, value: &TokenValue, out: &mut Vec<u8>) -> Result<()
 }
 
 /// Adds a token with its span, and a blank.
-fn push_token(alloc: Global, token: &Token, out: &mut Vec<u8>) -> Result<(), AllocError> {
+fn push_token(token: &Token, out: &mut Vec<u8>) -> Result<(), AllocError> {
     push_decimal(token.span.start as u64, out)?;
     out.extend_from_slice(b"-")?;
     push_decimal(token.span.end as u64, out)?;
     out.extend_from_slice(b":")?;
-    push_value(alloc, &token.value, out)?;
+    push_value(&token.value, out)?;
     out.extend_from_slice(b" ")
 }
 
@@ -88,10 +89,10 @@ fn push_end(refusal: Option<SyntaxRefusal>, out: &mut Vec<u8>) -> Result<(), All
 }
 
 /// Adds the tokens of a lexer, and what ends them.
-fn push_tokens(alloc: Global, lexer: &mut Lexer<'_>, out: &mut Vec<u8>) -> Result<(), AllocError> {
+fn push_tokens(lexer: &mut Lexer<'_>, out: &mut Vec<u8>) -> Result<(), AllocError> {
     for _turn in 0..u64::MAX {
         match lexer.next() {
-            Ok(Some(token)) => push_token(alloc, &token, out)?,
+            Ok(Some(token)) => push_token(&token, out)?,
             Ok(None) => return push_end(None, out),
             Err(refusal) => return push_end(Some(refusal), out),
         }
@@ -113,7 +114,7 @@ fn push_in_numbers(refusal: SyntaxRefusal, out: &mut Vec<u8>) -> Result<(), Allo
 /// Adds the tokens of a text, and what the lexer answers when it is asked again.
 fn push_text(alloc: Global, text: &[u8], out: &mut Vec<u8>) -> Result<(), AllocError> {
     let mut lexer = Lexer::new(alloc, text);
-    push_tokens(alloc, &mut lexer, out)?;
+    push_tokens(&mut lexer, out)?;
     match lexer.next() {
         Ok(Some(_)) => out.extend_from_slice(b" (token)"),
         Ok(None) => out.extend_from_slice(b" (end)"),
@@ -125,7 +126,7 @@ fn push_text(alloc: Global, text: &[u8], out: &mut Vec<u8>) -> Result<(), AllocE
 fn push_list(alloc: Global, text: &[u8], out: &mut Vec<u8>) -> Result<(), AllocError> {
     let list = TokenList::read(alloc, text)?;
     for token in &list.tokens {
-        push_token(alloc, token, out)?;
+        push_token(token, out)?;
     }
     push_end(list.refusal, out)
 }

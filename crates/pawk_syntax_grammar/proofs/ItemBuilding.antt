@@ -1,8 +1,7 @@
 -- What the making of items needs.
-use Rattle.std.proofs.Common.{◌≡◌, ◌<◌, ℕ, Bool, true, false, ◌||◌, cond, List, [], ◌∷◌, length, drop, Option, Some, None, refl, sym, ap, ◌∙◌, arith, rules}
+use Rattle.std.proofs.Common.{◌≡◌, ◌<◌, ℕ, Bool, true, false, List, [], ◌∷◌, length, drop, Some, None, refl, arith}
 use Rattle.std.specs.Prelude.{nat_le}
 use Rattle.std.proofs.lemmas.Bool.{false≢true}
-use Rattle.pawk_lex.specs.declared.token.Mark.TheVariants as m
 use Rattle.pawk_lex.specs.Tokens.{Tok}
 use Rattle.pawk_syntax_tree.specs.Parse.{sees}
 use Rattle.pawk_syntax_tree.specs.Item.{Part, height_of_part}

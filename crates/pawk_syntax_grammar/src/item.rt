@@ -45,7 +45,7 @@ fn low(
     ensures { Gives part_of (spec.low_part closes (part item) (input ts.now)) result
         (input ts.now) }
 {
-    ts.low(height)?;
+    let item = trees::keep_if(item, ts.low(height))?;
     Ok(ProgramPart { item, closes })
 }
 

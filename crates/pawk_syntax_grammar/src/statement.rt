@@ -1,13 +1,14 @@
 //! Statements. Each function takes the reader of nested statements as a parameter, so that each is
 //! proved by itself.
 
-ghost use Rattle.std.specs.Prelude.{◌≡◌, ◌+◌, ◌≤◌, ◌∷◌, ◌++◌, [], length, drop, IfOk, Option};
+ghost use Rattle.std.specs.Prelude.{◌≡◌, ◌+◌, ◌≤◌, ◌∷◌, ◌++◌, [], length, drop, IfOk, Option, Some};
 ghost use Rattle.pawk_lex.specs.declared.token.Mark.{Mark};
 ghost use Rattle.pawk_syntax_tree.specs.Statement as stmt;
 ghost use Rattle.pawk_syntax_tree.specs.StatementParse as spec;
 ghost use Rattle.pawk_syntax_parse.specs.Reads.{input, Gives, nothing, tree_of, trees_of};
 ghost use Rattle.pawk_syntax_grammar.specs.Reads.{body_of, option_of, stmt_of, names_of};
 ghost use Rattle.pawk_syntax_grammar.specs.StatementReads.{Nests};
+ghost use Rattle.pawk_syntax_grammar.specs.StatementReads as reads;
 
 use crate::body::{Body, BodyStatement};
 use crate::build;
@@ -15,6 +16,7 @@ use crate::print::printed;
 use pawk_lex::refusal::SyntaxRefusal;
 use pawk_lex::token::{Mark, TokenValue};
 use pawk_syntax_parse::build as trees;
+use pawk_syntax_parse::build::{both, keep_if};
 use pawk_syntax_parse::cursor::Cursor;
 use pawk_syntax_parse::expression::{GREATEST_DEPTH, expect_name, expr, list_up_to};
 use pawk_syntax_parse::phrase::Phrase;
@@ -100,13 +102,12 @@ fn print_on(alloc: Global, ts: &mut Cursor<'_>) -> Result<BodyStatement, SyntaxR
     Ok(build::line(alloc, statement, height)?)
 }
 
-fn leave(alloc: Global, ts: &mut Cursor<'_>, word: Jump) -> Result<BodyStatement, AllocError>
-    ensures value { IfOk result (λ l. stmt_of l ≡ stmt.go_out word) }
-    ensures rest { input ts.new ≡ drop 1 (input ts.old) }
+fn leave(alloc: Global, ts: &mut Cursor<'_>, word: Jump) -> Result<BodyStatement, SyntaxRefusal>
+    ensures { Gives stmt_of (Some (stmt.go_out word, drop 1 (input ts.old))) result (input ts.new) }
 {
     let statement = build::leave(word, ts.place());
     ts.pass();
-    build::line(alloc, statement, 1)
+    Ok(build::line(alloc, statement, 1)?)
 }
 
 /// The value after `exit` or `return`, in a box, which may be missing.
@@ -154,10 +155,10 @@ fn simple_by(alloc: Global, ts: &mut Cursor<'_>, sign: Mark) -> Result<BodyState
             print_on(alloc, ts)
         }
         Mark::Printf => printf_on(alloc, ts),
-        Mark::Next => Ok(leave(alloc, ts, Jump::Next)?),
-        Mark::NextFile => Ok(leave(alloc, ts, Jump::NextFile)?),
-        Mark::Break => Ok(leave(alloc, ts, Jump::Break)?),
-        Mark::Continue => Ok(leave(alloc, ts, Jump::Continue)?),
+        Mark::Next => leave(alloc, ts, Jump::Next),
+        Mark::NextFile => leave(alloc, ts, Jump::NextFile),
+        Mark::Break => leave(alloc, ts, Jump::Break),
+        Mark::Continue => leave(alloc, ts, Jump::Continue),
         Mark::Exit => exit(alloc, ts),
         Mark::Return => give_back(alloc, ts),
         Mark::Delete => {
@@ -196,8 +197,33 @@ fn head(alloc: Global, ts: &mut Cursor<'_>) -> Result<Phrase, SyntaxRefusal>
 {
     ts.expect(Mark::LeftParenthesis, true)?;
     let e = whole(alloc, ts)?;
-    ts.expect(Mark::RightParenthesis, true)?;
+    let e = keep_if(e, ts.expect(Mark::RightParenthesis, true))?;
     ts.skip_lines();
+    Ok(e)
+}
+
+/// The test in brackets after the body of `do`, and the end of the statement.
+fn foot(alloc: Global, ts: &mut Cursor<'_>) -> Result<Phrase, SyntaxRefusal>
+    ensures { Gives tree_of (reads.foot (input ts.old)) result (input ts.new) }
+{
+    ts.expect(Mark::While, true)?;
+    ts.expect(Mark::LeftParenthesis, true)?;
+    let e = whole(alloc, ts)?;
+    let e = keep_if(e, ts.expect(Mark::RightParenthesis, true))?;
+    keep_if(e, end(ts, true))
+}
+
+/// An expression, in a box, that may be missing before this sign, and the sign.
+fn maybe_up_to(
+    alloc: Global,
+    ts: &mut Cursor<'_>,
+    close: Mark,
+) -> Result<Option<Box<Phrase>>, SyntaxRefusal>
+    ensures { Gives option_of (reads.maybe_up_to close (input ts.old)) result (input ts.new) }
+{
+    let none_here = ts.sees(close);
+    let e = maybe(alloc, ts, none_here)?;
+    ts.expect(close, true)?;
     Ok(e)
 }
 
@@ -263,12 +289,12 @@ impl<F: Fn(Global, &mut Cursor<'_>, usize) -> Result<Body, SyntaxRefusal>> State
             (input ts.new) }
     {
         let e = head(self.alloc, ts)?;
-        let a = self.nested(ts)?;
+        let (e, a) = both(Ok(e), self.nested(ts))?;
         if !ts.eat(Mark::Else) {
             return build::low_when(self.alloc, ts, e, a);
         }
         ts.skip_lines();
-        let b = self.nested(ts)?;
+        let ((e, a), b) = both(Ok((e, a)), self.nested(ts))?;
         build::low_choose(self.alloc, ts, e, a, b)
     }
 
@@ -279,7 +305,7 @@ impl<F: Fn(Global, &mut Cursor<'_>, usize) -> Result<Body, SyntaxRefusal>> State
             (input ts.new) }
     {
         let e = head(self.alloc, ts)?;
-        let a = self.nested(ts)?;
+        let (e, a) = both(Ok(e), self.nested(ts))?;
         build::low_repeat(self.alloc, ts, e, a)
     }
 
@@ -291,11 +317,7 @@ impl<F: Fn(Global, &mut Cursor<'_>, usize) -> Result<Body, SyntaxRefusal>> State
     {
         ts.skip_lines();
         let a = self.nested(ts)?;
-        ts.expect(Mark::While, true)?;
-        ts.expect(Mark::LeftParenthesis, true)?;
-        let e = whole(self.alloc, ts)?;
-        ts.expect(Mark::RightParenthesis, true)?;
-        end(ts, true)?;
+        let e = foot(self.alloc, ts)?;
         build::low_do(self.alloc, ts, a, e)
     }
 
@@ -316,18 +338,12 @@ impl<F: Fn(Global, &mut Cursor<'_>, usize) -> Result<Body, SyntaxRefusal>> State
         ensures { Gives body_of (spec.counting (spec.stmt self.now.depth) (input ts.old)) result
             (input ts.new) }
     {
-        let none_here = ts.sees(Mark::Semicolon);
-        let a = maybe(self.alloc, ts, none_here)?;
-        ts.expect(Mark::Semicolon, true)?;
-        let none_here = ts.sees(Mark::Semicolon);
-        let b = maybe(self.alloc, ts, none_here)?;
-        ts.expect(Mark::Semicolon, true)?;
-        let none_here = ts.sees(Mark::RightParenthesis);
-        let c = maybe(self.alloc, ts, none_here)?;
-        ts.expect(Mark::RightParenthesis, true)?;
+        let a = maybe_up_to(self.alloc, ts, Mark::Semicolon)?;
+        let b = maybe_up_to(self.alloc, ts, Mark::Semicolon)?;
+        let c = maybe_up_to(self.alloc, ts, Mark::RightParenthesis)?;
         ts.skip_lines();
-        let body = self.nested(ts)?;
-        build::low_count(self.alloc, ts, (a, b, c), body)
+        let (head, body) = both(Ok((a, b, c)), self.nested(ts))?;
+        build::low_count(self.alloc, ts, head, body)
     }
 
     #[tactic(auto, unfolding(pawk_syntax_tree::specs::StatementParse::for_on))]

@@ -1,6 +1,6 @@
 //! The making of trees, one function for each variant.
 
-ghost use Rattle.std.specs.Prelude.{◌≡◌, ◌≤◌, ◌∷◌, ◌++◌, [], length, IfOk, Option, map};
+ghost use Rattle.std.specs.Prelude.{◌≡◌, ◌≤◌, ◌∷◌, ◌++◌, [], length, IfOk, OnOk, IfErr, Ok, Err, Option, map};
 ghost use Rattle.pawk_syntax_tree.specs.Tree as tree;
 ghost use Rattle.pawk_syntax_tree.specs.Tree.{view, views, trees};
 ghost use Rattle.pawk_syntax_tree.specs.Parse as spec;
@@ -14,6 +14,26 @@ use pawk_lex::refusal::SyntaxRefusal;
 use pawk_lex::token::Builtin;
 use pawk_syntax_tree::tree::{Double, ExpressionTree, Name, Single};
 use std::alloc::{AllocError, Global};
+
+/// Both values, or the first refusal.
+pub fn both<A: Drop, B: Drop, E: Drop>(a: Result<A, E>, b: Result<B, E>) -> Result<(A, B), E>
+    ensures first { IfOk result (λ values. a ≡ Ok values.0) }
+    ensures second { IfOk result (λ values. b ≡ Ok values.1) }
+    ensures first_err { IfErr result (λ refusal. IfErr a (λ first. first ≡ refusal)) }
+    ensures second_err { IfErr result (λ refusal. IfOk a (λ value. b ≡ Err refusal)) }
+{
+    Ok((a?, b?))
+}
+
+/// A value, unless this refuses it.
+pub fn keep_if<A: Drop>(value: A, test: Result<(), SyntaxRefusal>) -> Result<A, SyntaxRefusal>
+    ensures same { IfOk result (λ kept. kept ≡ value) }
+    ensures ok { OnOk result (test ≡ Ok tt) }
+    ensures err { IfErr result (λ refusal. test ≡ Err refusal) }
+{
+    test?;
+    Ok(value)
+}
 
 /// The phrase of a numeral with this value.
 pub fn number(number: u64) -> Phrase
@@ -102,8 +122,8 @@ pub fn value(alloc: Global, phrase: Phrase) -> Result<Phrase, AllocError>
     if !is_ere(&phrase.expr) {
         return Ok(phrase);
     }
-    let record = Box::new(alloc, record(alloc)?.expr)?;
     let ere = Box::new(alloc, phrase.expr)?;
+    let record = Box::new(alloc, record(alloc)?.expr)?;
     Ok(Phrase {
         expr: ExpressionTree::Binary(Double::Match, record, ere),
         height: 3,
@@ -165,7 +185,7 @@ fn low(ts: &Cursor<'_>, expr: ExpressionTree, height: usize) -> Result<Phrase, S
     requires { height ≡ heights.height_of expr }
     ensures { Gives tree_of (spec.low (view expr) (input ts.now)) result (input ts.now) }
 {
-    ts.low(height)?;
+    let expr = keep_if(expr, ts.low(height))?;
     Ok(Phrase { expr, height })
 }
 
@@ -183,7 +203,8 @@ fn binary_expr(
 ) -> Result<ExpressionTree, AllocError>
     ensures { IfOk result (λ e. view e ≡ tree.binary op (view a) (view b)) }
 {
-    Ok(ExpressionTree::Binary(op, Box::new(alloc, a)?, Box::new(alloc, b)?))
+    let (a, b) = both(Box::new(alloc, a), Box::new(alloc, b))?;
+    Ok(ExpressionTree::Binary(op, a, b))
 }
 
 fn choice_expr(
@@ -257,8 +278,7 @@ pub fn infix(
     ensures { Gives tree_of (spec.low (tree.binary op (tree.value (tree_of left))
         (tree.right_side op (tree_of right))) (input ts.now)) result (input ts.now) }
 {
-    let left = value(alloc, left)?;
-    let right = right_side(alloc, op, right)?;
+    let (left, right) = both(value(alloc, left), right_side(alloc, op, right))?;
     binary(alloc, ts, op, left, right)
 }
 
@@ -283,9 +303,8 @@ pub fn choosing(
     ensures { Gives tree_of (spec.low (tree.choice (tree.value (tree_of c))
         (tree.value (tree_of a)) (tree.value (tree_of b))) (input ts.now)) result (input ts.now) }
 {
-    let (c, of_c) = boxed_value(alloc, c)?;
-    let (a, of_a) = boxed_value(alloc, a)?;
-    let (b, of_b) = boxed_value(alloc, b)?;
+    let a_and_b = both(boxed_value(alloc, a), boxed_value(alloc, b));
+    let ((c, of_c), ((a, of_a), (b, of_b))) = both(boxed_value(alloc, c), a_and_b)?;
     let height = of_c.max(of_a.max(of_b)) + 1;
     low(ts, choice_expr(c, a, b), height)
 }

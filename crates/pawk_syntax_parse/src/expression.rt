@@ -1,9 +1,12 @@
 //! Expressions, by levels. Each function takes the reader of nested phrases as a parameter, so that
 //! each is proved by itself.
 
-ghost use Rattle.std.specs.Prelude.{◌≡◌, ◌+◌, ◌≤◌, ◌<◌, [], length, IfOk, Option, Some, None, true, false};
+ghost use Rattle.std.specs.Prelude.{◌≡◌, ◌+◌, ◌≤◌, ◌<◌, ◌∷◌, [], length, IfOk, Option, Some, None, true, false};
 ghost use Rattle.pawk_syntax_tree.specs.Levels as levels;
 ghost use Rattle.pawk_syntax_tree.specs.Parse as spec;
+ghost use Rattle.pawk_syntax_tree.specs.Tree as tree;
+ghost use Rattle.pawk_syntax_tree.specs.declared.levels.Turn.TheVariants as turn;
+ghost use Rattle.pawk_lex.specs.declared.token.Mark.TheVariants as mark;
 ghost use Rattle.pawk_lex.specs.Tokens.{tok};
 ghost use Rattle.pawk_syntax_parse.specs.Starts as starts;
 ghost use Rattle.pawk_syntax_parse.specs.Reads.{input, Gives, GivesFrom, nothing, tree_of, trees_of, operand_of};
@@ -14,7 +17,7 @@ use crate::build;
 use crate::cursor::Cursor;
 use crate::phrase::{Phrase, Phrases};
 use pawk_lex::refusal::SyntaxRefusal;
-use pawk_lex::token::{Builtin, Mark, TokenValue};
+use pawk_lex::token::{Builtin, Mark, Token, TokenValue};
 use pawk_syntax_tree::levels::{
     OF_EXPR, OF_INCREMENT, OF_LVALUE, OF_MEMBER, OF_PREFIXED, OF_PRIMARY, OF_VALUE, Row, Turn,
     beside, row_of_sign,
@@ -233,15 +236,15 @@ impl<F: Fn(Global, &mut Cursor<'_>, usize, bool, u8) -> Result<Phrase, SyntaxRef
         ensures { Gives operand_of (spec.group_of (spec.expr self.now.depth) (trees_of inner)
             (input ts.old)) result (input ts.new) }
     {
-        if inner.list.is_empty() {
-            return Err(ts.refuse(true));
+        match inner.list.as_slice() {
+            [] => Err(ts.refuse(true)),
+            [_] => Ok((build::only(inner), OF_VALUE)),
+            [_, _, ..] => {
+                ts.expect(Mark::In, compares)?;
+                let name = expect_name(self.alloc, ts, compares)?;
+                Ok((build::member(ts, inner, name)?, OF_MEMBER))
+            }
         }
-        if inner.list.len() == 1 {
-            return Ok((build::only(inner), OF_VALUE));
-        }
-        ts.expect(Mark::In, compares)?;
-        let name = expect_name(self.alloc, ts, compares)?;
-        Ok((build::member(ts, inner, name)?, OF_MEMBER))
     }
 
     /// After a bracket where no list of several is allowed: one expression. A comma is refused there.
@@ -253,7 +256,7 @@ impl<F: Fn(Global, &mut Cursor<'_>, usize, bool, u8) -> Result<Phrase, SyntaxRef
             (input ts.new) }
     {
         let inner = self.expr(ts, true, OF_EXPR)?;
-        ts.expect(Mark::RightParenthesis, true)?;
+        let inner = build::keep_if(inner, ts.expect(Mark::RightParenthesis, true))?;
         Ok((build::value(self.alloc, inner)?, OF_VALUE))
     }
 
@@ -376,6 +379,38 @@ impl<F: Fn(Global, &mut Cursor<'_>, usize, bool, u8) -> Result<Phrase, SyntaxRef
         }
     }
 
+    /// An operand of the level `least` or a tighter one, after the token that it begins with.
+    #[tactic(auto, unfolding(pawk_syntax_tree::specs::Parse::operand))]
+    fn operand_by(
+        &self,
+        ts: &mut Cursor<'_>,
+        compares: bool,
+        least: u8,
+        first: &Token,
+        refusal: SyntaxRefusal,
+    ) -> Result<(Phrase, u8), SyntaxRefusal>
+        requires { Nests self.now.depth (F.pre self.now.expr) (F.post self.now.expr) }
+        ensures { GivesFrom least (spec.operand (spec.expr self.now.depth) compares
+            (tok first.now.value ∷ input ts.old)) result (input ts.new) }
+    {
+        let start = first.span.start;
+        match &first.value {
+            TokenValue::Number(number) => Ok((build::number(*number), OF_VALUE)),
+            TokenValue::String(bytes) => Ok((build::string(self.alloc, bytes)?, OF_VALUE)),
+            TokenValue::Ere(bytes) => Ok((build::ere(self.alloc, bytes)?, OF_VALUE)),
+            TokenValue::Name(text) => {
+                let name = build::name(self.alloc, text, start)?;
+                self.named(ts, name)
+            }
+            TokenValue::FunctionName(text) => {
+                let name = build::name(self.alloc, text, start)?;
+                self.called(ts, name)
+            }
+            TokenValue::Builtin(function) => self.built_in(ts, compares, *function, start),
+            TokenValue::Mark(sign) => self.operand_by_mark(ts, compares, least, *sign, refusal),
+        }
+    }
+
     /// An operand of the level `least` or a tighter one. A token that begins none is refused.
     #[tactic(auto, unfolding(pawk_syntax_tree::specs::Parse::operand), using(crate::proofs::Starts::too_loose))]
     fn operand(
@@ -396,26 +431,69 @@ impl<F: Fn(Global, &mut Cursor<'_>, usize, bool, u8) -> Result<Phrase, SyntaxRef
             [] => Err(refusal),
             [next, ..] => {
                 ts.pass();
-                let start = next.span.start;
-                match &next.value {
-                    TokenValue::Number(number) => Ok((build::number(*number), OF_VALUE)),
-                    TokenValue::String(bytes) => Ok((build::string(self.alloc, bytes)?, OF_VALUE)),
-                    TokenValue::Ere(bytes) => Ok((build::ere(self.alloc, bytes)?, OF_VALUE)),
-                    TokenValue::Name(text) => {
-                        let name = build::name(self.alloc, text, start)?;
-                        self.named(ts, name)
-                    }
-                    TokenValue::FunctionName(text) => {
-                        let name = build::name(self.alloc, text, start)?;
-                        self.called(ts, name)
-                    }
-                    TokenValue::Builtin(function) => self.built_in(ts, compares, *function, start),
-                    TokenValue::Mark(sign) => {
-                        self.operand_by_mark(ts, compares, least, *sign, refusal)
-                    }
-                }
+                self.operand_by(ts, compares, least, next, refusal)
             }
         }
+    }
+
+    /// An operator between an operand, in a box, and one of the level `least` that comes next.
+    fn infix(
+        &self,
+        ts: &mut Cursor<'_>,
+        compares: bool,
+        op: Double,
+        least: u8,
+        left: Box<Phrase>,
+    ) -> Result<Phrase, SyntaxRefusal>
+        requires { Nests self.now.depth (F.pre self.now.expr) (F.post self.now.expr) }
+        ensures { Gives tree_of (spec.and_then
+            (spec.expr self.now.depth compares least (input ts.old)) (λ a. spec.low (tree.binary op
+            (tree.value (tree_of left.value)) (tree.right_side op a)))) result (input ts.new) }
+    {
+        let right = self.expr(ts, compares, least)?;
+        build::infix(self.alloc, ts, op, Box::into_inner(left), right)
+    }
+
+    /// The operator `in`, which comes next, after an operand, in a box.
+    fn membership(
+        &self,
+        ts: &mut Cursor<'_>,
+        compares: bool,
+        left: Box<Phrase>,
+    ) -> Result<Phrase, SyntaxRefusal>
+        ensures { Gives tree_of (spec.turn_by (spec.expr self.now.depth) compares
+            (tree_of left.value) 0 turn.Membership (input ts.old)) result (input ts.new) }
+    {
+        ts.pass();
+        let name = expect_name(self.alloc, ts, compares)?;
+        build::membership(self.alloc, ts, Box::into_inner(left), name)
+    }
+
+    /// The colon of a choice, and the expression after it.
+    fn otherwise(&self, ts: &mut Cursor<'_>, compares: bool) -> Result<Phrase, SyntaxRefusal>
+        requires { Nests self.now.depth (F.pre self.now.expr) (F.post self.now.expr) }
+        ensures { Gives tree_of (spec.and_then (spec.expect mark.Colon (input ts.old))
+            (λ seen. spec.expr self.now.depth compares 0)) result (input ts.new) }
+    {
+        ts.expect(Mark::Colon, compares)?;
+        self.expr(ts, compares, OF_EXPR)
+    }
+
+    /// A choice by an operand, in a box, whose `?` comes next.
+    fn choosing(
+        &self,
+        ts: &mut Cursor<'_>,
+        compares: bool,
+        left: Box<Phrase>,
+    ) -> Result<Phrase, SyntaxRefusal>
+        requires { Nests self.now.depth (F.pre self.now.expr) (F.post self.now.expr) }
+        ensures { Gives tree_of (spec.turn_by (spec.expr self.now.depth) compares
+            (tree_of left.value) 0 turn.Choosing (input ts.old)) result (input ts.new) }
+    {
+        ts.pass();
+        let yes = self.expr(ts, compares, OF_EXPR)?;
+        let (yes, no) = build::both(Ok(yes), self.otherwise(ts, compares))?;
+        build::choosing(self.alloc, ts, Box::into_inner(left), yes, no)
     }
 
     /// What the operator of a row does with an operand, in a box, on its left.
@@ -435,26 +513,11 @@ impl<F: Fn(Global, &mut Cursor<'_>, usize, bool, u8) -> Result<Phrase, SyntaxRef
             Turn::Infix(op) => {
                 ts.pass();
                 ts.after_op(op);
-                let right = self.expr(ts, compares, row.right)?;
-                build::infix(self.alloc, ts, op, Box::into_inner(left), right)
+                self.infix(ts, compares, op, row.right, left)
             }
-            Turn::Beside => {
-                let right = self.expr(ts, compares, row.right)?;
-                let left = Box::into_inner(left);
-                build::infix(self.alloc, ts, Double::Concatenate, left, right)
-            }
-            Turn::Membership => {
-                ts.pass();
-                let name = expect_name(self.alloc, ts, compares)?;
-                build::membership(self.alloc, ts, Box::into_inner(left), name)
-            }
-            Turn::Choosing => {
-                ts.pass();
-                let yes = self.expr(ts, compares, OF_EXPR)?;
-                ts.expect(Mark::Colon, compares)?;
-                let no = self.expr(ts, compares, OF_EXPR)?;
-                build::choosing(self.alloc, ts, Box::into_inner(left), yes, no)
-            }
+            Turn::Beside => self.infix(ts, compares, Double::Concatenate, row.right, left),
+            Turn::Membership => self.membership(ts, compares, left),
+            Turn::Choosing => self.choosing(ts, compares, left),
             Turn::Postfix(op) => {
                 ts.pass();
                 build::unary(self.alloc, ts, op, Box::into_inner(left))
@@ -502,6 +565,7 @@ impl<F: Fn(Global, &mut Cursor<'_>, usize, bool, u8) -> Result<Phrase, SyntaxRef
             left = self.turn(ts, compares, row, left)?;
             top = row.level;
         }
+        drop(left);
         Err(ts.refuse(compares))
     }
 
@@ -521,6 +585,7 @@ impl<F: Fn(Global, &mut Cursor<'_>, usize, bool, u8) -> Result<Phrase, SyntaxRef
         if least <= first.1 {
             self.climb(ts, compares, least, first)
         } else {
+            drop(first);
             Err(refusal)
         }
     }

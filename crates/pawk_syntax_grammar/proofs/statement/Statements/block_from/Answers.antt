@@ -1,4 +1,4 @@
-use Rattle.std.proofs.Common.{rules, arith}
+use Rattle.std.proofs.Common.{arith}
 use Rattle.std.proofs.lemmas.Grind.{common_steps}
 use Rattle.pawk_syntax_tree.specs.StatementParse.{stmt, block_from}
 use Rattle.pawk_syntax_parse.specs.Reads.{input}
@@ -10,22 +10,22 @@ pub returns-then-eat : goal.returns-then-eat
 unfolding block_from
 returns-then-eat g c =
     let e = one_more (λ n. block_from (stmt c.args.self.now.depth) n (body_of c.loop-turn.all) (input c.loop-turn.ts)) _ c.loop-turn._turn c.loop-turn-test.true c.loop-turn.invariant in
-    first_of (search rules, grind (arith, common_steps))
+    grind (arith, common_steps)
 
 pub returns-in_err-more : goal.returns-in_err-more
 unfolding block_from
 returns-in_err-more g c =
     let e = one_more (λ n. block_from (stmt c.args.self.now.depth) n (body_of c.loop-turn.all) (input c.loop-turn.ts)) _ c.loop-turn._turn c.loop-turn-test.true c.loop-turn.invariant in
-    first_of (search rules, grind (arith, common_steps))
+    grind (arith, common_steps)
 
 pub loop-turn-preserved : goal.loop-turn-preserved
 unfolding block_from
 loop-turn-preserved g c =
     let e = one_more (λ n. block_from (stmt c.args.self.now.depth) n (body_of c.loop-turn.all) (input c.loop-turn.ts)) _ c.loop-turn._turn c.loop-turn-test.true c.loop-turn.invariant in
-    first_of (search rules, grind (arith, common_steps))
+    grind (arith, common_steps)
 
 pub returns : goal.returns
 unfolding block_from
 returns g c =
     let e = no_more (λ n. block_from (stmt c.args.self.now.depth) n (body_of c.loop-turn.all) (input c.loop-turn.ts)) _ c.loop-turn._turn c.loop-turn-test.false c.loop-turn.invariant in
-    first_of (search rules, grind (arith, common_steps))
+    grind (arith, common_steps)
