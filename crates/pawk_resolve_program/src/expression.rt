@@ -8,7 +8,6 @@ ghost use Rattle.pawk_resolve.specs.ScopeViews.{scope_view};
 ghost use Rattle.pawk_resolve.specs.Sorted as spec;
 ghost use Rattle.pawk_resolve.specs.Resolved.{resolved, resolved_all, resolved_arguments};
 
-use crate::results::both;
 use crate::small::small;
 use crate::vectors::push_result;
 use pawk_code::expression::{Argument, Expr, Format};
@@ -20,6 +19,7 @@ use pawk_resolve::lists::{call, element, formatted, member};
 use pawk_resolve::operation::operation_of;
 use pawk_resolve::scope::Scope;
 use pawk_resolve::sorted::{format, nothing, unary};
+use pawk_syntax_parse::build::both;
 use pawk_syntax_tree::tree::ExpressionTree as Tree;
 use std::alloc::{AllocError, Global};
 

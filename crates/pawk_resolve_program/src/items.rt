@@ -15,7 +15,6 @@ ghost use Rattle.pawk_resolve.specs.ResolvedPrograms as spec;
 
 use crate::expression::expression;
 use crate::names::table_of;
-use crate::results::both;
 use crate::statement::body;
 use crate::vectors::push_result;
 use pawk_code::expression::Expr;
@@ -23,6 +22,7 @@ use pawk_code::program::{Function, ParameterKind, Rule, Selector};
 use pawk_code::statement::Statement;
 use pawk_resolve::scope::{GlobalNames, Scope};
 use pawk_resolve::table::NameTable;
+use pawk_syntax_parse::build::both;
 use pawk_syntax_tree::item::ProgramItem;
 use pawk_syntax_tree::statement::StatementTree as TreeStatement;
 use pawk_syntax_tree::tree::{ExpressionTree as Tree, Name};

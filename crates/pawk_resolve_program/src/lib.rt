@@ -10,7 +10,6 @@ pub mod items;
 pub mod laws;
 pub mod names;
 pub mod program;
-pub mod results;
 pub mod simple;
 pub mod small;
 pub mod statement;

@@ -16,13 +16,13 @@ ghost use Rattle.pawk_resolve.specs.ResolvedStatements as spec;
 
 use crate::calm::are_calm;
 use crate::expression::{expression, format_of, list};
-use crate::results::both;
 use pawk_code::expression::{Expr, Numeric};
 use pawk_code::statement::{Head, Leave, Operands, Simple, Statement};
 use pawk_code::word::Sign;
 use pawk_resolve::scope::Scope;
 use pawk_resolve::sorted::nothing;
 use pawk_scalar::Op;
+use pawk_syntax_parse::build::both;
 use pawk_syntax_tree::statement::{Jump as Word, StatementTree as TreeStatement};
 use pawk_syntax_tree::tree::{ExpressionTree as Tree, Name};
 use std::alloc::{AllocError, Global};

@@ -8,11 +8,11 @@ ghost use Rattle.pawk_resolve.specs.ScopeViews.{scope_view};
 ghost use Rattle.pawk_resolve.specs.ResolvedStatements as spec;
 
 use crate::expression::expression;
-use crate::results::both;
 use crate::simple::{head, plain};
 use crate::vectors::push_result;
 use pawk_code::statement::Statement;
 use pawk_resolve::scope::Scope;
+use pawk_syntax_parse::build::both;
 use pawk_syntax_tree::statement::StatementTree as TreeStatement;
 use std::alloc::{AllocError, Global};
 
