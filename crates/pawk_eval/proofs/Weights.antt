@@ -86,8 +86,8 @@ amount_weight (amount.Of e) = weight (view e.now) + 3
 abbrev pub simple_weight : Simple → ℕ
 simple_weight (drop e) = weight e + 2
 simple_weight (set p e) = place_weight p + weight e + 3
-simple_weight (add s p e) = place_weight p + weight e + 6
-simple_weight (count s p) = place_weight p + 3
+simple_weight (add s p e) = place_weight p + weight e + 7
+simple_weight (count s p) = place_weight p + 4
 simple_weight (print calm es) = row_weight es + 3
 simple_weight (printf f calm es) = format_weight f + row_weight es + 3
 simple_weight (delete a ks) = row_weight ks + 3

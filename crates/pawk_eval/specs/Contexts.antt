@@ -16,6 +16,7 @@ use Rattle.pawk_builtins.specs.ExpressionViews.{texts_of}
 use Rattle.pawk_semantics.specs.Parts.{Hold, Part}
 use Rattle.pawk_semantics.specs.Meaning.{call_at}
 use Rattle.pawk_eval.specs.declared.context.Context.{Context}
+use Rattle.pawk_eval.specs.declared.layer.Layer.{Layer}
 use Rattle.pawk_eval.specs.declared.replacement.Replacement.{Replacement}
 
 -- the functions of the program
@@ -26,9 +27,12 @@ functions_of context = map function_view context.code.now.functions.items
 abbrev pub eres_of : Context → List (List ℕ)
 eres_of context = texts_of context.code.now.expressions.items
 
--- the call of a function, where `depth` more may be nested
-abbrev pub enter_of : {S : Type 0} → Calls S → Context → ℕ → ℕ → List Hold → Part S Val
-enter_of calls context depth = call_at calls (eres_of context) (functions_of context) depth
+-- what is between the slashes of the program, and the call of a function, where as many more may be nested as the layer has
+abbrev pub eres_in : Layer → List (List ℕ)
+eres_in layer = eres_of layer.context
+
+abbrev pub enter_in : {S : Type 0} → Calls S → Layer → ℕ → List Hold → Part S Val
+enter_in calls layer = call_at calls (eres_of layer.context) (functions_of layer.context) layer.depth
 
 -- an expression and a statement that may be missing
 abbrev pub test_view : Option (Bor CodeExpr) → Option Expr

@@ -3,11 +3,11 @@
 ghost use Rattle.std.specs.Prelude.{◌≤◌};
 ghost use Rattle.pawk_runtime.specs.Moments.{moment};
 ghost use Rattle.pawk_runtime.specs.Yields.{Yields};
-ghost use Rattle.pawk_eval.specs.Contexts.{enter_of, eres_of};
+ghost use Rattle.pawk_eval.specs.Contexts.{enter_in, eres_in};
 ghost use Rattle.pawk_eval.specs.Amounts.{amount_of};
 
-use crate::context::Context;
 use crate::expressions::number;
+use crate::layer::Layer;
 use pawk_code::expression::Expr;
 use pawk_runtime::Run;
 use pawk_value::Fault;
@@ -26,20 +26,19 @@ pub(crate) enum Amount<'e> {
 #[cycle(evaluate)]
 #[inline(always)]
 pub(crate) fn amount_number<W: World>(
-    context: Context<'_>,
-    depth: u64,
+    layer: Layer<'_>,
     amount: Amount<'_>,
     world: &mut W,
     run: &mut Run<'_>,
 ) -> Result<Result<i64, Fault>, Halt>
     ensures left { run.new.left ≤ run.old.left }
     ensures outcome { Yields (λ number. number)
-        (amount_of W.calls (eres_of context.entry) (enter_of W.calls context.entry depth)
+        (amount_of W.calls (eres_in layer.entry) (enter_in W.calls layer.entry)
         amount.entry
         (moment (W.state world.old) run.old)) result (moment (W.state world.new) run.new) }
 {
     match amount {
         Amount::One => Ok(Ok(1)),
-        Amount::Of(e) => number(context, depth, e, world, run),
+        Amount::Of(e) => number(layer, e, world, run),
     }
 }

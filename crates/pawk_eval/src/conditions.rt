@@ -11,10 +11,10 @@ ghost use Rattle.pawk_semantics.specs.Meaning.{truth_of};
 ghost use Rattle.pawk_semantics.specs.Parts.{as_truth, bind, settle};
 ghost use Rattle.pawk_runtime.specs.Moments.{moment};
 ghost use Rattle.pawk_runtime.specs.Yields.{Yields};
-ghost use Rattle.pawk_eval.specs.Contexts.{enter_of, eres_of};
+ghost use Rattle.pawk_eval.specs.Contexts.{enter_in, eres_in};
 
-use crate::context::Context;
 use crate::expressions::{eval, text, truth};
+use crate::layer::Layer;
 use crate::numbers::numeric;
 use crate::operands::operand;
 use crate::places::key;
@@ -29,7 +29,7 @@ use pawk_runtime::{
 use pawk_value::lend_held;
 use pawk_world::{Halt, World};
 
-/// Whether an expression is true, where `depth` calls may be nested.
+/// Whether an expression is true.
 ///
 /// It halts as [`execute`](crate::execute) does, and with the fault of its conversion.
 ///
@@ -37,22 +37,21 @@ use pawk_world::{Halt, World};
 #[cycle(evaluate)]
 #[inline(always)]
 pub fn holds<W: World>(
-    context: Context<'_>,
-    depth: u64,
+    layer: Layer<'_>,
     e: &Expr,
     world: &mut W,
     run: &mut Run<'_>,
 ) -> Result<bool, Halt>
     ensures left { run.new.left ≤ run.old.left }
     ensures outcome { Yields (λ holds. holds)
-        (bind (as_truth (spec.eval W.calls (eres_of context.entry)
-        (enter_of W.calls context.entry depth) (view e.now))) settle
+        (bind (as_truth (spec.eval W.calls (eres_in layer.entry)
+        (enter_in W.calls layer.entry) (view e.now))) settle
         (moment (W.state world.old) run.old)) result (moment (W.state world.new) run.new) }
 {
-    if let Some(holds) = quick_test(context.code.expressions.as_slice(), e, world, run) {
+    if let Some(holds) = quick_test(layer.context.code.expressions.as_slice(), e, world, run) {
         return Ok(holds);
     }
-    let truth = truth(context, depth, e, world, run)?;
+    let truth = truth(layer, e, world, run)?;
     Ok(truth?)
 }
 
@@ -60,29 +59,24 @@ pub fn holds<W: World>(
 #[cycle(evaluate)]
 #[inline(always)]
 pub(crate) fn test<W: World>(
-    context: Context<'_>,
-    depth: u64,
+    layer: Layer<'_>,
     t: &Test,
     world: &mut W,
     run: &mut Run<'_>,
 ) -> Result<bool, Halt>
     ensures left { run.new.left ≤ run.old.left }
     ensures outcome { Yields (λ holds. holds)
-        (truth_of W.calls (eres_of context.entry) (enter_of W.calls context.entry depth)
+        (truth_of W.calls (eres_in layer.entry) (enter_in W.calls layer.entry)
         (test_view t.now)
         (moment (W.state world.old) run.old)) result (moment (W.state world.new) run.new) }
 {
     match t {
-        Test::Compare(relation, a, b) => compare(context, depth, *relation, a, b, world, run),
-        Test::And(a, b) => {
-            Ok(holds(context, depth, a, world, run)? && holds(context, depth, b, world, run)?)
-        }
-        Test::Or(a, b) => {
-            Ok(holds(context, depth, a, world, run)? || holds(context, depth, b, world, run)?)
-        }
-        Test::Not(a) => Ok(!holds(context, depth, a, world, run)?),
-        Test::Match(wanted, a, pattern) => matches(context, depth, *wanted, a, pattern, world, run),
-        Test::In(array, keys) => member(context, depth, *array, keys, world, run),
+        Test::Compare(relation, a, b) => compare(layer, *relation, a, b, world, run),
+        Test::And(a, b) => { Ok(holds(layer, a, world, run)? && holds(layer, b, world, run)?) }
+        Test::Or(a, b) => { Ok(holds(layer, a, world, run)? || holds(layer, b, world, run)?) }
+        Test::Not(a) => Ok(!holds(layer, a, world, run)?),
+        Test::Match(wanted, a, pattern) => matches(layer, *wanted, a, pattern, world, run),
+        Test::In(array, keys) => member(layer, *array, keys, world, run),
     }
 }
 
@@ -90,8 +84,7 @@ pub(crate) fn test<W: World>(
 #[cycle(evaluate)]
 #[inline(always)]
 pub(crate) fn compare<W: World>(
-    context: Context<'_>,
-    depth: u64,
+    layer: Layer<'_>,
     relation: Relation,
     a: &Expr,
     b: &Expr,
@@ -100,7 +93,7 @@ pub(crate) fn compare<W: World>(
 ) -> Result<bool, Halt>
     ensures left { run.new.left ≤ run.old.left }
     ensures outcome { Yields (λ holds. holds)
-        (truth_of W.calls (eres_of context.entry) (enter_of W.calls context.entry depth)
+        (truth_of W.calls (eres_in layer.entry) (enter_in W.calls layer.entry)
         (codes.compare relation (view a.now) (view b.now))
         (moment (W.state world.old) run.old)) result (moment (W.state world.new) run.new) }
 {
@@ -111,26 +104,25 @@ pub(crate) fn compare<W: World>(
     }
     if let Expr::Leaf(y) = b {
         if let Expr::Numeric(n) = a {
-            let x = numeric(context, depth, n, world, run)?;
+            let x = numeric(layer, n, world, run)?;
             return compare_number(relation, x, y, world, run);
         }
     }
     if let Expr::Leaf(leaf) = a {
         if let Expr::Numeric(n) = b {
             if let Some(x) = plain_number(leaf, world, run) {
-                let y = numeric(context, depth, n, world, run)?;
+                let y = numeric(layer, n, world, run)?;
                 return Ok(related_numbers(relation, x, y));
             }
         }
     }
-    compare_values(context, depth, relation, a, b, world, run)
+    compare_values(layer, relation, a, b, world, run)
 }
 
 /// How two expressions compare, whose values are stored.
 #[cycle(evaluate)]
 pub(crate) fn compare_values<W: World>(
-    context: Context<'_>,
-    depth: u64,
+    layer: Layer<'_>,
     relation: Relation,
     a: &Expr,
     b: &Expr,
@@ -139,14 +131,14 @@ pub(crate) fn compare_values<W: World>(
 ) -> Result<bool, Halt>
     ensures left { run.new.left ≤ run.old.left }
     ensures outcome { Yields (λ holds. holds)
-        (truth_of W.calls (eres_of context.entry) (enter_of W.calls context.entry depth)
+        (truth_of W.calls (eres_in layer.entry) (enter_in W.calls layer.entry)
         (codes.compare relation (view a.now) (view b.now))
         (moment (W.state world.old) run.old)) result (moment (W.state world.new) run.new) }
 {
     let mut left = take_buffer(run.alloc, &mut run.spare);
-    let x = eval(context, depth, a, &mut left, world, run)?;
+    let x = eval(layer, a, &mut left, world, run)?;
     let mut right = take_buffer(run.alloc, &mut run.spare);
-    let y = eval(context, depth, b, &mut right, world, run)?;
+    let y = eval(layer, b, &mut right, world, run)?;
     let holds = related(relation, lend_held(x, &left), lend_held(y, &right))?;
     give_back(&mut run.spare, left);
     give_back(&mut run.spare, right);
@@ -159,8 +151,7 @@ pub(crate) fn compare_values<W: World>(
 #[cycle(evaluate)]
 #[inline(never)]
 pub(crate) fn matches<W: World>(
-    context: Context<'_>,
-    depth: u64,
+    layer: Layer<'_>,
     wanted: bool,
     e: &Expr,
     pattern: &Pattern,
@@ -169,14 +160,14 @@ pub(crate) fn matches<W: World>(
 ) -> Result<bool, Halt>
     ensures left { run.new.left ≤ run.old.left }
     ensures outcome { Yields (λ holds. holds)
-        (truth_of W.calls (eres_of context.entry) (enter_of W.calls context.entry depth)
+        (truth_of W.calls (eres_in layer.entry) (enter_in W.calls layer.entry)
         (codes.matches wanted (view e.now) (pattern_view pattern.now))
         (moment (W.state world.old) run.old)) result (moment (W.state world.new) run.new) }
 {
-    let text = text(context, depth, e, world, run)?;
-    let ere = operand(context, depth, pattern, world, run)?;
+    let text = text(layer, e, world, run)?;
+    let ere = operand(layer, pattern, world, run)?;
     let expression = EreReference {
-        eres: context.code.expressions.as_slice(),
+        eres: layer.context.code.expressions.as_slice(),
         pattern,
         text: &ere,
     };
@@ -192,8 +183,7 @@ pub(crate) fn matches<W: World>(
 #[cycle(evaluate)]
 #[inline(never)]
 pub(crate) fn member<W: World>(
-    context: Context<'_>,
-    depth: u64,
+    layer: Layer<'_>,
     array: Array,
     keys: &[Expr],
     world: &mut W,
@@ -201,14 +191,14 @@ pub(crate) fn member<W: World>(
 ) -> Result<bool, Halt>
     ensures left { run.new.left ≤ run.old.left }
     ensures outcome { Yields (λ holds. holds)
-        (truth_of W.calls (eres_of context.entry) (enter_of W.calls context.entry depth)
+        (truth_of W.calls (eres_in layer.entry) (enter_in W.calls layer.entry)
         (codes.member array (exprs (views keys.now)))
         (moment (W.state world.old) run.old)) result (moment (W.state world.new) run.new) }
 {
     if let Some(answer) = leaf_member(array, keys, world, run) {
         return answer;
     }
-    let key = key(context, depth, keys, world, run)?;
+    let key = key(layer, keys, world, run)?;
     let exists = element_exists(table_of(&run.frame, array), &key, world, run)?;
     give_back(&mut run.spare, key);
     Ok(exists)

@@ -11,11 +11,11 @@ ghost use Rattle.pawk_semantics.specs.Parts.{as_number, as_text, as_truth};
 ghost use Rattle.pawk_semantics.specs.Meaning.{eval};
 ghost use Rattle.pawk_runtime.specs.Moments.{moment};
 ghost use Rattle.pawk_runtime.specs.Yields.{Yields};
-ghost use Rattle.pawk_eval.specs.Contexts.{enter_of, eres_of};
+ghost use Rattle.pawk_eval.specs.Contexts.{enter_in, eres_in};
 
 use crate::conditions::{holds, test};
-use crate::context::Context;
 use crate::functions::{call, pass};
+use crate::layer::Layer;
 use crate::numbers::numeric;
 use crate::places::place;
 use crate::strings::textual;
@@ -33,8 +33,7 @@ use pawk_world::{Halt, World};
 /// Stores the value of an expression: its bytes are appended to `out`.
 #[cycle(evaluate)]
 pub(crate) fn eval<W: World>(
-    context: Context<'_>,
-    depth: u64,
+    layer: Layer<'_>,
     e: &Expr,
     out: &mut Vec<u8>,
     world: &mut W,
@@ -44,40 +43,35 @@ pub(crate) fn eval<W: World>(
     ensures appended { OnOk result
         (out.new.items ≡ out.old.items ++ added out.old.items out.new.items) }
     ensures outcome { Yields (λ h. held_value h (added out.old.items out.new.items))
-        (eval W.calls (eres_of context.entry) (enter_of W.calls context.entry depth) (view e.now)
+        (eval W.calls (eres_in layer.entry) (enter_in W.calls layer.entry) (view e.now)
         (moment (W.state world.old) run.old)) result (moment (W.state world.new) run.new) }
 {
     match e {
         Expr::Leaf(leaf) => leaf_value(leaf, out, world, run),
-        Expr::Numeric(n) => Ok(Held::Num(numeric(context, depth, n, world, run)?)),
-        Expr::Test(t) => Ok(Held::Num(if test(context, depth, t, world, run)? {
-            1
-        } else {
-            0
-        })),
+        Expr::Numeric(n) => Ok(Held::Num(numeric(layer, n, world, run)?)),
+        Expr::Test(t) => Ok(Held::Num(if test(layer, t, world, run)? { 1 } else { 0 })),
         Expr::Textual(t) => {
-            textual(context, depth, t, out, world, run)?;
+            textual(layer, t, out, world, run)?;
             Ok(Held::Text)
         }
-        Expr::Read(from) => read(context, depth, from, out, world, run),
+        Expr::Read(from) => read(layer, from, out, world, run),
         Expr::Choice(c, a, b) => {
-            let holds = holds(context, depth, c, world, run)?;
+            let holds = holds(layer, c, world, run)?;
             if holds {
-                eval(context, depth, a, out, world, run)
+                eval(layer, a, out, world, run)
             } else {
-                eval(context, depth, b, out, world, run)
+                eval(layer, b, out, world, run)
             }
         }
-        Expr::Assign(to, a) => assign(context, depth, to, a, out, world, run),
-        Expr::Call(f, arguments) => lay_call(context, depth, *f, arguments, out, world, run),
+        Expr::Assign(to, a) => assign(layer, to, a, out, world, run),
+        Expr::Call(f, arguments) => lay_call(layer, *f, arguments, out, world, run),
     }
 }
 
 /// Stores the value of a place. A key that is a field is not copied.
 #[cycle(evaluate)]
 pub(crate) fn read<W: World>(
-    context: Context<'_>,
-    depth: u64,
+    layer: Layer<'_>,
     from: &Lvalue,
     out: &mut Vec<u8>,
     world: &mut W,
@@ -87,14 +81,14 @@ pub(crate) fn read<W: World>(
     ensures appended { OnOk result
         (out.new.items ≡ out.old.items ++ added out.old.items out.new.items) }
     ensures outcome { Yields (λ h. held_value h (added out.old.items out.new.items))
-        (eval W.calls (eres_of context.entry) (enter_of W.calls context.entry depth)
+        (eval W.calls (eres_in layer.entry) (enter_in W.calls layer.entry)
         (codes.read (place_view from.now))
         (moment (W.state world.old) run.old)) result (moment (W.state world.new) run.new) }
 {
     if let Some(answer) = leaf_read(from, out, world, run) {
         return answer;
     }
-    let target = place(context, depth, from, world, run)?;
+    let target = place(layer, from, world, run)?;
     let held = read_place(&target, out, world, run)?;
     give_back_target(&mut run.spare, target);
     Ok(held)
@@ -106,8 +100,7 @@ pub(crate) fn read<W: World>(
 #[cycle(evaluate)]
 #[inline(always)]
 pub(crate) fn invoke<W: World>(
-    context: Context<'_>,
-    depth: u64,
+    layer: Layer<'_>,
     f: usize,
     arguments: &[Argument],
     world: &mut W,
@@ -115,19 +108,18 @@ pub(crate) fn invoke<W: World>(
 ) -> Result<Value, Halt>
     ensures left { run.new.left ≤ run.old.left }
     ensures outcome { Yields shown
-        (eval W.calls (eres_of context.entry) (enter_of W.calls context.entry depth)
+        (eval W.calls (eres_in layer.entry) (enter_in W.calls layer.entry)
         (codes.call f (codes.arguments (argument_views arguments.now)))
         (moment (W.state world.old) run.old)) result (moment (W.state world.new) run.new) }
 {
-    let values = pass(context, depth, arguments, world, run)?;
-    call(context, depth, f, values, world, run)
+    let values = pass(layer, arguments, world, run)?;
+    call(layer, f, values, world, run)
 }
 
 /// Calls a function with arguments, and stores its value.
 #[cycle(evaluate)]
 pub(crate) fn lay_call<W: World>(
-    context: Context<'_>,
-    depth: u64,
+    layer: Layer<'_>,
     f: usize,
     arguments: &[Argument],
     out: &mut Vec<u8>,
@@ -138,11 +130,11 @@ pub(crate) fn lay_call<W: World>(
     ensures appended { OnOk result
         (out.new.items ≡ out.old.items ++ added out.old.items out.new.items) }
     ensures outcome { Yields (λ h. held_value h (added out.old.items out.new.items))
-        (eval W.calls (eres_of context.entry) (enter_of W.calls context.entry depth)
+        (eval W.calls (eres_in layer.entry) (enter_in W.calls layer.entry)
         (codes.call f (codes.arguments (argument_views arguments.now)))
         (moment (W.state world.old) run.old)) result (moment (W.state world.new) run.new) }
 {
-    let value = invoke(context, depth, f, arguments, world, run)?;
+    let value = invoke(layer, f, arguments, world, run)?;
     let held = hold(lend(&value), out)?;
     give_back_value(&mut run.spare, value);
     Ok(held)
@@ -151,8 +143,7 @@ pub(crate) fn lay_call<W: World>(
 /// Appends the text of the value of a call.
 #[cycle(evaluate)]
 pub(crate) fn call_text_into<W: World>(
-    context: Context<'_>,
-    depth: u64,
+    layer: Layer<'_>,
     f: usize,
     arguments: &[Argument],
     out: &mut Vec<u8>,
@@ -162,11 +153,11 @@ pub(crate) fn call_text_into<W: World>(
     ensures left { run.new.left ≤ run.old.left }
     ensures outcome { Yields (λ _. out.new.items)
         (as_text out.old.items
-        (eval W.calls (eres_of context.entry) (enter_of W.calls context.entry depth)
+        (eval W.calls (eres_in layer.entry) (enter_in W.calls layer.entry)
         (codes.call f (codes.arguments (argument_views arguments.now))))
         (moment (W.state world.old) run.old)) result (moment (W.state world.new) run.new) }
 {
-    let value = invoke(context, depth, f, arguments, world, run)?;
+    let value = invoke(layer, f, arguments, world, run)?;
     push_text_lent(lend(&value), out)?;
     give_back_value(&mut run.spare, value);
     Ok(())
@@ -175,8 +166,7 @@ pub(crate) fn call_text_into<W: World>(
 /// Assigns the value of an expression to a place, and stores it.
 #[cycle(evaluate)]
 pub(crate) fn assign<W: World>(
-    context: Context<'_>,
-    depth: u64,
+    layer: Layer<'_>,
     to: &Lvalue,
     e: &Expr,
     out: &mut Vec<u8>,
@@ -187,13 +177,13 @@ pub(crate) fn assign<W: World>(
     ensures appended { OnOk result
         (out.new.items ≡ out.old.items ++ added out.old.items out.new.items) }
     ensures outcome { Yields (λ h. held_value h (added out.old.items out.new.items))
-        (eval W.calls (eres_of context.entry) (enter_of W.calls context.entry depth)
+        (eval W.calls (eres_in layer.entry) (enter_in W.calls layer.entry)
         (codes.assign (place_view to.now) (view e.now))
         (moment (W.state world.old) run.old)) result (moment (W.state world.new) run.new) }
 {
-    let target = place(context, depth, to, world, run)?;
+    let target = place(layer, to, world, run)?;
     let start = out.len();
-    let held = eval(context, depth, e, out, world, run)?;
+    let held = eval(layer, e, out, world, run)?;
     write_place(&target, lend_held(held, &out[start..]), world, run)?;
     give_back_target(&mut run.spare, target);
     Ok(held)
@@ -203,15 +193,14 @@ pub(crate) fn assign<W: World>(
 #[cycle(evaluate)]
 #[inline(always)]
 pub(crate) fn number<W: World>(
-    context: Context<'_>,
-    depth: u64,
+    layer: Layer<'_>,
     e: &Expr,
     world: &mut W,
     run: &mut Run<'_>,
 ) -> Result<Result<i64, Fault>, Halt>
     ensures left { run.new.left ≤ run.old.left }
     ensures outcome { Yields (λ number. number)
-        (as_number (eval W.calls (eres_of context.entry) (enter_of W.calls context.entry depth)
+        (as_number (eval W.calls (eres_in layer.entry) (enter_in W.calls layer.entry)
         (view e.now))
         (moment (W.state world.old) run.old)) result (moment (W.state world.new) run.new) }
 {
@@ -220,9 +209,9 @@ pub(crate) fn number<W: World>(
     }
     match e {
         Expr::Leaf(leaf) => lent_number(leaf, world, run),
-        Expr::Numeric(n) => Ok(Ok(numeric(context, depth, n, world, run)?)),
-        Expr::Read(from) => number_at(context, depth, from, world, run),
-        e => number_beside(context, depth, e, world, run),
+        Expr::Numeric(n) => Ok(Ok(numeric(layer, n, world, run)?)),
+        Expr::Read(from) => number_at(layer, from, world, run),
+        e => number_beside(layer, e, world, run),
     }
 }
 
@@ -230,26 +219,25 @@ pub(crate) fn number<W: World>(
 #[cycle(evaluate)]
 #[inline(never)]
 pub(crate) fn number_beside<W: World>(
-    context: Context<'_>,
-    depth: u64,
+    layer: Layer<'_>,
     e: &Expr,
     world: &mut W,
     run: &mut Run<'_>,
 ) -> Result<Result<i64, Fault>, Halt>
     ensures left { run.new.left ≤ run.old.left }
     ensures outcome { Yields (λ number. number)
-        (as_number (eval W.calls (eres_of context.entry) (enter_of W.calls context.entry depth)
+        (as_number (eval W.calls (eres_in layer.entry) (enter_in W.calls layer.entry)
         (view e.now))
         (moment (W.state world.old) run.old)) result (moment (W.state world.new) run.new) }
 {
     if let Expr::Call(f, arguments) = e {
-        let value = invoke(context, depth, *f, arguments, world, run)?;
+        let value = invoke(layer, *f, arguments, world, run)?;
         let number = to_num_lent(lend(&value));
         give_back_value(&mut run.spare, value);
         return Ok(number);
     }
     let mut bytes = take_buffer(run.alloc, &mut run.spare);
-    let held = eval(context, depth, e, &mut bytes, world, run)?;
+    let held = eval(layer, e, &mut bytes, world, run)?;
     let number = to_num_lent(lend_held(held, &bytes));
     give_back(&mut run.spare, bytes);
     Ok(number)
@@ -259,43 +247,41 @@ pub(crate) fn number_beside<W: World>(
 /// copied.
 #[cycle(evaluate)]
 pub(crate) fn number_at<W: World>(
-    context: Context<'_>,
-    depth: u64,
+    layer: Layer<'_>,
     from: &Lvalue,
     world: &mut W,
     run: &mut Run<'_>,
 ) -> Result<Result<i64, Fault>, Halt>
     ensures left { run.new.left ≤ run.old.left }
     ensures outcome { Yields (λ number. number)
-        (as_number (eval W.calls (eres_of context.entry) (enter_of W.calls context.entry depth)
+        (as_number (eval W.calls (eres_in layer.entry) (enter_in W.calls layer.entry)
         (codes.read (place_view from.now)))
         (moment (W.state world.old) run.old)) result (moment (W.state world.new) run.new) }
 {
     if let Some(answer) = leaf_read_number(from, world, run) {
         return answer;
     }
-    let target = place(context, depth, from, world, run)?;
+    let target = place(layer, from, world, run)?;
     let number = read_number(&target, world, run)?;
     give_back_target(&mut run.spare, target);
     Ok(number)
 }
 
-/// The truth of an expression, or the fault of its conversion, where `depth` calls may be nested.
+/// The truth of an expression, or the fault of its conversion.
 ///
 /// It halts as [`execute`](crate::execute) does.
 ///
 /// POSIX.1-2017, awk, "Expressions in awk".
 #[cycle(evaluate)]
 pub(crate) fn truth<W: World>(
-    context: Context<'_>,
-    depth: u64,
+    layer: Layer<'_>,
     e: &Expr,
     world: &mut W,
     run: &mut Run<'_>,
 ) -> Result<Result<bool, Fault>, Halt>
     ensures left { run.new.left ≤ run.old.left }
     ensures outcome { Yields (λ truth. truth)
-        (as_truth (eval W.calls (eres_of context.entry) (enter_of W.calls context.entry depth)
+        (as_truth (eval W.calls (eres_in layer.entry) (enter_in W.calls layer.entry)
         (view e.now))
         (moment (W.state world.old) run.old)) result (moment (W.state world.new) run.new) }
 {
@@ -304,13 +290,13 @@ pub(crate) fn truth<W: World>(
     }
     match e {
         Expr::Leaf(leaf) => leaf_truth(leaf, world, run),
-        Expr::Test(t) => Ok(Ok(test(context, depth, t, world, run)?)),
+        Expr::Test(t) => Ok(Ok(test(layer, t, world, run)?)),
         Expr::Numeric(n) => {
-            let number = numeric(context, depth, n, world, run)?;
+            let number = numeric(layer, n, world, run)?;
             Ok(truth_lent(ValueRef::Num(number)))
         }
         e => {
-            let (held, bytes) = eval_apart(context, depth, e, world, run)?;
+            let (held, bytes) = eval_apart(layer, e, world, run)?;
             let truth = truth_lent(lend_held(held, &bytes));
             give_back(&mut run.spare, bytes);
             Ok(truth)
@@ -322,8 +308,7 @@ pub(crate) fn truth<W: World>(
 #[cycle(evaluate)]
 #[inline(always)]
 pub(crate) fn text_into<W: World>(
-    context: Context<'_>,
-    depth: u64,
+    layer: Layer<'_>,
     e: &Expr,
     out: &mut Vec<u8>,
     world: &mut W,
@@ -332,22 +317,22 @@ pub(crate) fn text_into<W: World>(
     ensures left { run.new.left ≤ run.old.left }
     ensures outcome { Yields (λ _. out.new.items)
         (as_text out.old.items
-        (eval W.calls (eres_of context.entry) (enter_of W.calls context.entry depth)
+        (eval W.calls (eres_in layer.entry) (enter_in W.calls layer.entry)
         (view e.now))
         (moment (W.state world.old) run.old)) result (moment (W.state world.new) run.new) }
 {
     match e {
         Expr::Leaf(leaf) => leaf_text(leaf, out, world, run),
-        Expr::Textual(t) => textual(context, depth, t, out, world, run),
+        Expr::Textual(t) => textual(layer, t, out, world, run),
         Expr::Numeric(n) => {
-            let number = numeric(context, depth, n, world, run)?;
+            let number = numeric(layer, n, world, run)?;
             push_text_lent(ValueRef::Num(number), out)?;
             Ok(())
         }
-        Expr::Read(from) => text_at(context, depth, from, out, world, run),
-        Expr::Call(f, arguments) => call_text_into(context, depth, *f, arguments, out, world, run),
+        Expr::Read(from) => text_at(layer, from, out, world, run),
+        Expr::Call(f, arguments) => call_text_into(layer, *f, arguments, out, world, run),
         e => {
-            let (held, bytes) = eval_apart(context, depth, e, world, run)?;
+            let (held, bytes) = eval_apart(layer, e, world, run)?;
             push_text_lent(lend_held(held, &bytes), out)?;
             give_back(&mut run.spare, bytes);
             Ok(())
@@ -358,8 +343,7 @@ pub(crate) fn text_into<W: World>(
 /// Appends the text of the value of a place. A key that is a field is not copied.
 #[cycle(evaluate)]
 pub(crate) fn text_at<W: World>(
-    context: Context<'_>,
-    depth: u64,
+    layer: Layer<'_>,
     from: &Lvalue,
     out: &mut Vec<u8>,
     world: &mut W,
@@ -368,14 +352,14 @@ pub(crate) fn text_at<W: World>(
     ensures left { run.new.left ≤ run.old.left }
     ensures outcome { Yields (λ _. out.new.items)
         (as_text out.old.items
-        (eval W.calls (eres_of context.entry) (enter_of W.calls context.entry depth)
+        (eval W.calls (eres_in layer.entry) (enter_in W.calls layer.entry)
         (codes.read (place_view from.now)))
         (moment (W.state world.old) run.old)) result (moment (W.state world.new) run.new) }
 {
     if let Some(answer) = leaf_read_text(from, out, world, run) {
         return answer;
     }
-    let target = place(context, depth, from, world, run)?;
+    let target = place(layer, from, world, run)?;
     push_place_text(&target, out, world, run)?;
     give_back_target(&mut run.spare, target);
     Ok(())
@@ -385,35 +369,33 @@ pub(crate) fn text_at<W: World>(
 #[cycle(evaluate)]
 #[inline(always)]
 pub(crate) fn text<W: World>(
-    context: Context<'_>,
-    depth: u64,
+    layer: Layer<'_>,
     e: &Expr,
     world: &mut W,
     run: &mut Run<'_>,
 ) -> Result<Vec<u8>, Halt>
     ensures left { run.new.left ≤ run.old.left }
     ensures outcome { Yields (λ text. text.items)
-        (as_text [] (eval W.calls (eres_of context.entry) (enter_of W.calls context.entry depth)
+        (as_text [] (eval W.calls (eres_in layer.entry) (enter_in W.calls layer.entry)
         (view e.now))
         (moment (W.state world.old) run.old)) result (moment (W.state world.new) run.new) }
 {
     let mut text = take_buffer(run.alloc, &mut run.spare);
-    text_into(context, depth, e, &mut text, world, run)?;
+    text_into(layer, e, &mut text, world, run)?;
     Ok(text)
 }
 
 /// The value of an expression.
 #[cycle(evaluate)]
 pub(crate) fn value<W: World>(
-    context: Context<'_>,
-    depth: u64,
+    layer: Layer<'_>,
     e: &Expr,
     world: &mut W,
     run: &mut Run<'_>,
 ) -> Result<Value, Halt>
     ensures left { run.new.left ≤ run.old.left }
     ensures outcome { Yields shown
-        (eval W.calls (eres_of context.entry) (enter_of W.calls context.entry depth) (view e.now)
+        (eval W.calls (eres_in layer.entry) (enter_in W.calls layer.entry) (view e.now)
         (moment (W.state world.old) run.old)) result (moment (W.state world.new) run.new) }
 {
     if let Some(number) = plain_value(e, world, run) {
@@ -421,23 +403,23 @@ pub(crate) fn value<W: World>(
     }
     match e {
         Expr::Leaf(leaf) => leaf_copy(leaf, world, run),
-        Expr::Numeric(n) => Ok(Value::Num(numeric(context, depth, n, world, run)?)),
+        Expr::Numeric(n) => Ok(Value::Num(numeric(layer, n, world, run)?)),
         Expr::Choice(c, a, b) => {
-            let holds = holds(context, depth, c, world, run)?;
+            let holds = holds(layer, c, world, run)?;
             if holds {
-                value(context, depth, a, world, run)
+                value(layer, a, world, run)
             } else {
-                value(context, depth, b, world, run)
+                value(layer, b, world, run)
             }
         }
         Expr::Textual(t) => {
             let mut text = take_buffer(run.alloc, &mut run.spare);
-            textual(context, depth, t, &mut text, world, run)?;
+            textual(layer, t, &mut text, world, run)?;
             Ok(Value::Text(text))
         }
-        Expr::Call(f, arguments) => invoke(context, depth, *f, arguments, world, run),
+        Expr::Call(f, arguments) => invoke(layer, *f, arguments, world, run),
         e => {
-            let (held, bytes) = eval_apart(context, depth, e, world, run)?;
+            let (held, bytes) = eval_apart(layer, e, world, run)?;
             Ok(value_with(&mut run.spare, held, bytes))
         }
     }
@@ -446,18 +428,17 @@ pub(crate) fn value<W: World>(
 /// Stores the value of an expression in a buffer of its own.
 #[cycle(evaluate)]
 pub(crate) fn eval_apart<W: World>(
-    context: Context<'_>,
-    depth: u64,
+    layer: Layer<'_>,
     e: &Expr,
     world: &mut W,
     run: &mut Run<'_>,
 ) -> Result<(Held, Vec<u8>), Halt>
     ensures left { run.new.left ≤ run.old.left }
     ensures outcome { Yields (λ r. held_value r.0 r.1.items)
-        (eval W.calls (eres_of context.entry) (enter_of W.calls context.entry depth) (view e.now)
+        (eval W.calls (eres_in layer.entry) (enter_in W.calls layer.entry) (view e.now)
         (moment (W.state world.old) run.old)) result (moment (W.state world.new) run.new) }
 {
     let mut bytes = take_buffer(run.alloc, &mut run.spare);
-    let held = eval(context, depth, e, &mut bytes, world, run)?;
+    let held = eval(layer, e, &mut bytes, world, run)?;
     Ok((held, bytes))
 }

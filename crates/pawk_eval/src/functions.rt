@@ -11,10 +11,10 @@ ghost use Rattle.pawk_semantics.specs.Parts.{bind, give};
 ghost use Rattle.pawk_semantics.specs.Meaning.{arguments_of, execs, value_of_way};
 ghost use Rattle.pawk_runtime.specs.Moments.{holds_of, moment};
 ghost use Rattle.pawk_runtime.specs.Yields.{Yields};
-ghost use Rattle.pawk_eval.specs.Contexts.{enter_of, eres_of};
+ghost use Rattle.pawk_eval.specs.Contexts.{enter_in, eres_in};
 
-use crate::context::Context;
 use crate::expressions::value;
+use crate::layer::Layer;
 use crate::statements::execute;
 use pawk_code::expression::Argument;
 use pawk_code::statement::{Leave, Statement};
@@ -30,22 +30,21 @@ use std::mem;
 #[cycle(evaluate)]
 #[inline(always)]
 pub(crate) fn pass<W: World>(
-    context: Context<'_>,
-    depth: u64,
+    layer: Layer<'_>,
     arguments: &[Argument],
     world: &mut W,
     run: &mut Run<'_>,
 ) -> Result<Vec<Parameter>, Halt>
     ensures left { run.new.left ≤ run.old.left }
     ensures outcome { Yields (λ values. holds_of values.items)
-        (arguments_of W.calls (eres_of context.entry) (enter_of W.calls context.entry depth)
+        (arguments_of W.calls (eres_in layer.entry) (enter_in W.calls layer.entry)
         (codes.arguments (argument_views arguments.now)) []
         (moment (W.state world.old) run.old)) result (moment (W.state world.new) run.new) }
 {
     let mut values = take_frame(run.alloc, &mut run.frames);
     for argument in arguments {
         let value = match argument {
-            Argument::Value(e) => Parameter::Value(value(context, depth, e, world, run)?),
+            Argument::Value(e) => Parameter::Value(value(layer, e, world, run)?),
             Argument::Array(array) => array_parameter(table_of(&run.frame, *array)),
         };
         values.push(value)?;
@@ -53,16 +52,15 @@ pub(crate) fn pass<W: World>(
     Ok(values)
 }
 
-/// Calls a function, where `depth` more calls may be nested: its value.
+/// Calls a function: its value.
 ///
-/// Fault `depth` where none may.
+/// Fault `depth` where no call may be nested any more.
 ///
 /// POSIX.1-2017, awk, "User-Defined Functions".
 #[cycle(evaluate)]
 #[inline(always)]
 pub(crate) fn call<W: World>(
-    context: Context<'_>,
-    depth: u64,
+    layer: Layer<'_>,
     f: usize,
     arguments: Vec<Parameter>,
     world: &mut W,
@@ -70,20 +68,24 @@ pub(crate) fn call<W: World>(
 ) -> Result<Value, Halt>
     ensures left { run.new.left ≤ run.old.left }
     ensures outcome { Yields shown
-        (enter_of W.calls context.entry depth f (holds_of arguments.items)
+        (enter_in W.calls layer.entry f (holds_of arguments.items)
         (moment (W.state world.old) run.old)) result (moment (W.state world.new) run.new) }
 {
     tick(world, run)?;
-    if depth == 0 {
+    if layer.depth == 0 {
         return Err(Halt::Fault(Fault::Depth));
     }
-    match context.function(f) {
+    match layer.context.function(f) {
         None => Ok(Value::Uninit),
         Some(function) => {
             let open = run.arrays.len();
             let fresh = parameters(run.alloc, arguments, &function.kinds, &mut run.arrays)?;
             let saved = mem::replace(&mut run.frame, fresh);
-            let value = body_value(context, depth - 1, &function.body, world, run)?;
+            let inner = Layer {
+                context: layer.context,
+                depth: layer.depth - 1,
+            };
+            let value = body_value(inner, &function.body, world, run)?;
             let frame = mem::replace(&mut run.frame, saved);
             give_back_frame(&mut run.spare, &mut run.frames, frame);
             close_arrays(&mut run.arrays, open);
@@ -98,22 +100,21 @@ pub(crate) fn call<W: World>(
 #[cycle(evaluate)]
 #[inline(always)]
 pub(crate) fn body_value<W: World>(
-    context: Context<'_>,
-    depth: u64,
+    layer: Layer<'_>,
     body: &[Statement],
     world: &mut W,
     run: &mut Run<'_>,
 ) -> Result<Value, Halt>
     ensures left { run.new.left ≤ run.old.left }
     ensures outcome { Yields shown
-        (bind (execs W.calls (eres_of context.entry) (enter_of W.calls context.entry depth)
+        (bind (execs W.calls (eres_in layer.entry) (enter_in W.calls layer.entry)
         (seen body.now)) (λ way. give (value_of_way way))
         (moment (W.state world.old) run.old)) result (moment (W.state world.new) run.new) }
 {
     if let [Statement::Leave(Leave::Return(Some(e)))] = body {
         tick(world, run)?;
-        return value(context, depth, e, world, run);
+        return value(layer, e, world, run);
     }
-    let flow = execute(context, depth, body, world, run)?;
+    let flow = execute(layer, body, world, run)?;
     Ok(flow.value())
 }

@@ -7,13 +7,13 @@ ghost use Rattle.pawk_code.specs.StatementViews.{seen};
 ghost use Rattle.pawk_semantics.specs.Meaning.{act_or_none, execs, for_keys, test_or_true, while_loop};
 ghost use Rattle.pawk_runtime.specs.Moments.{moment};
 ghost use Rattle.pawk_runtime.specs.Yields.{Yields};
-ghost use Rattle.pawk_eval.specs.Contexts.{enter_of, eres_of, last_view};
+ghost use Rattle.pawk_eval.specs.Contexts.{enter_in, eres_in, last_view};
 ghost use Rattle.pawk_eval.specs.Contexts as contexts;
 ghost use Rattle.pawk_eval.specs.Flows.{way_of};
 
-use crate::context::Context;
 use crate::expressions::truth;
 use crate::flow::Flow;
+use crate::layer::Layer;
 use crate::statements::{execute, perform};
 use pawk_code::expression::Expr;
 use pawk_code::name::{Array, Variable};
@@ -27,8 +27,7 @@ use pawk_world::{Halt, World};
 /// POSIX.1-2017, awk, "Actions" (`while`, `for`).
 #[cycle(evaluate)]
 pub(crate) fn turns<W: World>(
-    context: Context<'_>,
-    depth: u64,
+    layer: Layer<'_>,
     test: Option<&Expr>,
     last: Option<&Simple>,
     body: &[Statement],
@@ -38,11 +37,11 @@ pub(crate) fn turns<W: World>(
     ensures left { run.new.left ≤ run.old.left }
     ensures outcome { Yields way_of
         (while_loop
-        (test_or_true W.calls (eres_of context.entry) (enter_of W.calls context.entry depth)
+        (test_or_true W.calls (eres_in layer.entry) (enter_in W.calls layer.entry)
         (contexts.test_view test.entry))
-        (execs W.calls (eres_of context.entry) (enter_of W.calls context.entry depth)
+        (execs W.calls (eres_in layer.entry) (enter_in W.calls layer.entry)
         (seen body.now))
-        (act_or_none W.calls (eres_of context.entry) (enter_of W.calls context.entry depth)
+        (act_or_none W.calls (eres_in layer.entry) (enter_in W.calls layer.entry)
         (last_view last.entry))
         (moment (W.state world.old) run.old)) result (moment (W.state world.new) run.new) }
 {
@@ -50,18 +49,18 @@ pub(crate) fn turns<W: World>(
         tick(world, run)?;
         let truth = match test {
             None => Ok(true),
-            Some(e) => truth(context, depth, e, world, run)?,
+            Some(e) => truth(layer, e, world, run)?,
         };
         let holds = truth?;
         if !holds {
             return Ok(Flow::On);
         }
-        let flow = execute(context, depth, body, world, run)?;
+        let flow = execute(layer, body, world, run)?;
         if let Some(end) = flow.loop_end() {
             return Ok(end);
         }
         if let Some(last) = last {
-            perform(context, depth, last, world, run)?;
+            perform(layer, last, world, run)?;
         }
     }
 }
@@ -71,8 +70,7 @@ pub(crate) fn turns<W: World>(
 /// POSIX.1-2017, awk, "Actions" (`for` with `in`).
 #[cycle(evaluate)]
 pub(crate) fn walk<W: World>(
-    context: Context<'_>,
-    depth: u64,
+    layer: Layer<'_>,
     variable: Variable,
     array: Array,
     body: &[Statement],
@@ -82,7 +80,7 @@ pub(crate) fn walk<W: World>(
     ensures left { run.new.left ≤ run.old.left }
     ensures outcome { Yields way_of
         (for_keys W.calls variable array
-        (execs W.calls (eres_of context.entry) (enter_of W.calls context.entry depth)
+        (execs W.calls (eres_in layer.entry) (enter_in W.calls layer.entry)
         (seen body.now))
         (moment (W.state world.old) run.old)) result (moment (W.state world.new) run.new) }
 {
@@ -92,7 +90,7 @@ pub(crate) fn walk<W: World>(
     for i in 0..keys.len() {
         tick(world, run)?;
         set_key(variable, keys.text(i), world, run)?;
-        let flow = execute(context, depth, body, world, run)?;
+        let flow = execute(layer, body, world, run)?;
         if let Some(end) = flow.loop_end() {
             return Ok(end);
         }

@@ -19,11 +19,11 @@ ghost use Rattle.pawk_semantics.specs.Places.{change_at};
 ghost use Rattle.pawk_runtime.specs.Moments.{moment};
 ghost use Rattle.pawk_runtime.specs.Yields.{Yields};
 ghost use Rattle.pawk_eval.specs.Amounts.{amount_of};
-ghost use Rattle.pawk_eval.specs.Contexts.{enter_of, eres_of, replacement_view};
+ghost use Rattle.pawk_eval.specs.Contexts.{enter_in, eres_in, replacement_view};
 
 use crate::amount::{Amount, amount_number};
-use crate::context::Context;
 use crate::expressions::{number, text};
+use crate::layer::Layer;
 use crate::operands::operand;
 use crate::places::place;
 use crate::replacement::Replacement;
@@ -42,34 +42,31 @@ use pawk_world::{Halt, World, op_of};
 #[cycle(evaluate)]
 #[inline(always)]
 pub(crate) fn numeric<W: World>(
-    context: Context<'_>,
-    depth: u64,
+    layer: Layer<'_>,
     n: &Numeric,
     world: &mut W,
     run: &mut Run<'_>,
 ) -> Result<i64, Halt>
     ensures left { run.new.left ≤ run.old.left }
     ensures outcome { Yields (λ number. number)
-        (number_of W.calls (eres_of context.entry) (enter_of W.calls context.entry depth)
+        (number_of W.calls (eres_in layer.entry) (enter_in W.calls layer.entry)
         (numeric_view n.now)
         (moment (W.state world.old) run.old)) result (moment (W.state world.new) run.new) }
 {
     match n {
-        Numeric::Arithmetic(op, a, b) => arithmetic(context, depth, *op, a, b, world, run),
-        Numeric::Sign(sign, a) => {
-            arithmetic_with(context, depth, op_of(*sign), 0, a, world, run)
-        }
+        Numeric::Arithmetic(op, a, b) => arithmetic(layer, *op, a, b, world, run),
+        Numeric::Sign(sign, a) => { arithmetic_with(layer, op_of(*sign), 0, a, world, run) }
         Numeric::Change(op, to, a) => {
-            let numbers = change(context, depth, *op, to, Amount::Of(a), world, run)?;
+            let numbers = change(layer, *op, to, Amount::Of(a), world, run)?;
             Ok(numbers.1)
         }
         Numeric::Step(step, to) => {
             let op = op_of(step_sign(*step));
-            let numbers = change(context, depth, op, to, Amount::One, world, run)?;
+            let numbers = change(layer, op, to, Amount::One, world, run)?;
             Ok(step_side(*step, numbers.0, numbers.1))
         }
-        Numeric::Function(f) => function(context, depth, f, world, run),
-        Numeric::Split(e, array, by) => split(context, depth, e, *array, by, world, run),
+        Numeric::Function(f) => function(layer, f, world, run),
+        Numeric::Split(e, array, by) => split(layer, e, *array, by, world, run),
         Numeric::Replace(count, pattern, e, to) => {
             let parts = Replacement {
                 count: *count,
@@ -77,17 +74,16 @@ pub(crate) fn numeric<W: World>(
                 text: e,
                 place: to,
             };
-            replace(context, depth, parts, world, run)
+            replace(layer, parts, world, run)
         }
-        Numeric::Find(e, pattern) => find(context, depth, e, pattern, world, run),
+        Numeric::Find(e, pattern) => find(layer, e, pattern, world, run),
     }
 }
 
 /// The result of an operation. The number of a leaf is not stored.
 #[cycle(evaluate)]
 pub(crate) fn arithmetic<W: World>(
-    context: Context<'_>,
-    depth: u64,
+    layer: Layer<'_>,
     op: Op,
     a: &Expr,
     b: &Expr,
@@ -96,7 +92,7 @@ pub(crate) fn arithmetic<W: World>(
 ) -> Result<i64, Halt>
     ensures left { run.new.left ≤ run.old.left }
     ensures outcome { Yields (λ number. number)
-        (number_of W.calls (eres_of context.entry) (enter_of W.calls context.entry depth)
+        (number_of W.calls (eres_in layer.entry) (enter_in W.calls layer.entry)
         (codes.arithmetic op (view a.now) (view b.now))
         (moment (W.state world.old) run.old)) result (moment (W.state world.new) run.new) }
 {
@@ -104,25 +100,24 @@ pub(crate) fn arithmetic<W: World>(
         if let Some(y) = quick_number(b, LEVELS, world, run) {
             return Ok(result_of(op, x, y)?);
         }
-        return arithmetic_with(context, depth, op, x, b, world, run);
+        return arithmetic_with(layer, op, x, b, world, run);
     }
     if let Expr::Numeric(n) = a {
-        let x = numeric(context, depth, n, world, run)?;
-        return arithmetic_with(context, depth, op, x, b, world, run);
+        let x = numeric(layer, n, world, run)?;
+        return arithmetic_with(layer, op, x, b, world, run);
     }
-    let number_a = number(context, depth, a, world, run)?;
+    let number_a = number(layer, a, world, run)?;
     if let Ok(x) = number_a {
-        return arithmetic_with(context, depth, op, x, b, world, run);
+        return arithmetic_with(layer, op, x, b, world, run);
     }
-    let number_b = number(context, depth, b, world, run)?;
+    let number_b = number(layer, b, world, run)?;
     Ok(combine(op, number_a, number_b)?)
 }
 
 /// The result of an operation on a number and that of an expression.
 #[cycle(evaluate)]
 pub(crate) fn arithmetic_with<W: World>(
-    context: Context<'_>,
-    depth: u64,
+    layer: Layer<'_>,
     op: Op,
     x: i64,
     b: &Expr,
@@ -131,8 +126,8 @@ pub(crate) fn arithmetic_with<W: World>(
 ) -> Result<i64, Halt>
     ensures left { run.new.left ≤ run.old.left }
     ensures outcome { Yields (λ number. number)
-        (bind (as_number (eval W.calls (eres_of context.entry)
-        (enter_of W.calls context.entry depth) (view b.now)))
+        (bind (as_number (eval W.calls (eres_in layer.entry)
+        (enter_in W.calls layer.entry) (view b.now)))
         (λ y. settle (arith_by op (Ok x) y))
         (moment (W.state world.old) run.old)) result (moment (W.state world.new) run.new) }
 {
@@ -140,10 +135,10 @@ pub(crate) fn arithmetic_with<W: World>(
         return arithmetic_after(op, x, y, world, run);
     }
     if let Expr::Numeric(n) = b {
-        let y = numeric(context, depth, n, world, run)?;
+        let y = numeric(layer, n, world, run)?;
         return Ok(result_of(op, x, y)?);
     }
-    let y = number(context, depth, b, world, run)?;
+    let y = number(layer, b, world, run)?;
     Ok(combine(op, Ok(x), y)?)
 }
 
@@ -152,8 +147,7 @@ pub(crate) fn arithmetic_with<W: World>(
 /// POSIX.1-2017, awk, "Expressions in awk" (assignment, increment and decrement).
 #[cycle(evaluate)]
 pub(crate) fn change<W: World>(
-    context: Context<'_>,
-    depth: u64,
+    layer: Layer<'_>,
     op: Op,
     to: &Lvalue,
     amount: Amount<'_>,
@@ -162,14 +156,14 @@ pub(crate) fn change<W: World>(
 ) -> Result<(i64, i64), Halt>
     ensures left { run.new.left ≤ run.old.left }
     ensures outcome { Yields (λ numbers. numbers)
-        (bind (aim_of W.calls (eres_of context.entry) (enter_of W.calls context.entry depth)
+        (bind (aim_of W.calls (eres_in layer.entry) (enter_in W.calls layer.entry)
         (place_view to.now)) (λ aim. bind
-        (amount_of W.calls (eres_of context.entry) (enter_of W.calls context.entry depth)
+        (amount_of W.calls (eres_in layer.entry) (enter_in W.calls layer.entry)
         amount.entry) (change_at W.calls op aim))
         (moment (W.state world.old) run.old)) result (moment (W.state world.new) run.new) }
 {
-    let target = place(context, depth, to, world, run)?;
-    let y = amount_number(context, depth, amount, world, run)?;
+    let target = place(layer, to, world, run)?;
+    let y = amount_number(layer, amount, world, run)?;
     let numbers = change_place(op, &target, y, world, run)?;
     give_back_target(&mut run.spare, target);
     Ok(numbers)
@@ -181,15 +175,14 @@ pub(crate) fn change<W: World>(
 /// POSIX.1-2017, awk, "Arithmetic Functions" and "String Functions".
 #[cycle(evaluate)]
 pub(crate) fn function<W: World>(
-    context: Context<'_>,
-    depth: u64,
+    layer: Layer<'_>,
     f: &NumericFunction,
     world: &mut W,
     run: &mut Run<'_>,
 ) -> Result<i64, Halt>
     ensures left { run.new.left ≤ run.old.left }
     ensures outcome { Yields (λ number. number)
-        (function_of W.calls (eres_of context.entry) (enter_of W.calls context.entry depth)
+        (function_of W.calls (eres_in layer.entry) (enter_in W.calls layer.entry)
         (function_view f.now)
         (moment (W.state world.old) run.old)) result (moment (W.state world.new) run.new) }
 {
@@ -198,21 +191,21 @@ pub(crate) fn function<W: World>(
     }
     match f {
         NumericFunction::Length(e) => {
-            let text = text(context, depth, e, world, run)?;
+            let text = text(layer, e, world, run)?;
             let length = text.len() as i64;
             give_back(&mut run.spare, text);
             Ok(length)
         }
         NumericFunction::Index(e, sought) => {
-            let text_e = text(context, depth, e, world, run)?;
-            let text_sought = text(context, depth, sought, world, run)?;
+            let text_e = text(layer, e, world, run)?;
+            let text_sought = text(layer, sought, world, run)?;
             let place = place_in(&text_e, &text_sought);
             give_back(&mut run.spare, text_e);
             give_back(&mut run.spare, text_sought);
             Ok(place)
         }
         NumericFunction::Whole(e) => {
-            let whole = number(context, depth, e, world, run)?;
+            let whole = number(layer, e, world, run)?;
             Ok(whole?)
         }
     }
@@ -223,8 +216,7 @@ pub(crate) fn function<W: World>(
 /// POSIX.1-2017, awk, "String Functions" (`split`).
 #[cycle(evaluate)]
 pub(crate) fn split<W: World>(
-    context: Context<'_>,
-    depth: u64,
+    layer: Layer<'_>,
     e: &Expr,
     array: Array,
     by: &FieldsBy,
@@ -233,18 +225,18 @@ pub(crate) fn split<W: World>(
 ) -> Result<i64, Halt>
     ensures left { run.new.left ≤ run.old.left }
     ensures outcome { Yields (λ count. count)
-        (number_of W.calls (eres_of context.entry) (enter_of W.calls context.entry depth)
+        (number_of W.calls (eres_in layer.entry) (enter_in W.calls layer.entry)
         (codes.split (view e.now) array (fields_view by.now))
         (moment (W.state world.old) run.old)) result (moment (W.state world.new) run.new) }
 {
-    let subject = text(context, depth, e, world, run)?;
+    let subject = text(layer, e, world, run)?;
     let separator = match by {
         FieldsBy::Fs | FieldsBy::Fixed(_) => Vec::new(run.alloc),
-        FieldsBy::Value(e) => text(context, depth, e, world, run)?,
+        FieldsBy::Value(e) => text(layer, e, world, run)?,
     };
     let table = table_of(&run.frame, array);
     let by = SplitSeparator {
-        eres: context.code.expressions.as_slice(),
+        eres: layer.context.code.expressions.as_slice(),
         by,
         text: &separator,
     };
@@ -259,23 +251,22 @@ pub(crate) fn split<W: World>(
 /// POSIX.1-2017, awk, "String Functions" (`sub`, `gsub`).
 #[cycle(evaluate)]
 pub(crate) fn replace<W: World>(
-    context: Context<'_>,
-    depth: u64,
+    layer: Layer<'_>,
     parts: Replacement<'_>,
     world: &mut W,
     run: &mut Run<'_>,
 ) -> Result<i64, Halt>
     ensures left { run.new.left ≤ run.old.left }
     ensures outcome { Yields (λ count. count)
-        (number_of W.calls (eres_of context.entry) (enter_of W.calls context.entry depth)
+        (number_of W.calls (eres_in layer.entry) (enter_in W.calls layer.entry)
         (replacement_view parts.entry)
         (moment (W.state world.old) run.old)) result (moment (W.state world.new) run.new) }
 {
-    let ere = operand(context, depth, parts.pattern, world, run)?;
-    let replacement = text(context, depth, parts.text, world, run)?;
-    let target = place(context, depth, parts.place, world, run)?;
+    let ere = operand(layer, parts.pattern, world, run)?;
+    let replacement = text(layer, parts.text, world, run)?;
+    let target = place(layer, parts.place, world, run)?;
     let expression = EreReference {
-        eres: context.code.expressions.as_slice(),
+        eres: layer.context.code.expressions.as_slice(),
         pattern: parts.pattern,
         text: &ere,
     };
@@ -291,8 +282,7 @@ pub(crate) fn replace<W: World>(
 /// POSIX.1-2017, awk, "String Functions" (`match`).
 #[cycle(evaluate)]
 pub(crate) fn find<W: World>(
-    context: Context<'_>,
-    depth: u64,
+    layer: Layer<'_>,
     e: &Expr,
     pattern: &Pattern,
     world: &mut W,
@@ -300,16 +290,16 @@ pub(crate) fn find<W: World>(
 ) -> Result<i64, Halt>
     ensures left { run.new.left ≤ run.old.left }
     ensures outcome { Yields (λ begin. begin)
-        (number_of W.calls (eres_of context.entry) (enter_of W.calls context.entry depth)
+        (number_of W.calls (eres_in layer.entry) (enter_in W.calls layer.entry)
         (codes.find (view e.now) (pattern_view pattern.now))
         (moment (W.state world.old) run.old)) result (moment (W.state world.new) run.new) }
 {
-    let eres = context.code.expressions.as_slice();
+    let eres = layer.context.code.expressions.as_slice();
     if let Some(answer) = leaf_find(eres, e, pattern, world, run) {
         return answer;
     }
-    let text = text(context, depth, e, world, run)?;
-    let ere = operand(context, depth, pattern, world, run)?;
+    let text = text(layer, e, world, run)?;
+    let ere = operand(layer, pattern, world, run)?;
     let expression = EreReference {
         eres,
         pattern,

@@ -6,10 +6,10 @@ ghost use Rattle.pawk_code.specs.ExpressionViews.{pattern_view, views};
 ghost use Rattle.pawk_semantics.specs.Meaning.{operand_of, texts_of, values_of};
 ghost use Rattle.pawk_runtime.specs.Moments.{moment};
 ghost use Rattle.pawk_runtime.specs.Yields.{Yields};
-ghost use Rattle.pawk_eval.specs.Contexts.{enter_of, eres_of};
+ghost use Rattle.pawk_eval.specs.Contexts.{enter_in, eres_in};
 
-use crate::context::Context;
 use crate::expressions::{eval, text, text_into};
+use crate::layer::Layer;
 use pawk_array::Texts;
 use pawk_builtins::Values;
 use pawk_code::expression::{Expr, Pattern};
@@ -19,8 +19,7 @@ use pawk_world::{Halt, World};
 /// Appends the text of each expression, which is made in `scratch`.
 #[cycle(evaluate)]
 pub(crate) fn texts<W: World>(
-    context: Context<'_>,
-    depth: u64,
+    layer: Layer<'_>,
     es: &[Expr],
     parts: &mut Texts,
     scratch: &mut Vec<u8>,
@@ -29,13 +28,13 @@ pub(crate) fn texts<W: World>(
 ) -> Result<(), Halt>
     ensures left { run.new.left ≤ run.old.left }
     ensures outcome { Yields (λ _. parts.new)
-        (texts_of W.calls (eres_of context.entry) (enter_of W.calls context.entry depth)
+        (texts_of W.calls (eres_in layer.entry) (enter_in W.calls layer.entry)
         (exprs (views es.now)) parts.old
         (moment (W.state world.old) run.old)) result (moment (W.state world.new) run.new) }
 {
     for e in es {
         scratch.clear();
-        text_into(context, depth, e, scratch, world, run)?;
+        text_into(layer, e, scratch, world, run)?;
         parts.push(scratch.as_slice())?;
     }
     Ok(())
@@ -44,8 +43,7 @@ pub(crate) fn texts<W: World>(
 /// Appends the value of each expression, whose bytes are made in `scratch`.
 #[cycle(evaluate)]
 pub(crate) fn values<W: World>(
-    context: Context<'_>,
-    depth: u64,
+    layer: Layer<'_>,
     es: &[Expr],
     parts: &mut Values,
     scratch: &mut Vec<u8>,
@@ -54,13 +52,13 @@ pub(crate) fn values<W: World>(
 ) -> Result<(), Halt>
     ensures left { run.new.left ≤ run.old.left }
     ensures outcome { Yields (λ _. parts.new)
-        (values_of W.calls (eres_of context.entry) (enter_of W.calls context.entry depth)
+        (values_of W.calls (eres_in layer.entry) (enter_in W.calls layer.entry)
         (exprs (views es.now)) parts.old
         (moment (W.state world.old) run.old)) result (moment (W.state world.new) run.new) }
 {
     for e in es {
         scratch.clear();
-        let held = eval(context, depth, e, scratch, world, run)?;
+        let held = eval(layer, e, scratch, world, run)?;
         parts.push(held, scratch.as_slice())?;
     }
     Ok(())
@@ -69,20 +67,19 @@ pub(crate) fn values<W: World>(
 /// The text of a pattern, where it is a value.
 #[cycle(evaluate)]
 pub(crate) fn operand<W: World>(
-    context: Context<'_>,
-    depth: u64,
+    layer: Layer<'_>,
     pattern: &Pattern,
     world: &mut W,
     run: &mut Run<'_>,
 ) -> Result<Vec<u8>, Halt>
     ensures left { run.new.left ≤ run.old.left }
     ensures outcome { Yields (λ text. text.items)
-        (operand_of W.calls (eres_of context.entry) (enter_of W.calls context.entry depth)
+        (operand_of W.calls (eres_in layer.entry) (enter_in W.calls layer.entry)
         (pattern_view pattern.now)
         (moment (W.state world.old) run.old)) result (moment (W.state world.new) run.new) }
 {
     match pattern {
         Pattern::Fixed(_) => Ok(Vec::new(run.alloc)),
-        Pattern::Value(e) => text(context, depth, e, world, run),
+        Pattern::Value(e) => text(layer, e, world, run),
     }
 }

@@ -2,36 +2,48 @@
 //!
 //! POSIX.1-2017, awk, "Variables and Special Variables".
 
-ghost use Rattle.std.specs.Prelude.{◌≤◌};
-ghost use Rattle.pawk_code.specs.Expressions.{exprs};
+ghost use Rattle.std.specs.Prelude.{◌≡◌, ◌≤◌, IfSome};
+ghost use Rattle.pawk_code.specs.Expressions.{exprs, to_element};
 ghost use Rattle.pawk_code.specs.ExpressionViews.{place_view, views};
 ghost use Rattle.pawk_semantics.specs.Meaning.{aim_of, subscripts};
 ghost use Rattle.pawk_runtime.specs.Moments.{aim_view, moment};
 ghost use Rattle.pawk_runtime.specs.Yields.{Yields};
-ghost use Rattle.pawk_eval.specs.Contexts.{enter_of, eres_of};
+ghost use Rattle.pawk_eval.specs.Contexts.{enter_in, eres_in};
 
-use crate::context::Context;
 use crate::expressions::{number, text};
+use crate::layer::Layer;
 use crate::operands::texts;
 use pawk_array::Texts;
 use pawk_builtins::field_index;
 use pawk_code::expression::{Expr, Lvalue};
+use pawk_code::name::Array;
 use pawk_runtime::{Run, Target, element_target, key_of_texts, table_of};
 use pawk_world::{Halt, World};
+
+/// The array and the subscripts of a place that is an element.
+#[inline(always)]
+pub(crate) fn element_parts(place: &Lvalue) -> Option<(Array, &[Expr])>
+    ensures { IfSome result (λ parts. place_view place.now
+        ≡ to_element parts.0 (exprs (views parts.1.now))) }
+{
+    match place {
+        Lvalue::Element(array, keys) => Some((*array, keys.as_slice())),
+        _ => None,
+    }
+}
 
 /// Where a place is.
 #[cycle(evaluate)]
 #[inline(always)]
 pub(crate) fn place<W: World>(
-    context: Context<'_>,
-    depth: u64,
+    layer: Layer<'_>,
     p: &Lvalue,
     world: &mut W,
     run: &mut Run<'_>,
 ) -> Result<Target, Halt>
     ensures left { run.new.left ≤ run.old.left }
     ensures outcome { Yields aim_view
-        (aim_of W.calls (eres_of context.entry) (enter_of W.calls context.entry depth)
+        (aim_of W.calls (eres_in layer.entry) (enter_in W.calls layer.entry)
         (place_view p.now)
         (moment (W.state world.old) run.old)) result (moment (W.state world.new) run.new) }
 {
@@ -39,11 +51,11 @@ pub(crate) fn place<W: World>(
         Lvalue::Global(slot) => Ok(Target::Scalar(*slot)),
         Lvalue::Local(number) => Ok(Target::Parameter(*number)),
         Lvalue::Element(array, keys) => {
-            let key = key(context, depth, keys, world, run)?;
+            let key = key(layer, keys, world, run)?;
             Ok(element_target(table_of(&run.frame, *array), key))
         }
         Lvalue::Field(e) => {
-            let index = number(context, depth, e, world, run)?;
+            let index = number(layer, e, world, run)?;
             Ok(Target::Field(field_index(index)?))
         }
     }
@@ -55,23 +67,22 @@ pub(crate) fn place<W: World>(
 #[cycle(evaluate)]
 #[inline(always)]
 pub(crate) fn key<W: World>(
-    context: Context<'_>,
-    depth: u64,
+    layer: Layer<'_>,
     keys: &[Expr],
     world: &mut W,
     run: &mut Run<'_>,
 ) -> Result<Vec<u8>, Halt>
     ensures left { run.new.left ≤ run.old.left }
     ensures outcome { Yields (λ key. key.items)
-        (subscripts W.calls (eres_of context.entry) (enter_of W.calls context.entry depth)
+        (subscripts W.calls (eres_in layer.entry) (enter_in W.calls layer.entry)
         (exprs (views keys.now))
         (moment (W.state world.old) run.old)) result (moment (W.state world.new) run.new) }
 {
     if let [only] = keys {
-        return text(context, depth, only, world, run);
+        return text(layer, only, world, run);
     }
     let mut parts = Texts::new(run.alloc);
     let mut scratch = Vec::new(run.alloc);
-    texts(context, depth, keys, &mut parts, &mut scratch, world, run)?;
+    texts(layer, keys, &mut parts, &mut scratch, world, run)?;
     key_of_texts(&parts, world, run)
 }

@@ -21,14 +21,14 @@ ghost use Rattle.pawk_semantics.specs.Meaning.{
 ghost use Rattle.pawk_semantics.specs.Meaning as spec;
 ghost use Rattle.pawk_runtime.specs.Moments.{moment};
 ghost use Rattle.pawk_runtime.specs.Yields.{Yields};
-ghost use Rattle.pawk_eval.specs.Contexts.{enter_of, eres_of};
+ghost use Rattle.pawk_eval.specs.Contexts.{enter_in, eres_in};
 ghost use Rattle.pawk_eval.specs.Flows.{way_of};
 
 use crate::amount::Amount;
 use crate::assignments::{add, set};
-use crate::context::Context;
 use crate::expressions::{eval_apart, number, text, truth, value};
 use crate::flow::Flow;
+use crate::layer::Layer;
 use crate::loops::{turns, walk};
 use crate::operands::texts;
 use crate::places::key;
@@ -45,8 +45,7 @@ use pawk_runtime::{
 use pawk_value::Value;
 use pawk_world::{Halt, World};
 
-/// Runs statements in turn, a step of the budget at the begin of each, where `depth` calls may be
-/// nested, and says how they leave.
+/// Runs statements in turn, a step of the budget at the begin of each, and says how they leave.
 ///
 /// It halts with a fault of what is evaluated, with `depth` or `steps` where no call or no step is
 /// left, with `next`, `nextfile` and `exit`, where the world refuses, and where memory is refused.
@@ -54,25 +53,24 @@ use pawk_world::{Halt, World};
 /// POSIX.1-2017, awk, "Actions".
 #[cycle(evaluate)]
 pub fn execute<W: World>(
-    context: Context<'_>,
-    depth: u64,
+    layer: Layer<'_>,
     body: &[Statement],
     world: &mut W,
     run: &mut Run<'_>,
 ) -> Result<Flow, Halt>
     ensures left { run.new.left ≤ run.old.left }
     ensures outcome { Yields way_of
-        (execs W.calls (eres_of context.entry) (enter_of W.calls context.entry depth)
+        (execs W.calls (eres_in layer.entry) (enter_in W.calls layer.entry)
         (seen body.now)
         (moment (W.state world.old) run.old)) result (moment (W.state world.new) run.new) }
 {
     for s in body {
         tick(world, run)?;
         if let Statement::Simple(simple) = s {
-            perform(context, depth, simple, world, run)?;
+            perform(layer, simple, world, run)?;
             continue;
         }
-        match statement(context, depth, s, world, run)? {
+        match statement(layer, s, world, run)? {
             Flow::On => {}
             flow => return Ok(flow),
         }
@@ -83,19 +81,18 @@ pub fn execute<W: World>(
 /// Runs statements in turn, whatever way they leave.
 #[inline(always)]
 fn run_rest<W: World>(
-    context: Context<'_>,
-    depth: u64,
+    layer: Layer<'_>,
     body: &[Statement],
     world: &mut W,
     run: &mut Run<'_>,
 ) -> Result<(), Halt>
     ensures left { run.new.left ≤ run.old.left }
     ensures outcome { Yields (λ _. tt)
-        (bind (execs W.calls (eres_of context.entry) (enter_of W.calls context.entry depth)
+        (bind (execs W.calls (eres_in layer.entry) (enter_in W.calls layer.entry)
         (seen body.now)) (λ _. give (tt {0}))
         (moment (W.state world.old) run.old)) result (moment (W.state world.new) run.new) }
 {
-    let _flow = execute(context, depth, body, world, run)?;
+    let _flow = execute(layer, body, world, run)?;
     Ok(())
 }
 
@@ -104,25 +101,24 @@ fn run_rest<W: World>(
 ///
 /// POSIX.1-2017, awk, "Actions".
 pub fn run_body<W: World>(
-    context: Context<'_>,
-    depth: u64,
+    layer: Layer<'_>,
     body: &[Statement],
     world: &mut W,
     run: &mut Run<'_>,
 ) -> Result<(), Halt>
     ensures left { run.new.left ≤ run.old.left }
     ensures outcome { Yields (λ _. tt)
-        (bind (execs W.calls (eres_of context.entry) (enter_of W.calls context.entry depth)
+        (bind (execs W.calls (eres_in layer.entry) (enter_in W.calls layer.entry)
         (seen body.now)) (λ _. give (tt {0}))
         (moment (W.state world.old) run.old)) result (moment (W.state world.new) run.new) }
 {
     let mut next = 0;
     while next < body.len() {
         let Statement::Simple(simple) = &body[next] else {
-            return run_rest(context, depth, &body[next..], world, run);
+            return run_rest(layer, &body[next..], world, run);
         };
         tick(world, run)?;
-        perform(context, depth, simple, world, run)?;
+        perform(layer, simple, world, run)?;
         next += 1;
     }
     Ok(())
@@ -131,21 +127,20 @@ pub fn run_body<W: World>(
 /// Runs a statement, after its step.
 #[cycle(evaluate)]
 pub(crate) fn statement<W: World>(
-    context: Context<'_>,
-    depth: u64,
+    layer: Layer<'_>,
     s: &Statement,
     world: &mut W,
     run: &mut Run<'_>,
 ) -> Result<Flow, Halt>
     ensures left { run.new.left ≤ run.old.left }
     ensures outcome { Yields way_of
-        (exec W.calls (eres_of context.entry) (enter_of W.calls context.entry depth)
+        (exec W.calls (eres_in layer.entry) (enter_in W.calls layer.entry)
         (stmt_view s.now)
         (moment (W.state world.old) run.old)) result (moment (W.state world.new) run.new) }
 {
     match s {
         Statement::Simple(simple) => {
-            perform(context, depth, simple, world, run)?;
+            perform(layer, simple, world, run)?;
             Ok(Flow::On)
         }
         Statement::Leave(Leave::Break) => Ok(Flow::Break),
@@ -154,32 +149,32 @@ pub(crate) fn statement<W: World>(
         Statement::Leave(Leave::NextFile) => Err(Halt::NextFile),
         Statement::Leave(Leave::Exit(None)) => Err(Halt::Exit(run.state.status)),
         Statement::Leave(Leave::Exit(Some(e))) => {
-            let status = number(context, depth, e, world, run)?;
+            let status = number(layer, e, world, run)?;
             Err(Halt::Exit(exit_status(status)?))
         }
         Statement::Leave(Leave::Return(None)) => Ok(Flow::Return(Value::Uninit)),
         Statement::Leave(Leave::Return(Some(e))) => {
-            Ok(Flow::Return(value(context, depth, e, world, run)?))
+            Ok(Flow::Return(value(layer, e, world, run)?))
         }
-        Statement::If(test, body) => choose(context, depth, test, body, &[], world, run),
-        Statement::Choose(test, a, b) => choose(context, depth, test, a, b, world, run),
-        Statement::While(test, body) => turns(context, depth, Some(test), None, body, world, run),
+        Statement::If(test, body) => choose(layer, test, body, &[], world, run),
+        Statement::Choose(test, a, b) => choose(layer, test, a, b, world, run),
+        Statement::While(test, body) => turns(layer, Some(test), None, body, world, run),
         Statement::Do(body, test) => {
-            let flow = execute(context, depth, body, world, run)?;
+            let flow = execute(layer, body, world, run)?;
             match flow.loop_end() {
                 Some(end) => Ok(end),
-                None => turns(context, depth, Some(test), None, body, world, run),
+                None => turns(layer, Some(test), None, body, world, run),
             }
         }
         Statement::For(head, body) => {
             if let Some(first) = &head.first {
-                perform(context, depth, first, world, run)?;
+                perform(layer, first, world, run)?;
             }
             let last = head.last.as_ref();
-            turns(context, depth, head.test.as_ref(), last, body, world, run)
+            turns(layer, head.test.as_ref(), last, body, world, run)
         }
         Statement::ForIn(variable, array, body) => {
-            walk(context, depth, *variable, *array, body, world, run)
+            walk(layer, *variable, *array, body, world, run)
         }
     }
 }
@@ -188,37 +183,26 @@ pub(crate) fn statement<W: World>(
 #[cycle(evaluate)]
 #[inline(always)]
 pub(crate) fn perform<W: World>(
-    context: Context<'_>,
-    depth: u64,
+    layer: Layer<'_>,
     s: &Simple,
     world: &mut W,
     run: &mut Run<'_>,
 ) -> Result<(), Halt>
     ensures left { run.new.left ≤ run.old.left }
     ensures outcome { Yields (λ _. tt)
-        (act W.calls (eres_of context.entry) (enter_of W.calls context.entry depth)
+        (act W.calls (eres_in layer.entry) (enter_in W.calls layer.entry)
         (simple_view s.now)
         (moment (W.state world.old) run.old)) result (moment (W.state world.new) run.new) }
 {
     match s {
         Simple::Drop(e) => {
-            let (_, bytes) = eval_apart(context, depth, e, world, run)?;
+            let (_, bytes) = eval_apart(layer, e, world, run)?;
             give_back(&mut run.spare, bytes);
             Ok(())
         }
-        Simple::Set(to, e) => set(context, depth, to, e, world, run),
-        Simple::Add(sign, to, e) => add(context, depth, *sign, to, Amount::Of(e), world, run),
-        Simple::Count(step, to) => {
-            add(
-                context,
-                depth,
-                step_sign(*step),
-                to,
-                Amount::One,
-                world,
-                run,
-            )
-        }
+        Simple::Set(to, e) => set(layer, to, e, world, run),
+        Simple::Add(sign, to, e) => add(layer, *sign, to, Amount::Of(e), world, run),
+        Simple::Count(step, to) => { add(layer, step_sign(*step), to, Amount::One, world, run) }
         Simple::Print(operands) => {
             if are_plain(&operands.values) {
                 let printed = print_plain(&operands.values, world, run)?;
@@ -226,12 +210,10 @@ pub(crate) fn perform<W: World>(
                     return Ok(());
                 }
             }
-            print_values(context, depth, &operands.values, world, run)
+            print_values(layer, &operands.values, world, run)
         }
-        Simple::Printf(format, operands) => {
-            printf(context, depth, format, &operands.values, world, run)
-        }
-        Simple::Delete(array, keys) => delete(context, depth, *array, keys, world, run),
+        Simple::Printf(format, operands) => { printf(layer, format, &operands.values, world, run) }
+        Simple::Delete(array, keys) => delete(layer, *array, keys, world, run),
         Simple::Clear(array) => clear_array(table_of(&run.frame, *array), world, run),
     }
 }
@@ -241,8 +223,7 @@ pub(crate) fn perform<W: World>(
 /// POSIX.1-2017, awk, "Actions" (`delete`).
 #[cycle(evaluate)]
 pub(crate) fn delete<W: World>(
-    context: Context<'_>,
-    depth: u64,
+    layer: Layer<'_>,
     array: Array,
     keys: &[Expr],
     world: &mut W,
@@ -250,11 +231,11 @@ pub(crate) fn delete<W: World>(
 ) -> Result<(), Halt>
     ensures left { run.new.left ≤ run.old.left }
     ensures outcome { Yields (λ _. tt)
-        (act W.calls (eres_of context.entry) (enter_of W.calls context.entry depth)
+        (act W.calls (eres_in layer.entry) (enter_in W.calls layer.entry)
         (actions.delete array (exprs (views keys.now)))
         (moment (W.state world.old) run.old)) result (moment (W.state world.new) run.new) }
 {
-    let key = key(context, depth, keys, world, run)?;
+    let key = key(layer, keys, world, run)?;
     remove_element(table_of(&run.frame, array), &key, world, run)?;
     give_back(&mut run.spare, key);
     Ok(())
@@ -265,27 +246,26 @@ pub(crate) fn delete<W: World>(
 /// POSIX.1-2017, awk, "Output Statements" (`print`).
 #[cycle(evaluate)]
 pub(crate) fn print_values<W: World>(
-    context: Context<'_>,
-    depth: u64,
+    layer: Layer<'_>,
     es: &[Expr],
     world: &mut W,
     run: &mut Run<'_>,
 ) -> Result<(), Halt>
     ensures left { run.new.left ≤ run.old.left }
     ensures outcome { Yields (λ _. tt)
-        (bind (texts_of W.calls (eres_of context.entry) (enter_of W.calls context.entry depth)
+        (bind (texts_of W.calls (eres_in layer.entry) (enter_in W.calls layer.entry)
         (exprs (views es.now)) []) (spec.print_line W.calls)
         (moment (W.state world.old) run.old)) result (moment (W.state world.new) run.new) }
 {
     if let [only] = es {
-        let text = text(context, depth, only, world, run)?;
+        let text = text(layer, only, world, run)?;
         print_alone(&text, world, run)?;
         give_back(&mut run.spare, text);
         return Ok(());
     }
     let mut parts = Texts::new(run.alloc);
     let mut scratch = take_buffer(run.alloc, &mut run.spare);
-    texts(context, depth, es, &mut parts, &mut scratch, world, run)?;
+    texts(layer, es, &mut parts, &mut scratch, world, run)?;
     give_back(&mut run.spare, scratch);
     print_line(&parts, world, run)
 }
@@ -295,8 +275,7 @@ pub(crate) fn print_values<W: World>(
 /// POSIX.1-2017, awk, "Output Statements" (`printf`).
 #[cycle(evaluate)]
 pub(crate) fn printf<W: World>(
-    context: Context<'_>,
-    depth: u64,
+    layer: Layer<'_>,
     format: &Format,
     es: &[Expr],
     world: &mut W,
@@ -305,11 +284,11 @@ pub(crate) fn printf<W: World>(
     ensures left { run.new.left ≤ run.old.left }
     ensures outcome { Yields (λ _. tt)
         (bind (text_of_textual W.calls
-        (eres_of context.entry) (enter_of W.calls context.entry depth)
+        (eres_in layer.entry) (enter_in W.calls layer.entry)
         (codes.formatted (format_view format.now) (exprs (views es.now)))) print_text
         (moment (W.state world.old) run.old)) result (moment (W.state world.new) run.new) }
 {
-    let text = formatted(context, depth, format, es, world, run)?;
+    let text = formatted(layer, format, es, world, run)?;
     print_bytes(&text, world, run)?;
     give_back(&mut run.spare, text);
     Ok(())
@@ -318,8 +297,7 @@ pub(crate) fn printf<W: World>(
 /// Runs the statements that a test chooses.
 #[cycle(evaluate)]
 pub(crate) fn choose<W: World>(
-    context: Context<'_>,
-    depth: u64,
+    layer: Layer<'_>,
     test: &Expr,
     a: &[Statement],
     b: &[Statement],
@@ -328,15 +306,15 @@ pub(crate) fn choose<W: World>(
 ) -> Result<Flow, Halt>
     ensures left { run.new.left ≤ run.old.left }
     ensures outcome { Yields way_of
-        (exec W.calls (eres_of context.entry) (enter_of W.calls context.entry depth)
+        (exec W.calls (eres_in layer.entry) (enter_in W.calls layer.entry)
         (actions.choose (view test.now) (seen a.now) (seen b.now))
         (moment (W.state world.old) run.old)) result (moment (W.state world.new) run.new) }
 {
-    let truth = truth(context, depth, test, world, run)?;
+    let truth = truth(layer, test, world, run)?;
     let holds = truth?;
     if holds {
-        execute(context, depth, a, world, run)
+        execute(layer, a, world, run)
     } else {
-        execute(context, depth, b, world, run)
+        execute(layer, b, world, run)
     }
 }

@@ -10,10 +10,10 @@ ghost use Rattle.pawk_code.specs.ExpressionViews.{format_view, textual_view, vie
 ghost use Rattle.pawk_semantics.specs.Meaning.{joined_texts, text_of_textual};
 ghost use Rattle.pawk_runtime.specs.Moments.{moment};
 ghost use Rattle.pawk_runtime.specs.Yields.{Yields};
-ghost use Rattle.pawk_eval.specs.Contexts.{enter_of, eres_of};
+ghost use Rattle.pawk_eval.specs.Contexts.{enter_in, eres_in};
 
-use crate::context::Context;
 use crate::expressions::{number, text, text_into};
+use crate::layer::Layer;
 use crate::operands::values;
 use pawk_builtins::{Values, both, push_letters, substring, suffix, within_limit};
 use pawk_code::expression::{Expr, Format, Textual};
@@ -24,8 +24,7 @@ use pawk_world::{Halt, World};
 /// copied first.
 #[cycle(evaluate)]
 pub(crate) fn textual<W: World>(
-    context: Context<'_>,
-    depth: u64,
+    layer: Layer<'_>,
     t: &Textual,
     out: &mut Vec<u8>,
     world: &mut W,
@@ -35,21 +34,20 @@ pub(crate) fn textual<W: World>(
     ensures appended { OnOk result
         (out.new.items ≡ out.old.items ++ added out.old.items out.new.items) }
     ensures outcome { Yields (λ _. added out.old.items out.new.items)
-        (text_of_textual W.calls (eres_of context.entry) (enter_of W.calls context.entry depth)
+        (text_of_textual W.calls (eres_in layer.entry) (enter_in W.calls layer.entry)
         (textual_view t.now)
         (moment (W.state world.old) run.old)) result (moment (W.state world.new) run.new) }
 {
     if quick_text(t, out, world, run)? {
         return Ok(());
     }
-    compose(context, depth, t, out, world, run)
+    compose(layer, t, out, world, run)
 }
 
 /// Appends what gives a text, by the values of its parts.
 #[cycle(evaluate)]
 pub(crate) fn compose<W: World>(
-    context: Context<'_>,
-    depth: u64,
+    layer: Layer<'_>,
     t: &Textual,
     out: &mut Vec<u8>,
     world: &mut W,
@@ -59,36 +57,36 @@ pub(crate) fn compose<W: World>(
     ensures appended { OnOk result
         (out.new.items ≡ out.old.items ++ added out.old.items out.new.items) }
     ensures outcome { Yields (λ _. added out.old.items out.new.items)
-        (text_of_textual W.calls (eres_of context.entry) (enter_of W.calls context.entry depth)
+        (text_of_textual W.calls (eres_in layer.entry) (enter_in W.calls layer.entry)
         (textual_view t.now)
         (moment (W.state world.old) run.old)) result (moment (W.state world.new) run.new) }
 {
     match t {
-        Textual::Join(es) => join(context, depth, es, out, world, run),
+        Textual::Join(es) => join(layer, es, out, world, run),
         Textual::Suffix(e, a) => {
-            let text = text(context, depth, e, world, run)?;
-            let from = number(context, depth, a, world, run)?;
+            let text = text(layer, e, world, run)?;
+            let from = number(layer, a, world, run)?;
             out.extend_from_slice(suffix(&text, from?))?;
             give_back(&mut run.spare, text);
             Ok(())
         }
         Textual::Substring(e, a, b) => {
-            let text = text(context, depth, e, world, run)?;
-            let from = number(context, depth, a, world, run)?;
-            let count = number(context, depth, b, world, run)?;
+            let text = text(layer, e, world, run)?;
+            let from = number(layer, a, world, run)?;
+            let count = number(layer, b, world, run)?;
             let places = both(from, count)?;
             out.extend_from_slice(substring(&text, places.0, places.1))?;
             give_back(&mut run.spare, text);
             Ok(())
         }
         Textual::Case(case, e) => {
-            let text = text(context, depth, e, world, run)?;
+            let text = text(layer, e, world, run)?;
             push_letters(*case, &text, out)?;
             give_back(&mut run.spare, text);
             Ok(())
         }
         Textual::Format(format, es) => {
-            let text = formatted(context, depth, format, es, world, run)?;
+            let text = formatted(layer, format, es, world, run)?;
             out.extend_from_slice(&text)?;
             Ok(())
         }
@@ -100,8 +98,7 @@ pub(crate) fn compose<W: World>(
 /// POSIX.1-2017, awk, "Output Statements" and "String Functions" (`sprintf`).
 #[cycle(evaluate)]
 pub(crate) fn formatted<W: World>(
-    context: Context<'_>,
-    depth: u64,
+    layer: Layer<'_>,
     format: &Format,
     es: &[Expr],
     world: &mut W,
@@ -109,17 +106,17 @@ pub(crate) fn formatted<W: World>(
 ) -> Result<Vec<u8>, Halt>
     ensures left { run.new.left ≤ run.old.left }
     ensures outcome { Yields (λ text. text.items)
-        (text_of_textual W.calls (eres_of context.entry) (enter_of W.calls context.entry depth)
+        (text_of_textual W.calls (eres_in layer.entry) (enter_in W.calls layer.entry)
         (codes.formatted (format_view format.now) (exprs (views es.now)))
         (moment (W.state world.old) run.old)) result (moment (W.state world.new) run.new) }
 {
     let text = match format {
         Format::Fixed(_) => Vec::new(run.alloc),
-        Format::Value(e) => text(context, depth, e, world, run)?,
+        Format::Value(e) => text(layer, e, world, run)?,
     };
     let mut parts = Values::new(run.alloc);
     let mut scratch = Vec::new(run.alloc);
-    values(context, depth, es, &mut parts, &mut scratch, world, run)?;
+    values(layer, es, &mut parts, &mut scratch, world, run)?;
     fill_format(format, &text, &parts, world, run)
 }
 
@@ -130,8 +127,7 @@ pub(crate) fn formatted<W: World>(
 /// POSIX.1-2017, awk, "Expressions in awk" (concatenation).
 #[cycle(evaluate)]
 pub(crate) fn join<W: World>(
-    context: Context<'_>,
-    depth: u64,
+    layer: Layer<'_>,
     es: &[Expr],
     out: &mut Vec<u8>,
     world: &mut W,
@@ -141,7 +137,7 @@ pub(crate) fn join<W: World>(
     ensures appended { OnOk result
         (out.new.items ≡ out.old.items ++ added out.old.items out.new.items) }
     ensures outcome { Yields (λ _. added out.old.items out.new.items)
-        (joined_texts W.calls (eres_of context.entry) (enter_of W.calls context.entry depth)
+        (joined_texts W.calls (eres_in layer.entry) (enter_in W.calls layer.entry)
         (exprs (views es.now))
         (moment (W.state world.old) run.old)) result (moment (W.state world.new) run.new) }
 {
@@ -149,9 +145,9 @@ pub(crate) fn join<W: World>(
         None => Ok(()),
         Some((first, rest)) => {
             let start = out.len();
-            text_into(context, depth, first, out, world, run)?;
+            text_into(layer, first, out, world, run)?;
             for e in rest {
-                text_into(context, depth, e, out, world, run)?;
+                text_into(layer, e, out, world, run)?;
                 within_limit(&out[start..])?;
             }
             Ok(())

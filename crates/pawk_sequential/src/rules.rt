@@ -17,7 +17,7 @@ use pawk_code::expression::Expr;
 use pawk_code::program::{Rule, Selector};
 use pawk_code::slots::FS;
 use pawk_code::statement::Statement;
-use pawk_eval::{Context, holds, run_body};
+use pawk_eval::{Context, Layer, holds, run_body};
 use pawk_input::Item;
 use pawk_runtime::Run;
 use pawk_value::text_in;
@@ -35,7 +35,11 @@ fn pattern_holds<W: World>(
         (holds W.calls (eres_of context.entry) (functions_of context.entry) (view e.now)
         (moment (W.state world.old) run.old)) result (moment (W.state world.new) run.new) }
 {
-    holds(context, GREATEST_CALLS, e, world, run)
+    let layer = Layer {
+        context,
+        depth: GREATEST_CALLS,
+    };
+    holds(layer, e, world, run)
 }
 
 /// Runs a body.
@@ -50,7 +54,11 @@ fn do_body<W: World>(
         (does W.calls (eres_of context.entry) (functions_of context.entry) (seen body.now)
         (moment (W.state world.old) run.old)) result (moment (W.state world.new) run.new) }
 {
-    run_body(context, GREATEST_CALLS, body, world, run)
+    let layer = Layer {
+        context,
+        depth: GREATEST_CALLS,
+    };
+    run_body(layer, body, world, run)
 }
 
 /// Reads a record: `NR`, `FNR`, `FILENAME`, `$0`, and the fields by the FS of this moment.

@@ -13,7 +13,7 @@ use Rattle.pawk_semantics.specs.Meaning.{eval, execs, texts_of, values_of, argum
 use Rattle.pawk_semantics.specs.Places.{variable_aim}
 use Rattle.pawk_runtime.specs.declared.run.Parameter.{Parameter}
 use Rattle.pawk_runtime.specs.Moments.{holds_of, moment}
-use Rattle.pawk_eval.specs.Contexts.{functions_of, eres_of, enter_of, last_view}
+use Rattle.pawk_eval.specs.Contexts.{functions_of, eres_in, enter_in, last_view}
 use Rattle.pawk_eval.specs.Contexts as contexts
 use Rattle.pawk_eval.proofs.AppendedText.{operand_next, operand_halts, text_after}
 use Rattle.pawk_eval.proofs.Bodies.{simple_next}
@@ -95,7 +95,7 @@ places::place-returns-in_ok-key-in-Element-clause-outcome g t c =
 
 pub assignments::set-returns-in_err-assign_in_place-clause-outcome : goal.assignments::set-returns-in_err-assign_in_place-clause-outcome
 assignments::set-returns-in_err-assign_in_place-clause-outcome g t c =
-    let stops = λ (h : Halt) (is : halt_of c.in_err-assign_in_place.field-0.0 ≡ Some h). c.in_err-assign_in_place.ensures.outcome h is (eres_of c.args.context) (enter_of g.W.World.calls c.args.context c.args.depth) in
+    let stops = λ (h : Halt) (is : halt_of c.in_err-assign_in_place.field-0.0 ≡ Some h). c.in_err-assign_in_place.ensures.outcome h is (eres_in c.args.layer) (enter_in g.W.World.calls c.args.layer) in
     search rules
 
 pub conditions::test-member-requires : goal.conditions::test-member-requires
@@ -192,53 +192,53 @@ statements::execute-perform-requires g t c =
 
 pub statements::execute-returns-in_err-perform-clause-outcome : goal.statements::execute-returns-in_err-perform-clause-outcome
 statements::execute-returns-in_err-perform-clause-outcome g t c =
-    let eres = eres_of c.args.context in
-    let enter = enter_of g.W.World.calls c.args.context c.args.depth in
+    let eres = eres_in c.args.layer in
+    let enter = enter_in g.W.World.calls c.args.layer in
     let next = simple_next g.W.World.calls eres enter c.args.body.now c.loop-s.s-index c.s-item.result c.in-Simple.simple (moment (g.W.World.state c.loop-s.world) c.loop-s.run) _ c.loop-s-test.true c.s-item.is c.in-Simple.is c.in_ok-tick.ensures.outcome in
     let stops : (h : Halt) → halt_of c.in_err-perform.field-0.0 ≡ Some h → execs g.W.World.calls eres enter (seen c.args.body.now) (moment (g.W.World.state c.args.world.now) c.args.run.now) ≡ halts h (g.W.World.state c.perform.new.world) (state_of c.perform.new.run.state) c.perform.new.run.output.items = λ h is. sym c.loop-s.invariant.0 ∙ next ∙ rw (c.in_err-perform.ensures.outcome h is) refl in
     search rules
 
 pub statements::execute-loop-s-preserved-in-Simple : goal.statements::execute-loop-s-preserved-in-Simple
 statements::execute-loop-s-preserved-in-Simple g t c =
-    let eres = eres_of c.args.context in
-    let enter = enter_of g.W.World.calls c.args.context c.args.depth in
+    let eres = eres_in c.args.layer in
+    let enter = enter_in g.W.World.calls c.args.layer in
     let next = simple_next g.W.World.calls eres enter c.args.body.now c.loop-s.s-index c.s-item.result c.in-Simple.simple (moment (g.W.World.state c.loop-s.world) c.loop-s.run) _ c.loop-s-test.true c.s-item.is c.in-Simple.is c.in_ok-tick.ensures.outcome in
     let rest : execs g.W.World.calls eres enter (seen c.args.body.now) (moment (g.W.World.state c.args.world.now) c.args.run.now) ≡ execs g.W.World.calls eres enter (seen (drop (suc c.loop-s.s-index) c.args.body.now)) (moment (g.W.World.state c.perform.new.world) c.perform.new.run) = sym c.loop-s.invariant.0 ∙ next ∙ rw c.in_ok-perform.ensures.outcome refl in
     (rw add-one (sym rest), omega arith)
 
 pub functions::pass-returns-in_err-value-in-Value-clause-outcome : goal.functions::pass-returns-in_err-value-in-Value-clause-outcome
 functions::pass-returns-in_err-value-in-Value-clause-outcome g t c =
-    let eres = eres_of c.args.context in
-    let enter = enter_of g.W.World.calls c.args.context c.args.depth in
+    let eres = eres_in c.args.layer in
+    let enter = enter_in g.W.World.calls c.args.layer in
     let at = moment (g.W.World.state c.loop-argument.world) c.loop-argument.run in
     let stops = λ (h : Halt) (is : halt_of c.in_err-value-in-Value.field-0.0 ≡ Some h). sym c.loop-argument.invariant.0 ∙ argument_in_row_halts g.W.World.calls eres enter c.args.arguments.now c.loop-argument.argument-index c.argument-item.result (holds_of c.loop-argument.values.items) at h _ _ _ c.loop-argument-test.true c.argument-item.is (value_argument_halts g.W.World.calls eres enter c.argument-item.result c.in-Value.e at h _ _ _ c.in-Value.is (c.in_err-value-in-Value.ensures.outcome h is)) in
     search rules
 
 pub operands::texts-returns-in_err-text_into-clause-outcome : goal.operands::texts-returns-in_err-text_into-clause-outcome
 operands::texts-returns-in_err-text_into-clause-outcome g t c =
-    let eres = eres_of c.args.context in
-    let enter = enter_of g.W.World.calls c.args.context c.args.depth in
+    let eres = eres_in c.args.layer in
+    let enter = enter_in g.W.World.calls c.args.layer in
     let stops : (h : Halt) → halt_of c.in_err-text_into.field-0.0 ≡ Some h → texts_of g.W.World.calls eres enter (exprs (views c.args.es.now)) c.args.parts.now (moment (g.W.World.state c.args.world.now) c.args.run.now) ≡ halts h (g.W.World.state c.text_into.new.world) (state_of c.text_into.new.run.state) c.text_into.new.run.output.items = λ h is. sym c.loop-e.invariant.0 ∙ text_in_row_halts g.W.World.calls eres enter c.args.es.now c.loop-e.e-index c.e-item.result c.loop-e.parts c.clear.new.self.items (moment (g.W.World.state c.loop-e.world) c.loop-e.run) h _ _ _ c.loop-e-test.true c.e-item.is (c.in_err-text_into.ensures.outcome h is) in
     search rules
 
 pub operands::values-returns-in_err-held-clause-outcome : goal.operands::values-returns-in_err-held-clause-outcome
 operands::values-returns-in_err-held-clause-outcome g t c =
-    let eres = eres_of c.args.context in
-    let enter = enter_of g.W.World.calls c.args.context c.args.depth in
+    let eres = eres_in c.args.layer in
+    let enter = enter_in g.W.World.calls c.args.layer in
     let stops : (h : Halt) → halt_of c.in_err-held.field-0.0 ≡ Some h → values_of g.W.World.calls eres enter (exprs (views c.args.es.now)) c.args.parts.now (moment (g.W.World.state c.args.world.now) c.args.run.now) ≡ halts h (g.W.World.state c.eval.new.world) (state_of c.eval.new.run.state) c.eval.new.run.output.items = λ h is. sym c.loop-e.invariant.0 ∙ value_in_row_halts g.W.World.calls eres enter c.args.es.now c.loop-e.e-index c.e-item.result c.loop-e.parts (moment (g.W.World.state c.loop-e.world) c.loop-e.run) h _ _ _ c.loop-e-test.true c.e-item.is (c.in_err-held.ensures.outcome h is) in
     search rules
 
 pub strings::join-returns-in_err-text_into-in-Some-2-clause-outcome : goal.strings::join-returns-in_err-text_into-in-Some-2-clause-outcome
 strings::join-returns-in_err-text_into-in-Some-2-clause-outcome g t c =
-    let eres = eres_of c.args.context in
-    let enter = enter_of g.W.World.calls c.args.context c.args.depth in
+    let eres = eres_in c.args.layer in
+    let enter = enter_in g.W.World.calls c.args.layer in
     let stops : (h : Halt) → halt_of c.in_err-text_into-in-Some-2.field-0.0 ≡ Some h → joined_texts g.W.World.calls eres enter (exprs (views c.args.es.now)) (moment (g.W.World.state c.args.world.now) c.args.run.now) ≡ halts h (g.W.World.state c.text_into-in-loop-e.new.world) (state_of c.text_into-in-loop-e.new.run.state) c.text_into-in-loop-e.new.run.output.items = λ h is. sym c.loop-e.invariant.0 ∙ operand_halts g.W.World.calls eres enter c.in-Some.rest.now c.loop-e.e-index c.e-item.result c.len-start.result c.loop-e.out.items (moment (g.W.World.state c.loop-e.world) c.loop-e.run) h _ _ _ c.loop-e-test.true c.e-item.is (c.in_err-text_into-in-Some-2.ensures.outcome h is) in
     search rules
 
 pub strings::join-returns-in_err-within_limit-in-Some-clause-outcome : goal.strings::join-returns-in_err-within_limit-in-Some-clause-outcome
 strings::join-returns-in_err-within_limit-in-Some-clause-outcome g t c =
-    let eres = eres_of c.args.context in
-    let enter = enter_of g.W.World.calls c.args.context c.args.depth in
+    let eres = eres_in c.args.layer in
+    let enter = enter_in g.W.World.calls c.args.layer in
     let start = c.len-start.result in
     let next = operand_next g.W.World.calls eres enter c.in-Some.rest.now c.loop-e.e-index c.e-item.result start c.loop-e.out.items c.text_into-in-loop-e.new.out.items (moment (g.W.World.state c.loop-e.world) c.loop-e.run) _ c.loop-e-test.true c.e-item.is c.loop-e.invariant.3 c.in_ok-text_into-in-Some-2.ensures.outcome in
     let long : within_limit (drop start c.text_into-in-loop-e.new.out.items) ≡ Err c.in_err-within_limit-in-Some.field-0.0 = grind (arith, common_steps) in
@@ -247,8 +247,8 @@ strings::join-returns-in_err-within_limit-in-Some-clause-outcome g t c =
 
 pub strings::join-loop-e-preserved : goal.strings::join-loop-e-preserved
 strings::join-loop-e-preserved g t c =
-    let eres = eres_of c.args.context in
-    let enter = enter_of g.W.World.calls c.args.context c.args.depth in
+    let eres = eres_in c.args.layer in
+    let enter = enter_in g.W.World.calls c.args.layer in
     let start = c.len-start.result in
     let next = operand_next g.W.World.calls eres enter c.in-Some.rest.now c.loop-e.e-index c.e-item.result start c.loop-e.out.items c.text_into-in-loop-e.new.out.items (moment (g.W.World.state c.loop-e.world) c.loop-e.run) _ c.loop-e-test.true c.e-item.is c.loop-e.invariant.3 c.in_ok-text_into-in-Some-2.ensures.outcome in
     let short : within_limit (drop start c.text_into-in-loop-e.new.out.items) ≡ Ok (drop start c.text_into-in-loop-e.new.out.items) = grind (arith, common_steps) in
@@ -259,22 +259,22 @@ strings::join-loop-e-preserved g t c =
 -- ---- leaves
 
 pub conditions::member-returns-in-Some-clause-outcome : goal.conditions::member-returns-in-Some-clause-outcome
-conditions::member-returns-in-Some-clause-outcome g t c = c.in-Some.ensures.outcome (eres_of c.args.context) (enter_of g.W.World.calls c.args.context c.args.depth)
+conditions::member-returns-in-Some-clause-outcome g t c = c.in-Some.ensures.outcome (eres_in c.args.layer) (enter_in g.W.World.calls c.args.layer)
 
 pub expressions::number_at-returns-in-Some-clause-outcome : goal.expressions::number_at-returns-in-Some-clause-outcome
-expressions::number_at-returns-in-Some-clause-outcome g t c = c.in-Some.ensures.outcome (eres_of c.args.context) (enter_of g.W.World.calls c.args.context c.args.depth)
+expressions::number_at-returns-in-Some-clause-outcome g t c = c.in-Some.ensures.outcome (eres_in c.args.layer) (enter_in g.W.World.calls c.args.layer)
 
 pub expressions::read-returns-in-Some-clause-outcome : goal.expressions::read-returns-in-Some-clause-outcome
-expressions::read-returns-in-Some-clause-outcome g t c = c.in-Some.ensures.outcome (eres_of c.args.context) (enter_of g.W.World.calls c.args.context c.args.depth)
+expressions::read-returns-in-Some-clause-outcome g t c = c.in-Some.ensures.outcome (eres_in c.args.layer) (enter_in g.W.World.calls c.args.layer)
 
 pub expressions::text_at-returns-in-Some-clause-outcome : goal.expressions::text_at-returns-in-Some-clause-outcome
-expressions::text_at-returns-in-Some-clause-outcome g t c = c.in-Some.ensures.outcome (eres_of c.args.context) (enter_of g.W.World.calls c.args.context c.args.depth)
+expressions::text_at-returns-in-Some-clause-outcome g t c = c.in-Some.ensures.outcome (eres_in c.args.layer) (enter_in g.W.World.calls c.args.layer)
 
 pub assignments::add-returns-in-Some-clause-outcome : goal.assignments::add-returns-in-Some-clause-outcome
-assignments::add-returns-in-Some-clause-outcome g t c = rw c.in-One.is (c.in-Some.ensures.outcome (eres_of c.args.context) (enter_of g.W.World.calls c.args.context c.args.depth))
+assignments::add-returns-in-Some-clause-outcome g t c = rw c.in-One.is (c.in-Some.ensures.outcome (eres_in c.args.layer) (enter_in g.W.World.calls c.args.layer))
 
 pub assignments::add-returns-in-Some-leaf_add : goal.assignments::add-returns-in-Some-leaf_add
-assignments::add-returns-in-Some-leaf_add g t c = record { left = c.in-Some-leaf_add.ensures.left; outcome = rw c.in-Of.is (c.in-Some-leaf_add.ensures.outcome (eres_of c.args.context) (enter_of g.W.World.calls c.args.context c.args.depth)) }
+assignments::add-returns-in-Some-leaf_add g t c = record { left = c.in-Some-leaf_add.ensures.left; outcome = rw c.in-Of.is (c.in-Some-leaf_add.ensures.outcome (eres_in c.args.layer) (enter_in g.W.World.calls c.args.layer)) }
 
 pub assignments::add_elsewhere-numeric-requires : goal.assignments::add_elsewhere-numeric-requires
 assignments::add_elsewhere-numeric-requires g t c =
@@ -285,44 +285,44 @@ assignments::add_elsewhere-numeric-requires g t c =
 
 pub functions::call-returns-in_err-tick-clause-outcome : goal.functions::call-returns-in_err-tick-clause-outcome
 functions::call-returns-in_err-tick-clause-outcome g t c =
-    let stops = λ (h : Halt) (is : halt_of c.in_err-tick.field-0.0 ≡ Some h). call_no_step g.W.World.calls (eres_of c.args.context) (functions_of c.args.context) c.args.depth c.args.f (holds_of c.args.arguments.items) (moment (g.W.World.state c.args.world.now) c.args.run.now) h _ _ _ (c.in_err-tick.ensures.outcome h is) in
+    let stops = λ (h : Halt) (is : halt_of c.in_err-tick.field-0.0 ≡ Some h). call_no_step g.W.World.calls (eres_in c.args.layer) (functions_of c.args.layer.context) c.args.layer.depth c.args.f (holds_of c.args.arguments.items) (moment (g.W.World.state c.args.world.now) c.args.run.now) h _ _ _ (c.in_err-tick.ensures.outcome h is) in
     search rules
 
-pub functions::call-returns-then-depth-eq0-clause-outcome : goal.functions::call-returns-then-depth-eq0-clause-outcome
-functions::call-returns-then-depth-eq0-clause-outcome g t c =
-    let stops = call_too_deep g.W.World.calls (eres_of c.args.context) (functions_of c.args.context) c.args.depth c.args.f (holds_of c.args.arguments.items) (moment (g.W.World.state c.args.world.now) c.args.run.now) _ c.if-depth-eq0.true c.in_ok-tick.ensures.outcome in
+pub functions::call-returns-then-layer-eq0-clause-outcome : goal.functions::call-returns-then-layer-eq0-clause-outcome
+functions::call-returns-then-layer-eq0-clause-outcome g t c =
+    let stops = call_too_deep g.W.World.calls (eres_in c.args.layer) (functions_of c.args.layer.context) c.args.layer.depth c.args.f (holds_of c.args.arguments.items) (moment (g.W.World.state c.args.world.now) c.args.run.now) _ c.if-layer-eq0.true c.in_ok-tick.ensures.outcome in
     search rules
 
 pub functions::call-returns-in-None-clause-outcome : goal.functions::call-returns-in-None-clause-outcome
 functions::call-returns-in-None-clause-outcome g t c =
-    let pos : 0 < c.args.depth = omega (arith, c.if-depth-eq0.false) in
-    call_nothing g.W.World.calls (eres_of c.args.context) (functions_of c.args.context) c.args.depth c.args.f (holds_of c.args.arguments.items) (moment (g.W.World.state c.args.world.now) c.args.run.now) _ pos c.in_ok-tick.ensures.outcome c.in-None.ensures
+    let pos : 0 < c.args.layer.depth = omega (arith, c.if-layer-eq0.false) in
+    call_nothing g.W.World.calls (eres_in c.args.layer) (functions_of c.args.layer.context) c.args.layer.depth c.args.f (holds_of c.args.arguments.items) (moment (g.W.World.state c.args.world.now) c.args.run.now) _ pos c.in_ok-tick.ensures.outcome c.in-None.ensures
 
 pub functions::call-body_value-requires : goal.functions::call-body_value-requires
 functions::call-body_value-requires g t c =
-    let w = body_in_list (functions_of c.args.context) c.args.f (function_view c.in-Some.function.now) c.in-Some.ensures in
-    let pos : 0 < c.args.depth = omega (arith, c.if-depth-eq0.false) in
-    let one : c.args.depth ≡ c.args.depth - 1 + 1 = omega (arith, pos) in
-    let f : rank (functions_of c.args.context) (c.args.depth - 1) (body_weight (seen c.deref-in-Some.result.now) + 1) < rank (functions_of c.args.context) c.args.depth 0 = rw c.deref-in-Some.ensures.value (rank_falls (functions_of c.args.context) c.args.depth (c.args.depth - 1) (body_weight (seen c.in-Some.function.now.body.items) + 1) one (omega (arith, w))) in
+    let w = body_in_list (functions_of c.args.layer.context) c.args.f (function_view c.in-Some.function.now) c.in-Some.ensures in
+    let pos : 0 < c.args.layer.depth = omega (arith, c.if-layer-eq0.false) in
+    let one : c.args.layer.depth ≡ c.args.layer.depth - 1 + 1 = omega (arith, pos) in
+    let f : rank (functions_of c.args.layer.context) (c.args.layer.depth - 1) (body_weight (seen c.deref-in-Some.result.now) + 1) < rank (functions_of c.args.layer.context) c.args.layer.depth 0 = rw c.deref-in-Some.ensures.value (rank_falls (functions_of c.args.layer.context) c.args.layer.depth (c.args.layer.depth - 1) (body_weight (seen c.in-Some.function.now.body.items) + 1) one (omega (arith, w))) in
     search rules
 
 pub functions::call-returns-in_err-value-in-Some-clause-outcome : goal.functions::call-returns-in_err-value-in-Some-clause-outcome
 functions::call-returns-in_err-value-in-Some-clause-outcome g t c =
-    let pos : 0 < c.args.depth = omega (arith, c.if-depth-eq0.false) in
+    let pos : 0 < c.args.layer.depth = omega (arith, c.if-layer-eq0.false) in
     let m1 = moment (g.W.World.state c.args.world.now) c.tick.new.run in
     let e : Entry = record { frame = holds_of c.replace-saved.new.dest.items; arrays = c.parameters.new.arrays.items } in
     let start : e ≡ entry_of c.in-Some.function.now.kinds.items (holds_of c.args.arguments.items) m1.arrays = ap (λ (x : Vec Parameter Global). let y : Entry = record { frame = holds_of x.items; arrays = c.parameters.new.arrays.items } in y) c.replace-saved.ensures.after ∙ sym c.in_ok-fresh-in-Some.ensures ∙ ap (λ ks. entry_of ks (holds_of c.args.arguments.items) m1.arrays) c.deref.ensures.value in
-    let runs = call_runs g.W.World.calls (eres_of c.args.context) (functions_of c.args.context) c.args.depth c.args.f (holds_of c.args.arguments.items) (function_view c.in-Some.function.now) (seen c.deref-in-Some.result.now) (moment (g.W.World.state c.args.world.now) c.args.run.now) m1 e pos c.in_ok-tick.ensures.outcome c.in-Some.ensures (ap seen c.deref-in-Some.ensures.value) start in
-    let stops : (h : Halt) → halt_of c.in_err-value-in-Some.field-0.0 ≡ Some h → enter_of g.W.World.calls c.args.context c.args.depth c.args.f (holds_of c.args.arguments.items) (moment (g.W.World.state c.args.world.now) c.args.run.now) ≡ halts h (g.W.World.state c.body_value.new.world) (state_of c.body_value.new.run.state) c.body_value.new.run.output.items = λ h is. rw (runs, c.in_err-value-in-Some.ensures.outcome h is) in
+    let runs = call_runs g.W.World.calls (eres_in c.args.layer) (functions_of c.args.layer.context) c.args.layer.depth c.args.f (holds_of c.args.arguments.items) (function_view c.in-Some.function.now) (seen c.deref-in-Some.result.now) (moment (g.W.World.state c.args.world.now) c.args.run.now) m1 e pos c.in_ok-tick.ensures.outcome c.in-Some.ensures (ap seen c.deref-in-Some.ensures.value) start in
+    let stops : (h : Halt) → halt_of c.in_err-value-in-Some.field-0.0 ≡ Some h → enter_in g.W.World.calls c.args.layer c.args.f (holds_of c.args.arguments.items) (moment (g.W.World.state c.args.world.now) c.args.run.now) ≡ halts h (g.W.World.state c.body_value.new.world) (state_of c.body_value.new.run.state) c.body_value.new.run.output.items = λ h is. rw (runs, c.in_err-value-in-Some.ensures.outcome h is) in
     search rules
 
 pub functions::call-returns-in_ok-value-in-Some-clause-outcome : goal.functions::call-returns-in_ok-value-in-Some-clause-outcome
 functions::call-returns-in_ok-value-in-Some-clause-outcome g t c =
-    let pos : 0 < c.args.depth = omega (arith, c.if-depth-eq0.false) in
+    let pos : 0 < c.args.layer.depth = omega (arith, c.if-layer-eq0.false) in
     let m1 = moment (g.W.World.state c.args.world.now) c.tick.new.run in
     let e : Entry = record { frame = holds_of c.replace-saved.new.dest.items; arrays = c.parameters.new.arrays.items } in
     let start : e ≡ entry_of c.in-Some.function.now.kinds.items (holds_of c.args.arguments.items) m1.arrays = ap (λ (x : Vec Parameter Global). let y : Entry = record { frame = holds_of x.items; arrays = c.parameters.new.arrays.items } in y) c.replace-saved.ensures.after ∙ sym c.in_ok-fresh-in-Some.ensures ∙ ap (λ ks. entry_of ks (holds_of c.args.arguments.items) m1.arrays) c.deref.ensures.value in
-    let runs = call_runs g.W.World.calls (eres_of c.args.context) (functions_of c.args.context) c.args.depth c.args.f (holds_of c.args.arguments.items) (function_view c.in-Some.function.now) (seen c.deref-in-Some.result.now) (moment (g.W.World.state c.args.world.now) c.args.run.now) m1 e pos c.in_ok-tick.ensures.outcome c.in-Some.ensures (ap seen c.deref-in-Some.ensures.value) start in
+    let runs = call_runs g.W.World.calls (eres_in c.args.layer) (functions_of c.args.layer.context) c.args.layer.depth c.args.f (holds_of c.args.arguments.items) (function_view c.in-Some.function.now) (seen c.deref-in-Some.result.now) (moment (g.W.World.state c.args.world.now) c.args.run.now) m1 e pos c.in_ok-tick.ensures.outcome c.in-Some.ensures (ap seen c.deref-in-Some.ensures.value) start in
     rw (runs, c.in_ok-value-in-Some.ensures.outcome) (grind (arith, common_steps))
 
 -- ---- choices
@@ -339,8 +339,8 @@ statements::choose-returns-else-holds-clause-outcome g t c =
 
 pub loops::turns-returns-in_err-tick-clause-outcome : goal.loops::turns-returns-in_err-tick-clause-outcome
 loops::turns-returns-in_err-tick-clause-outcome g t c =
-    let eres = eres_of c.args.context in
-    let enter = enter_of g.W.World.calls c.args.context c.args.depth in
+    let eres = eres_in c.args.layer in
+    let enter = enter_in g.W.World.calls c.args.layer in
     let check = test_or_true g.W.World.calls eres enter (contexts.test_view c.args.test) in
     let body = execs g.W.World.calls eres enter (seen c.args.body.now) in
     let last = act_or_none g.W.World.calls eres enter (last_view c.args.last) in
@@ -349,8 +349,8 @@ loops::turns-returns-in_err-tick-clause-outcome g t c =
 
 pub loops::turns-returns-in_err-truth-in-Some-clause-outcome : goal.loops::turns-returns-in_err-truth-in-Some-clause-outcome
 loops::turns-returns-in_err-truth-in-Some-clause-outcome g t c =
-    let eres = eres_of c.args.context in
-    let enter = enter_of g.W.World.calls c.args.context c.args.depth in
+    let eres = eres_in c.args.layer in
+    let enter = enter_in g.W.World.calls c.args.layer in
     let check = test_or_true g.W.World.calls eres enter (contexts.test_view c.args.test) in
     let body = execs g.W.World.calls eres enter (seen c.args.body.now) in
     let last = act_or_none g.W.World.calls eres enter (last_view c.args.last) in
@@ -363,8 +363,8 @@ loops::turns-returns-in_err-truth-in-Some-clause-outcome g t c =
 
 pub loops::turns-returns-in_err-holds-clause-outcome : goal.loops::turns-returns-in_err-holds-clause-outcome
 loops::turns-returns-in_err-holds-clause-outcome g t c =
-    let eres = eres_of c.args.context in
-    let enter = enter_of g.W.World.calls c.args.context c.args.depth in
+    let eres = eres_in c.args.layer in
+    let enter = enter_in g.W.World.calls c.args.layer in
     let check = test_or_true g.W.World.calls eres enter (contexts.test_view c.args.test) in
     let body = execs g.W.World.calls eres enter (seen c.args.body.now) in
     let last = act_or_none g.W.World.calls eres enter (last_view c.args.last) in
@@ -377,8 +377,8 @@ loops::turns-returns-in_err-holds-clause-outcome g t c =
 
 pub loops::turns-returns-then-not-holds-clause-outcome : goal.loops::turns-returns-then-not-holds-clause-outcome
 loops::turns-returns-then-not-holds-clause-outcome g t c =
-    let eres = eres_of c.args.context in
-    let enter = enter_of g.W.World.calls c.args.context c.args.depth in
+    let eres = eres_in c.args.layer in
+    let enter = enter_in g.W.World.calls c.args.layer in
     let check = test_or_true g.W.World.calls eres enter (contexts.test_view c.args.test) in
     let body = execs g.W.World.calls eres enter (seen c.args.body.now) in
     let last = act_or_none g.W.World.calls eres enter (last_view c.args.last) in
@@ -390,8 +390,8 @@ loops::turns-returns-then-not-holds-clause-outcome g t c =
 
 pub loops::turns-returns-in_err-flow-clause-outcome : goal.loops::turns-returns-in_err-flow-clause-outcome
 loops::turns-returns-in_err-flow-clause-outcome g t c =
-    let eres = eres_of c.args.context in
-    let enter = enter_of g.W.World.calls c.args.context c.args.depth in
+    let eres = eres_in c.args.layer in
+    let enter = enter_in g.W.World.calls c.args.layer in
     let check = test_or_true g.W.World.calls eres enter (contexts.test_view c.args.test) in
     let body = execs g.W.World.calls eres enter (seen c.args.body.now) in
     let last = act_or_none g.W.World.calls eres enter (last_view c.args.last) in
@@ -404,8 +404,8 @@ loops::turns-returns-in_err-flow-clause-outcome g t c =
 
 pub loops::turns-returns-in-Some-loop_end-clause-outcome : goal.loops::turns-returns-in-Some-loop_end-clause-outcome
 loops::turns-returns-in-Some-loop_end-clause-outcome g t c =
-    let eres = eres_of c.args.context in
-    let enter = enter_of g.W.World.calls c.args.context c.args.depth in
+    let eres = eres_in c.args.layer in
+    let enter = enter_in g.W.World.calls c.args.layer in
     let check = test_or_true g.W.World.calls eres enter (contexts.test_view c.args.test) in
     let body = execs g.W.World.calls eres enter (seen c.args.body.now) in
     let last = act_or_none g.W.World.calls eres enter (last_view c.args.last) in
@@ -417,8 +417,8 @@ loops::turns-returns-in-Some-loop_end-clause-outcome g t c =
 
 pub loops::turns-returns-in_err-perform-clause-outcome : goal.loops::turns-returns-in_err-perform-clause-outcome
 loops::turns-returns-in_err-perform-clause-outcome g t c =
-    let eres = eres_of c.args.context in
-    let enter = enter_of g.W.World.calls c.args.context c.args.depth in
+    let eres = eres_in c.args.layer in
+    let enter = enter_in g.W.World.calls c.args.layer in
     let check = test_or_true g.W.World.calls eres enter (contexts.test_view c.args.test) in
     let body = execs g.W.World.calls eres enter (seen c.args.body.now) in
     let last = act_or_none g.W.World.calls eres enter (last_view c.args.last) in
@@ -434,8 +434,8 @@ loops::turns-returns-in_err-perform-clause-outcome g t c =
 
 pub loops::turns-turns-preserved : goal.loops::turns-turns-preserved
 loops::turns-turns-preserved g t c =
-    let eres = eres_of c.args.context in
-    let enter = enter_of g.W.World.calls c.args.context c.args.depth in
+    let eres = eres_in c.args.layer in
+    let enter = enter_in g.W.World.calls c.args.layer in
     let check = test_or_true g.W.World.calls eres enter (contexts.test_view c.args.test) in
     let body = execs g.W.World.calls eres enter (seen c.args.body.now) in
     let last = act_or_none g.W.World.calls eres enter (last_view c.args.last) in
@@ -449,8 +449,8 @@ loops::turns-turns-preserved g t c =
 
 pub loops::turns-turns-preserved-in-Continue-branch-5 : goal.loops::turns-turns-preserved-in-Continue-branch-5
 loops::turns-turns-preserved-in-Continue-branch-5 g t c =
-    let eres = eres_of c.args.context in
-    let enter = enter_of g.W.World.calls c.args.context c.args.depth in
+    let eres = eres_in c.args.layer in
+    let enter = enter_in g.W.World.calls c.args.layer in
     let check = test_or_true g.W.World.calls eres enter (contexts.test_view c.args.test) in
     let body = execs g.W.World.calls eres enter (seen c.args.body.now) in
     let last = act_or_none g.W.World.calls eres enter (last_view c.args.last) in
@@ -464,8 +464,8 @@ loops::turns-turns-preserved-in-Continue-branch-5 g t c =
 
 pub loops::walk-returns-in_err-tick-clause-outcome : goal.loops::walk-returns-in_err-tick-clause-outcome
 loops::walk-returns-in_err-tick-clause-outcome g t c =
-    let eres = eres_of c.args.context in
-    let enter = enter_of g.W.World.calls c.args.context c.args.depth in
+    let eres = eres_in c.args.layer in
+    let enter = enter_in g.W.World.calls c.args.layer in
     let body = execs g.W.World.calls eres enter (seen c.args.body.now) in
     let some : c.loop-i.i < length c.in_ok-all.all = omega arith in
     let cons = drop-cons c.in_ok-all.all c.loop-i.i [] some in
@@ -475,8 +475,8 @@ loops::walk-returns-in_err-tick-clause-outcome g t c =
 
 pub loops::walk-returns-in_err-set_key-clause-outcome : goal.loops::walk-returns-in_err-set_key-clause-outcome
 loops::walk-returns-in_err-set_key-clause-outcome g t c =
-    let eres = eres_of c.args.context in
-    let enter = enter_of g.W.World.calls c.args.context c.args.depth in
+    let eres = eres_in c.args.layer in
+    let enter = enter_in g.W.World.calls c.args.layer in
     let body = execs g.W.World.calls eres enter (seen c.args.body.now) in
     let cons = keys_left c.in_ok-all.all c.loop-i.i c.text.result.now c.text.ensures in
     let whole = sym c.loop-i.invariant.0 ∙ ap (λ ks. visit_keys g.W.World.calls ks (variable_aim c.args.variable) body (moment (g.W.World.state c.loop-i.world) c.loop-i.run)) cons in
@@ -485,8 +485,8 @@ loops::walk-returns-in_err-set_key-clause-outcome g t c =
 
 pub loops::walk-returns-in_err-flow-clause-outcome : goal.loops::walk-returns-in_err-flow-clause-outcome
 loops::walk-returns-in_err-flow-clause-outcome g t c =
-    let eres = eres_of c.args.context in
-    let enter = enter_of g.W.World.calls c.args.context c.args.depth in
+    let eres = eres_in c.args.layer in
+    let enter = enter_in g.W.World.calls c.args.layer in
     let body = execs g.W.World.calls eres enter (seen c.args.body.now) in
     let cons = keys_left c.in_ok-all.all c.loop-i.i c.text.result.now c.text.ensures in
     let whole = sym c.loop-i.invariant.0 ∙ ap (λ ks. visit_keys g.W.World.calls ks (variable_aim c.args.variable) body (moment (g.W.World.state c.loop-i.world) c.loop-i.run)) cons in
@@ -495,8 +495,8 @@ loops::walk-returns-in_err-flow-clause-outcome g t c =
 
 pub loops::walk-returns-in-Some-clause-outcome : goal.loops::walk-returns-in-Some-clause-outcome
 loops::walk-returns-in-Some-clause-outcome g t c =
-    let eres = eres_of c.args.context in
-    let enter = enter_of g.W.World.calls c.args.context c.args.depth in
+    let eres = eres_in c.args.layer in
+    let enter = enter_in g.W.World.calls c.args.layer in
     let body = execs g.W.World.calls eres enter (seen c.args.body.now) in
     let cons = keys_left c.in_ok-all.all c.loop-i.i c.text.result.now c.text.ensures in
     let whole = sym c.loop-i.invariant.0 ∙ ap (λ ks. visit_keys g.W.World.calls ks (variable_aim c.args.variable) body (moment (g.W.World.state c.loop-i.world) c.loop-i.run)) cons in
@@ -504,8 +504,8 @@ loops::walk-returns-in-Some-clause-outcome g t c =
 
 pub loops::walk-loop-i-preserved : goal.loops::walk-loop-i-preserved
 loops::walk-loop-i-preserved g t c =
-    let eres = eres_of c.args.context in
-    let enter = enter_of g.W.World.calls c.args.context c.args.depth in
+    let eres = eres_in c.args.layer in
+    let enter = enter_in g.W.World.calls c.args.layer in
     let body = execs g.W.World.calls eres enter (seen c.args.body.now) in
     let cons = keys_left c.in_ok-all.all c.loop-i.i c.text.result.now c.text.ensures in
     let whole = sym c.loop-i.invariant.0 ∙ ap (λ ks. visit_keys g.W.World.calls ks (variable_aim c.args.variable) body (moment (g.W.World.state c.loop-i.world) c.loop-i.run)) cons in
