@@ -7,6 +7,7 @@ mod deep;
 mod explanations;
 mod files;
 mod listing;
+mod messages;
 mod outlet;
 mod reports;
 mod script;
@@ -17,6 +18,7 @@ mod words;
 
 use command::command;
 use deep::do_in;
+use messages::Messages;
 use std::process::ExitCode;
 use std::{io, thread};
 
@@ -56,7 +58,13 @@ fn main(rt: HostRuntime) -> ExitCode {
     let words = words.as_slice();
     let status = thread::scope(thread::scope_env(), rt, |scope| -> Option<u8> {
         do_in(scope, rt, move || {
-            command(rt, words, rt.stdin(), rt.stdout(), rt.stderr())
+            command(
+                rt,
+                words,
+                rt.stdin(),
+                rt.stdout(),
+                Messages::new(rt.stderr()),
+            )
         })
     });
     ExitCode::from(status.unwrap_or_else(|| refuse(rt, NO_THREAD)))
