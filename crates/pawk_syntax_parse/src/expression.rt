@@ -8,84 +8,24 @@ ghost use Rattle.pawk_syntax_tree.specs.Tree as tree;
 ghost use Rattle.pawk_syntax_tree.specs.declared.levels.Turn.TheVariants as turn;
 ghost use Rattle.pawk_lex.specs.declared.token.Mark.TheVariants as mark;
 ghost use Rattle.pawk_lex.specs.Tokens.{tok};
-ghost use Rattle.pawk_syntax_parse.specs.Starts as starts;
 ghost use Rattle.pawk_syntax_parse.specs.Reads.{input, Gives, GivesFrom, nothing, tree_of, trees_of, operand_of};
 ghost use Rattle.pawk_syntax_parse.specs.Nests.{Nests};
 ghost use Rattle.pawk_syntax_parse.specs.Reads as reads;
 
 use crate::build;
 use crate::cursor::Cursor;
+use crate::lookahead::{expect_name, row_at, tightest_next};
 use crate::phrase::{Phrase, Phrases};
 use pawk_lex::refusal::SyntaxRefusal;
 use pawk_lex::token::{Builtin, Mark, Token, TokenValue};
 use pawk_syntax_tree::levels::{
     OF_EXPR, OF_INCREMENT, OF_LVALUE, OF_MEMBER, OF_PREFIXED, OF_PRIMARY, OF_VALUE, Row, Turn,
-    beside, row_of_sign,
 };
 use pawk_syntax_tree::tree::{Double, Name, Single};
 use std::alloc::Global;
 
 /// How deep phrases may nest.
 pub const GREATEST_DEPTH: usize = 1000;
-
-/// What the next token does after an operand of the level `top`.
-#[tactic(auto, unfolding(pawk_syntax_tree::specs::Parse::row_at))]
-fn row_at(ts: &Cursor<'_>, compares: bool, top: u8) -> Option<Row>
-    ensures { result ≡ spec.row_at compares top (input ts.now) }
-{
-    match ts.rest {
-        [] => None,
-        [next, ..] => match &next.value {
-            TokenValue::Mark(sign) => row_of_sign(compares, top, *sign),
-            _ => beside(),
-        },
-    }
-}
-
-/// The tightest level of an operand that begins with this token.
-fn tightest(value: &TokenValue) -> u8
-    ensures { result ≡ starts.tightest (tok value.now) }
-{
-    match value {
-        TokenValue::Name(_) | TokenValue::Mark(Mark::Dollar) => OF_LVALUE,
-        TokenValue::Mark(Mark::LeftParenthesis) => OF_VALUE,
-        TokenValue::Mark(Mark::PlusPlus | Mark::MinusMinus) => OF_INCREMENT,
-        TokenValue::Mark(Mark::Not | Mark::Plus | Mark::Minus) => OF_PREFIXED,
-        TokenValue::Mark(_) => OF_EXPR,
-        _ => OF_VALUE,
-    }
-}
-
-/// The tightest level of an operand that comes next.
-fn tightest_next(ts: &Cursor<'_>) -> u8
-    ensures { result ≡ starts.tightest_next (input ts.now) }
-{
-    match ts.rest {
-        [] => OF_EXPR,
-        [next, ..] => tightest(&next.value),
-    }
-}
-
-/// The name that comes next.
-#[tactic(auto, unfolding(pawk_syntax_tree::specs::Parse::expect_name))]
-pub fn expect_name(
-    alloc: Global,
-    ts: &mut Cursor<'_>,
-    compares: bool,
-) -> Result<Name, SyntaxRefusal>
-    ensures { Gives (λ x. x.text.items) (spec.expect_name (input ts.old)) result (input ts.new) }
-{
-    match ts.rest {
-        [] => Err(ts.refuse(compares)),
-        [next, ..] => match &next.value {
-            TokenValue::Name(text) => {
-                ts.pass();
-                Ok(build::name(alloc, text, next.span.start)?)
-            }
-            _ => Err(ts.refuse(compares)),
-        },
-    }
-}
 
 /// The reading of phrases, with a reader of those that are nested.
 #[derive(Clone, Copy)]
@@ -332,10 +272,8 @@ impl<F: Fn(Global, &mut Cursor<'_>, usize, bool, u8) -> Result<Phrase, SyntaxRef
     {
         let a = self.expr(ts, compares, OF_LVALUE)?;
         let step = build::unary(self.alloc, ts, op, a)?;
-        Ok((
-            build::unary(self.alloc, ts, Single::Field, step)?,
-            OF_LVALUE,
-        ))
+        let field = build::unary(self.alloc, ts, Single::Field, step)?;
+        Ok((field, OF_LVALUE))
     }
 
     #[tactic(auto, unfolding(pawk_syntax_tree::specs::Parse::field))]

@@ -4,4 +4,5 @@
 pub mod build;
 pub mod cursor;
 pub mod expression;
+pub mod lookahead;
 pub mod phrase;
