@@ -4,6 +4,7 @@ ghost use Rattle.std.specs.Prelude.{◌<◌, ◌≤◌};
 
 use clap::error::ErrorKind;
 use clap::{Arg, ArgAction, ArgMatches, Command, Error, value_parser};
+use pawk_par::Seed;
 use std::alloc::{AllocError, Global};
 use std::io::IsTerminal;
 
@@ -70,7 +71,7 @@ impl Tools {
     }
 }
 
-/// What the words of the command line ask for.
+/// What the words of the command line ask for, and the seed of the run.
 #[derive(Drop)]
 pub(crate) struct CommandLine<'a> {
     pub(crate) program: ProgramSource<'a>,
@@ -86,6 +87,8 @@ pub(crate) struct CommandLine<'a> {
     pub(crate) workers: u8,
     /// The size of a chunk in bytes.
     pub(crate) chunk: u64,
+    /// What keys of elements are hashed by.
+    pub(crate) seed: Seed,
     pub(crate) tools: Tools,
     ghost some: { 1 ≤ workers },
     ghost few: { workers ≤ 64 },
@@ -297,6 +300,7 @@ fn line_of<'a>(
     alloc: Global,
     matches: &ArgMatches<'a>,
     program: ProgramSource<'a>,
+    seed: Seed,
 ) -> Result<CommandLine<'a>, AllocError> {
     let files = file_names(alloc, matches, &program)?;
     let assignments = Vec::from_slice(alloc, matches.get_strs("assignment").unwrap_or(&[]))?;
@@ -311,6 +315,7 @@ fn line_of<'a>(
             .unwrap_or(WORKERS)
             .clamp(1, 64),
         chunk: matches.get_one::<u64>("chunk").unwrap_or(CHUNK).max(1),
+        seed,
         tools: read_tools(matches),
     })
 }
@@ -320,10 +325,11 @@ fn read_by<'a>(
     alloc: Global,
     command: &mut Command<'a>,
     words: &'a [String],
+    seed: Seed,
 ) -> Result<CommandLine<'a>, Error> {
     let matches = command.try_get_matches_from_mut(words)?;
     match program_source(alloc, &matches)? {
-        Some(program) if are_plain(&matches) => Ok(line_of(alloc, &matches, program)?),
+        Some(program) if are_plain(&matches) => Ok(line_of(alloc, &matches, program, seed)?),
         Some(_) => {
             let text = "a number is written in digits alone";
             Err(fault(command, ErrorKind::ValueValidation, text))
@@ -336,7 +342,11 @@ fn read_by<'a>(
 /// writes them.
 ///
 /// An error comes where the words are at fault or ask for help, or where memory was refused.
-pub(crate) fn read_words<'a>(alloc: Global, words: &'a [String]) -> Result<CommandLine<'a>, Error> {
+pub(crate) fn read_words<'a>(
+    alloc: Global,
+    words: &'a [String],
+    seed: Seed,
+) -> Result<CommandLine<'a>, Error> {
     let mut command = definition(alloc)?;
-    read_by(alloc, &mut command, words)
+    read_by(alloc, &mut command, words, seed)
 }

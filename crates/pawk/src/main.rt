@@ -11,6 +11,7 @@ mod messages;
 mod outlet;
 mod reports;
 mod script;
+mod seeding;
 mod statistics;
 mod stripes;
 mod whole;
@@ -19,6 +20,7 @@ mod words;
 use command::command;
 use deep::do_in;
 use messages::Messages;
+use seeding::seed_of;
 use std::process::ExitCode;
 use std::{io, thread};
 
@@ -56,11 +58,13 @@ fn main(rt: HostRuntime) -> ExitCode {
         Err(line) => return ExitCode::from(refuse(rt, line)),
     };
     let words = words.as_slice();
+    let seed = seed_of(rt);
     let status = thread::scope(thread::scope_env(), rt, |scope| -> Option<u8> {
         do_in(scope, rt, move || {
             command(
                 rt,
                 words,
+                seed,
                 rt.stdin(),
                 rt.stdout(),
                 Messages::new(rt.stderr()),

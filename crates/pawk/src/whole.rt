@@ -149,6 +149,7 @@ impl<'a> Ready<'a> {
         Job {
             code: self.code,
             budget: self.request.budget,
+            seed: self.request.seed,
         }
     }
 
@@ -468,6 +469,7 @@ where
         budget: line.steps,
         cutting: &cutting,
         workers: usize::from(line.workers),
+        seed: line.seed,
     };
     if line.files.is_empty() && !wishes.are_more() && !wishes.run_nothing() {
         Ok(run_stream(rt, rt.alloc(), request, input, output)?)

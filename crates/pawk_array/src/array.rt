@@ -17,7 +17,7 @@ use crate::pieces::TextPieces;
 use crate::texts::Texts;
 use indexmap::IndexMap;
 use itoa::Buffer;
-use pawk_keyed_map::{Key, Query, place_of};
+use pawk_keyed_map::{Key, KeyedMap, Query, Seed, place_of};
 use pawk_value::{Value, ValueRef, assign, copy_lent, lend};
 use std::alloc::{AllocError, Global};
 use std::marker::Model;
@@ -31,7 +31,7 @@ use std::ops::Range;
 #[derive(Drop)]
 pub struct AssociativeArray {
     alloc: Global,
-    map: IndexMap<Key, Value>,
+    map: KeyedMap<Value>,
     pieces: TextPieces,
 }
 
@@ -58,7 +58,7 @@ pub struct Element<'a> {
 /// Puts a copy of a pair among the pairs.
 fn insert_copy(
     alloc: Global,
-    map: &mut IndexMap<Key, Value>,
+    map: &mut KeyedMap<Value>,
     key: &[u8],
     value: ValueRef<'_>,
 ) -> Result<(), AllocError>
@@ -74,7 +74,7 @@ fn insert_copy(
 /// Puts copies of pieces among the pairs.
 fn insert_pieces(
     alloc: Global,
-    map: &mut IndexMap<Key, Value>,
+    map: &mut KeyedMap<Value>,
     pieces: &TextPieces,
 ) -> Result<(), AllocError>
     ensures { OnOk result (entries_of map.new.entries
@@ -92,7 +92,7 @@ fn insert_pieces(
 #[inline(never)]
 fn unfold(
     alloc: Global,
-    map: &mut IndexMap<Key, Value>,
+    map: &mut KeyedMap<Value>,
     pieces: &mut TextPieces,
 ) -> Result<(), AllocError>
     requires { map.old.entries ≡ [] }
@@ -118,7 +118,7 @@ fn unfold(
 #[inline]
 fn settle(
     alloc: Global,
-    map: &mut IndexMap<Key, Value>,
+    map: &mut KeyedMap<Value>,
     pieces: &mut TextPieces,
 ) -> Result<(), AllocError>
     requires { AreApart pieces.old map.old.entries }
@@ -134,7 +134,7 @@ fn settle(
 }
 
 /// All keys of a map, lent, in the order of its pairs.
-fn map_keys(alloc: Global, pairs: &IndexMap<Key, Value>) -> Result<Vec<Headed<'_>>, AllocError>
+fn map_keys(alloc: Global, pairs: &KeyedMap<Value>) -> Result<Vec<Headed<'_>>, AllocError>
     ensures { IfOk result (λ all.
         AreKeysOf (entries_of pairs.now.entries) (map (λ x. x.text.now) all.items)) }
 {
@@ -147,13 +147,13 @@ fn map_keys(alloc: Global, pairs: &IndexMap<Key, Value>) -> Result<Vec<Headed<'_
 }
 
 impl AssociativeArray {
-    /// An array without elements, whose memory comes from `alloc`.
-    pub fn new(alloc: Global) -> AssociativeArray
+    /// An array without elements, whose memory comes from `alloc` and whose keys are hashed by `seed`.
+    pub fn new(alloc: Global, seed: Seed) -> AssociativeArray
         ensures { result ≡ [] }
     {
         AssociativeArray {
             alloc,
-            map: IndexMap::new(alloc),
+            map: IndexMap::with_hasher(alloc, seed),
             pieces: TextPieces::new(alloc),
         }
     }
@@ -279,7 +279,8 @@ impl AssociativeArray {
     pub fn copy(&self, alloc: Global) -> Result<AssociativeArray, AllocError>
         ensures { IfOk result (λ copy. copy ≡ self.now) }
     {
-        let mut map = IndexMap::with_capacity(alloc, self.len())?;
+        let seed = *self.map.hasher();
+        let mut map = IndexMap::with_capacity_and_hasher(alloc, self.len(), seed)?;
         let mut place = self.map.len();
         while place > 0 {
             place -= 1;

@@ -11,5 +11,5 @@ mod pieces;
 mod texts;
 
 pub use array::{AssociativeArray, Element};
-pub use pawk_keyed_map::{Key, Query};
+pub use pawk_keyed_map::{Key, Query, Seed};
 pub use texts::Texts;

@@ -79,7 +79,13 @@ pub(crate) fn call<W: World>(
         None => Ok(Value::Uninit),
         Some(function) => {
             let open = run.arrays.len();
-            let fresh = parameters(run.alloc, arguments, &function.kinds, &mut run.arrays)?;
+            let fresh = parameters(
+                run.alloc,
+                run.seed,
+                arguments,
+                &function.kinds,
+                &mut run.arrays,
+            )?;
             let saved = mem::replace(&mut run.frame, fresh);
             let inner = Layer {
                 context: layer.context,

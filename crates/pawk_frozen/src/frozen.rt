@@ -46,10 +46,11 @@ impl<'a> Frozen<'a> {
         ensures { IfOk result (λ frozen.
             frozen ≡ spec.blank_world fixed.entry.now (roles_view roles.entry.now)) }
     {
+        let (scalars, arrays) = (fixed.scalar_count(), fixed.array_count());
         Ok(Frozen {
             fixed,
             roles,
-            table: Table::blank(alloc, fixed.scalar_count(), fixed.array_count())?,
+            table: Table::blank(alloc, fixed.seed(), scalars, arrays)?,
         })
     }
 

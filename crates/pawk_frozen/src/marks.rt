@@ -16,7 +16,7 @@ use crate::mark::CellMark;
 use indexmap::IndexMap;
 use indexmap::map::IntoIter;
 use pawk_code::word::Sign;
-use pawk_keyed_map::{Key, place_of};
+use pawk_keyed_map::{Key, KeyedMap, Seed, place_of};
 use pawk_value::ValueRef;
 use pawk_world::Halt;
 use std::alloc::{AllocError, Global};
@@ -27,7 +27,7 @@ use std::marker::Model;
 #[derive(Drop)]
 pub struct ElementMarks {
     alloc: Global,
-    map: IndexMap<Key, CellMark>,
+    map: KeyedMap<CellMark>,
 }
 
 impl Model for ElementMarks {
@@ -71,13 +71,13 @@ impl MarkPairs {
 }
 
 impl ElementMarks {
-    /// Nothing noted. Takes no memory.
-    pub(crate) fn new(alloc: Global) -> ElementMarks
+    /// Nothing noted; keys are hashed by `seed`. Takes no memory.
+    pub(crate) fn new(alloc: Global, seed: Seed) -> ElementMarks
         ensures { result ≡ [] }
     {
         ElementMarks {
             alloc,
-            map: IndexMap::new(alloc),
+            map: IndexMap::with_hasher(alloc, seed),
         }
     }
 

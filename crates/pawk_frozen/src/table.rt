@@ -12,6 +12,7 @@ ghost use Rattle.pawk_frozen.specs.MarkViews.{kept, mark_view};
 
 use crate::mark::CellMark;
 use crate::marks::ElementMarks;
+use pawk_array::Seed;
 use pawk_code::word::Sign;
 use pawk_value::{ValueRef, push_text_lent};
 use pawk_world::Halt;
@@ -51,25 +52,30 @@ fn blank_marks(alloc: Global, count: usize) -> Result<Vec<CellMark>, AllocError>
 }
 
 /// Nothing noted of `count` arrays.
-fn empty_marks(alloc: Global, count: usize) -> Result<Vec<ElementMarks>, AllocError>
+fn empty_marks(alloc: Global, seed: Seed, count: usize) -> Result<Vec<ElementMarks>, AllocError>
     ensures { IfOk result (λ marks. marks.items ≡ replicate count []) }
 {
     let mut marks = Vec::with_capacity(alloc, count)?;
     for _ in 0..count {
-        marks.push(ElementMarks::new(alloc))?;
+        marks.push(ElementMarks::new(alloc, seed))?;
     }
     Ok(marks)
 }
 
 impl Table {
-    /// Nothing noted of the scalars and arrays of these numbers.
-    pub(crate) fn blank(alloc: Global, scalars: usize, arrays: usize) -> Result<Table, AllocError>
+    /// Nothing noted of the scalars and arrays of these numbers; keys are hashed by `seed`.
+    pub(crate) fn blank(
+        alloc: Global,
+        seed: Seed,
+        scalars: usize,
+        arrays: usize,
+    ) -> Result<Table, AllocError>
         ensures { IfOk result (λ table. table ≡ blank_table scalars arrays) }
     {
         Ok(Table {
             alloc,
             scalars: blank_marks(alloc, scalars)?,
-            arrays: empty_marks(alloc, arrays)?,
+            arrays: empty_marks(alloc, seed, arrays)?,
         })
     }
 

@@ -1,3 +1,4 @@
+pub mod Hashing
 pub mod Keyed
 pub mod Keys
 pub mod Pairs

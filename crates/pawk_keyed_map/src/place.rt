@@ -1,18 +1,22 @@
-//! The places of keys in a map.
+//! Maps from keys, and the places of keys in them.
 
 ghost use Rattle.std.specs.Prelude.{◌≡◌, IfOk, OnErr, OnOk};
 ghost use Rattle.pawk_keyed_map.specs.Keyed.{touched_by};
 ghost use Rattle.pawk_keyed_map.specs.Pairs.{HasKeyAt, by_key};
 
 use crate::key::{Key, Query};
+use crate::seed::Seed;
 use indexmap::IndexMap;
 use std::alloc::{AllocError, Global};
+
+/// A map from keys, which are hashed by its seed.
+pub type KeyedMap<V> = IndexMap<Key, V, Seed>;
 
 /// The place of a key among the pairs; a key that is missing is added, with this value. Memory is
 /// refused only then, and the pairs are as before.
 pub fn place_of<V: Drop>(
     alloc: Global,
-    map: &mut IndexMap<Key, V>,
+    map: &mut KeyedMap<V>,
     key: &[u8],
     fresh: V,
 ) -> Result<usize, AllocError>

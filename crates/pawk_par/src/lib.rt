@@ -10,6 +10,7 @@ mod writing;
 
 pub use pawk_device::{Failed, Reader, Sink, Source, Writer};
 pub use pawk_settings::SettingsRefusal;
+pub use pawk_store::Seed;
 pub use pawk_syntax::SyntaxRefusal;
 pub use pawk_threads::{
     ChunkResult, Chunked, Cutting, Ending, Gate, Job, Left, Open, Opening, Outcome, Place, Refusal,

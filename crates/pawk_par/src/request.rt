@@ -1,5 +1,6 @@
 //! What is asked of a run over streams.
 
+use pawk_store::Seed;
 use pawk_threads::Cutting;
 
 /// What is asked of a run over streams.
@@ -18,4 +19,7 @@ pub struct Request<'a> {
     pub cutting: &'a Cutting,
     /// How many workers there are at most, 1 to 64.
     pub workers: usize,
+    /// What the keys of elements are hashed by: where others choose the input, another in each run. What a run gives
+    /// does not depend on it.
+    pub seed: Seed,
 }

@@ -57,6 +57,7 @@ pub fn run_streams<S: Source, K: Sink, G: Gate + Sync, R: Threads + Wait>(
     let job = Job {
         code: &code,
         budget: request.budget,
+        seed: request.seed,
     };
     let mut input = read_input(alloc, job, source)?;
     let way = Way {

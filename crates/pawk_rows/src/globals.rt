@@ -29,7 +29,7 @@ use crate::pieces::pieces_between;
 use crate::text::{decode, number, piece, push_encoded, push_fault};
 use pawk_array::Texts;
 use pawk_code::word::Sign;
-use pawk_store::Globals;
+use pawk_store::{Globals, Seed};
 use pawk_value::{lend, lend_held, to_num};
 use pawk_world::{Halt, World};
 use std::alloc::{AllocError, Global};
@@ -46,7 +46,7 @@ fn begin(alloc: Global) -> Result<Globals, AllocError> {
     for name in &NAMES {
         names.push(Vec::from_slice(alloc, *name)?)?;
     }
-    Globals::open(alloc, names.as_slice(), 2, &[])
+    Globals::open(alloc, Seed::new(0), names.as_slice(), 2, &[])
 }
 
 /// The slot that a call names.

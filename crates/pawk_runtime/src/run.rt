@@ -7,7 +7,7 @@ ghost use Rattle.pawk_value.specs.Value.{shown};
 ghost use Rattle.pawk_store.specs.StateViews.{state_of};
 ghost use Rattle.pawk_runtime.specs.Moments.{hold_of, holds_of};
 
-use pawk_array::AssociativeArray;
+use pawk_array::{AssociativeArray, Seed};
 use pawk_builtins::Matchers;
 use pawk_code::program::ParameterKind;
 use pawk_store::RecordState;
@@ -28,6 +28,8 @@ pub enum Parameter {
 #[derive(Drop)]
 pub struct Run<'a> {
     pub alloc: Global,
+    /// What keys of elements of local arrays are hashed by.
+    pub seed: Seed,
     /// The record, and what is kept from record to record.
     pub state: RecordState<'a>,
     /// The parameters of the function that runs; none outside of functions.
@@ -49,6 +51,7 @@ impl<'a> Run<'a> {
     /// with matchers for this many expressions between slashes. An error where memory is refused.
     pub fn new(
         alloc: Global,
+        seed: Seed,
         state: RecordState<'a>,
         left: u64,
         expressions: usize,
@@ -58,6 +61,7 @@ impl<'a> Run<'a> {
     {
         Ok(Run {
             alloc,
+            seed,
             matchers: Matchers::new(alloc, expressions)?,
             state,
             frame: Vec::new(alloc),
@@ -155,6 +159,7 @@ pub fn give_back_frame(
 /// A parameter that got no argument: a scalar without a value, or an empty array that is opened.
 fn open_local(
     alloc: Global,
+    seed: Seed,
     kind: ParameterKind,
     arrays: &mut Vec<AssociativeArray>,
 ) -> Result<Parameter, AllocError>
@@ -166,7 +171,7 @@ fn open_local(
         ParameterKind::Scalar => Ok(Parameter::Value(Value::Uninit)),
         ParameterKind::Array => {
             let number = arrays.len();
-            arrays.push(AssociativeArray::new(alloc))?;
+            arrays.push(AssociativeArray::new(alloc, seed))?;
             Ok(Parameter::Local(number))
         }
     }
@@ -186,6 +191,7 @@ pub fn close_arrays(arrays: &mut Vec<AssociativeArray>, count: usize)
 /// scalar without a value, or an empty array that is opened.
 fn fill_frame(
     alloc: Global,
+    seed: Seed,
     arguments: Vec<Parameter>,
     kinds: &[ParameterKind],
     arrays: &mut Vec<AssociativeArray>,
@@ -197,7 +203,7 @@ fn fill_frame(
     let mut frame = arguments;
     let given = frame.len();
     for kind in &kinds[given..] {
-        let parameter = open_local(alloc, *kind, arrays)?;
+        let parameter = open_local(alloc, seed, *kind, arrays)?;
         frame.push(parameter)?;
     }
     Ok(frame)
@@ -210,6 +216,7 @@ fn fill_frame(
 #[inline(always)]
 pub fn parameters(
     alloc: Global,
+    seed: Seed,
     arguments: Vec<Parameter>,
     kinds: &[ParameterKind],
     arrays: &mut Vec<AssociativeArray>,
@@ -218,7 +225,7 @@ pub fn parameters(
         ≡ record { frame = holds_of frame.items; arrays = arrays.new.items }) }
 {
     if arguments.len() < kinds.len() {
-        return fill_frame(alloc, arguments, kinds, arrays);
+        return fill_frame(alloc, seed, arguments, kinds, arrays);
     }
     Ok(arguments)
 }

@@ -7,12 +7,15 @@ ghost use Rattle.pawk_semantics.specs.Runs as spec;
 
 use pawk_code::program::Code;
 use pawk_eval::Context;
+use pawk_store::Seed;
 
-/// What is run, and how many steps BEGIN, each record and END may take.
+/// What is run, how many steps BEGIN, each record and END may take, and what the keys of elements are hashed by,
+/// which changes nothing of what a run gives.
 #[derive(Clone, Copy)]
 pub struct Job<'p> {
     pub code: &'p Code,
     pub budget: u64,
+    pub seed: Seed,
 }
 
 impl<'p> Job<'p> {

@@ -59,7 +59,13 @@ pub fn opening_run<'a>(alloc: Global, job: Job<'_>) -> Result<Run<'a>, AllocErro
         × (state_of run.state ≡ opening (length (code_view job.entry.code.now).rules))) }
 {
     let state = RecordState::new(alloc, job.code.rules.len())?;
-    let run = Run::new(alloc, state, job.budget, job.code.expressions.len())?;
+    let run = Run::new(
+        alloc,
+        job.seed,
+        state,
+        job.budget,
+        job.code.expressions.len(),
+    )?;
     Ok(run)
 }
 
@@ -82,7 +88,7 @@ pub fn run_one(
 {
     let names = job.code.scalars.as_slice();
     let arrays = job.code.arrays.len();
-    let mut globals = Globals::open(alloc, names, arrays, assignments)?;
+    let mut globals = Globals::open(alloc, job.seed, names, arrays, assignments)?;
     let run = opening_run(alloc, job)?;
     let finish = run_program(job, input, &mut globals, run)?;
     Ok(Outcome::of(finish, globals))

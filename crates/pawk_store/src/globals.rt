@@ -9,7 +9,7 @@ ghost use Rattle.pawk_store.specs.Openings.{texts_of, pairs_of, opened};
 use crate::appending::append_in;
 use crate::copies::{copy_arrays, copy_scalars};
 use crate::openings::{empty_arrays, extra_names, push_opening_values};
-use pawk_array::{AssociativeArray, Element, Texts};
+use pawk_array::{AssociativeArray, Element, Seed, Texts};
 use pawk_code::word::Sign;
 use pawk_settings::Assignment;
 use pawk_value::{Fault, Held, Value, ValueRef, assign, hold, lend, to_num, to_num_lent};
@@ -23,6 +23,7 @@ use std::ops::Range;
 #[derive(Drop)]
 pub struct Globals {
     pub(crate) alloc: Global,
+    pub(crate) seed: Seed,
     pub(crate) scalars: Vec<Value>,
     pub(crate) arrays: Vec<AssociativeArray>,
 }
@@ -71,9 +72,11 @@ impl Globals {
     /// The globals with which a run begins, for a program with scalars of these names, by their slots,
     /// and this number of arrays: the variables of the language have their values, then the assignments are
     /// made in their order (POSIX.1-2017, awk, "Variables and Special Variables"). A name that is
-    /// assigned and is not of the program has a slot after those of the program.
+    /// assigned and is not of the program has a slot after those of the program. Keys of elements are hashed by
+    /// `seed`.
     pub fn open(
         alloc: Global,
+        seed: Seed,
         names: &[Vec<u8>],
         arrays: usize,
         assignments: &[Assignment],
@@ -87,8 +90,9 @@ impl Globals {
         push_opening_values(alloc, assignments, extras.as_slice(), &mut scalars)?;
         Ok(Globals {
             alloc,
+            seed,
             scalars,
-            arrays: empty_arrays(alloc, arrays)?,
+            arrays: empty_arrays(alloc, seed, arrays)?,
         })
     }
 
@@ -106,12 +110,18 @@ impl Globals {
         }
     }
 
+    /// What keys of elements are hashed by.
+    pub fn seed(&self) -> Seed {
+        self.seed
+    }
+
     /// A copy that holds its own bytes.
     pub fn copy(&self, alloc: Global) -> Result<Globals, AllocError>
         ensures { IfOk result (λ copy. copy ≡ self.now) }
     {
         Ok(Globals {
             alloc,
+            seed: self.seed,
             scalars: copy_scalars(alloc, self.scalars.as_slice())?,
             arrays: copy_arrays(alloc, self.arrays.as_slice())?,
         })
@@ -225,7 +235,7 @@ impl World for Globals {
     fn keys(&mut self, array: usize) -> Result<Texts, Halt> {
         match self.arrays.get(array) {
             Some(elements) => Ok(elements.keys(self.alloc)?),
-            None => Ok(AssociativeArray::new(self.alloc).keys(self.alloc)?),
+            None => Ok(Texts::new(self.alloc)),
         }
     }
 }

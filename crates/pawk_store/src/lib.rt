@@ -16,5 +16,6 @@ mod state;
 
 pub use globals::Globals;
 pub use listing::{Content, Named, Names};
+pub use pawk_array::Seed;
 pub use specials::Specials;
 pub use state::RecordState;

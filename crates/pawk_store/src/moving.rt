@@ -42,7 +42,7 @@ impl Globals {
         ensures elements { result ≡ array_at self.old slot }
         ensures globals { self.new ≡ with_array slot [] self.old }
     {
-        let empty = AssociativeArray::new(self.alloc);
+        let empty = AssociativeArray::new(self.alloc, self.seed);
         match self.arrays.get_mut(slot) {
             Some(elements) => replace(elements, empty),
             None => empty,

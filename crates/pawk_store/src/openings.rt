@@ -5,7 +5,7 @@ ghost use Rattle.pawk_value.specs.Value.{lent_value, shown};
 ghost use Rattle.pawk_store.specs.Openings.{texts_of, pairs_of, names_with, is_named_in, with_name};
 ghost use Rattle.pawk_store.specs.Openings as spec;
 
-use pawk_array::AssociativeArray;
+use pawk_array::{AssociativeArray, Seed};
 use pawk_settings::Assignment;
 use pawk_value::{Value, ValueRef, copy_lent};
 use std::alloc::{AllocError, Global};
@@ -106,12 +106,16 @@ pub(crate) fn extra_names(
 }
 
 /// `count` arrays without elements.
-pub(crate) fn empty_arrays(alloc: Global, count: usize) -> Result<Vec<AssociativeArray>, AllocError>
+pub(crate) fn empty_arrays(
+    alloc: Global,
+    seed: Seed,
+    count: usize,
+) -> Result<Vec<AssociativeArray>, AllocError>
     ensures { IfOk result (λ arrays. arrays.items ≡ replicate count []) }
 {
     let mut arrays = Vec::new(alloc);
     for _ in 0..count {
-        arrays.push(AssociativeArray::new(alloc))?;
+        arrays.push(AssociativeArray::new(alloc, seed))?;
     }
     Ok(arrays)
 }

@@ -55,7 +55,7 @@ impl Globals {
     {
         match self.arrays.get(array) {
             Some(elements) => elements.keys(self.alloc),
-            None => AssociativeArray::new(self.alloc).keys(self.alloc),
+            None => Ok(Texts::new(self.alloc)),
         }
     }
 }

@@ -111,6 +111,7 @@ fn run_lines<R: AllocGlobal + Threads + Wait>(
         budget,
         cutting: &cutting,
         workers: 2,
+        seed: Seed::new(0),
     };
     let mut source = Reader::new(Trickle {
         rest: b"1\n2\n3\n",

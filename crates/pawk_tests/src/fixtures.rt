@@ -6,7 +6,7 @@ ghost use Rattle.pawk_threads.specs.Cuttings.{IsSized};
 
 use pawk_code::program::Code;
 use pawk_input::Input;
-use pawk_par::{Cutting, Ending, Gate, Job, Outcome, Place, Refusal, Route, Way, run};
+use pawk_par::{Cutting, Ending, Gate, Job, Outcome, Place, Refusal, Route, Seed, Way, run};
 use pawk_resolve_program::program::resolve;
 use pawk_syntax::parse;
 use pawk_value::Fault;
@@ -98,6 +98,7 @@ where
     let job = Job {
         code: &code,
         budget: 1000,
+        seed: Seed::new(0),
     };
     Ok(match run(rt, alloc, job, &[], &mut input, way, gate) {
         Ok((outcome, report)) => Some(is_shown(&outcome, report.route, shown)),

@@ -13,7 +13,7 @@ use pawk_board::{Board, BoardSeat};
 use pawk_code::program::Code;
 use pawk_input::{Input, Plan};
 use pawk_par::{ChunkResult, Chunked, Gate, Job, Left, Opening, Route, Task, work};
-use pawk_store::{Globals, RecordState};
+use pawk_store::{Globals, RecordState, Seed};
 use pawk_value::Fault;
 use std::alloc::{AllocError, Global};
 use std::sync::atomic::{AtomicU64, Ordering};
@@ -220,9 +220,13 @@ fn both_run<G: Gate + Sync, R: AllocGlobal + Threads>(
     let roles = admit(alloc, code).map_err(|_| "not admitted")?;
     let state = RecordState::new(alloc, code.rules.len())?;
     let names = code.scalars.as_slice();
-    let globals = Globals::open(alloc, names, code.arrays.len(), &[])?;
+    let globals = Globals::open(alloc, Seed::new(0), names, code.arrays.len(), &[])?;
     let opening = Opening {
-        job: Job { code, budget: 1000 },
+        job: Job {
+            code,
+            budget: 1000,
+            seed: Seed::new(0),
+        },
         globals: &globals,
         roles: &roles,
         state: &state,

@@ -56,7 +56,7 @@ pub(crate) fn begin<'a>(
 {
     let names = job.code.scalars.as_slice();
     let arrays = job.code.arrays.len();
-    let mut globals = Globals::open(alloc, names, arrays, assignments)?;
+    let mut globals = Globals::open(alloc, job.seed, names, arrays, assignments)?;
     let mut run = opening_run(alloc, job)?;
     let left = run_begin(job, &mut globals, &mut run)?;
     Ok(Prologue { globals, run, left })
