@@ -1,6 +1,7 @@
 pub mod ReplacementLemmas
 pub mod ReplaceLemmas
 pub mod SplitLemmas
+pub mod LongLemmas
 pub mod MatchLemmas
 pub mod FormatLemmas
 pub mod OccurrenceLemmas

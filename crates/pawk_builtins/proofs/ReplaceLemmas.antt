@@ -1,5 +1,5 @@
 -- Searches skip the bytes at which no match starts.
-use Rattle.std.proofs.Common.{◌≡◌, ℕ, zero, suc, ◌+◌, ◌-◌, ◌<◌, ◌≤◌, arith, Bool, true, false, cond, eqb, eqb-true, eq-eqb, Ok, IfSome, ltb, not, ◌||◌, if◌then◌else◌, Option, Some, None, List, [], ◌∷◌, ◌++◌, length, take, drop, slice_range, refl, sym, ap, ◌∙◌, subst, ⊎_elim, length-drop, append_assoc, zero-add}
+use Rattle.std.proofs.Common.{◌≡◌, ℕ, zero, suc, ◌+◌, ◌-◌, ◌<◌, ◌≤◌, arith, Bool, true, false, cond, eqb, eqb-true, eq-eqb, Ok, IfSome, ltb, not, ◌||◌, if◌then◌else◌, Option, Some, None, List, [], ◌∷◌, ◌++◌, length, take, drop, slice_range, refl, sym, ap, ◌∙◌, subst, ⊎_elim, length-drop, append_assoc, zero-add, inl}
 use Rattle.std.proofs.Math.Seq.{take-add}
 use Rattle.std.proofs.lemmas.List.Folds.{drop_split}
 use Rattle.pawk_code.specs.declared.word.ReplacedMatches.TheVariants.{First, All}
@@ -13,7 +13,8 @@ use Rattle.pawk_fields.specs.Search.{find, first_match, last_end, longest_end, m
 use Rattle.pawk_fields.proofs.SearchLemmas.{cons_at, nil_at, find_law_lem}
 use Rattle.pawk_semantics.specs.Builtins.{Replaced, replaced, replaced_at, replacement, replace_from, replace_here, replace_end, onto, one_more}
 use Rattle.pawk_builtins.specs.ReplaceWalks.{replaced_after, from_after, is_past, match_replaced, found_replaced, is_used, IsAhead, IsNextReplaced, IsLaidOut}
-use Rattle.pawk_builtins.specs.Replaces.{Left}
+use Rattle.pawk_builtins.specs.Replaces.{IsOrBothTooLong, Left}
+use Rattle.pawk_builtins.proofs.LongLemmas.{ended}
 use Rattle.pawk_ere.specs.Answers.{IsAnswer}
 use Rattle.pawk_builtins.proofs.MatchLemmas.{find_inside, first_within}
 
@@ -414,7 +415,11 @@ first_ahead e s o answer = unused_ahead e s 0 false o (omega arith) answer (go o
     go (Some m) = refl
 
 pub first_none : (e : Pattern) (r s out : List ℕ) → None ≡ find e s 0 → Left out 0 (Ok (replaced First e r s))
-first_none e r s out is = subst (λ (o : Option (ℕ × ℕ)). Left out 0 (Ok (replaced_at r s o))) is (refl, λ h. absurd (omega arith))
+first_none e r s out is = subst (λ (o : Option (ℕ × ℕ)). Left out 0 (Ok (replaced_at r s o))) is (inl (refl, λ h. absurd (omega arith)))
 
-pub first_some : (e : Pattern) (r s out : List ℕ) (m : ℕ × ℕ) → Some m ≡ find e s 0 → out ≡ take m.0 s ++ (replacement (slice_range s m.0 m.1) r ++ drop m.1 s) → Left out 1 (Ok (replaced First e r s))
-first_some e r s out m is laid = subst (λ (o : Option (ℕ × ℕ)). Left out 1 (Ok (replaced_at r s o))) is (refl, λ h. sym laid)
+pub first_some : (e : Pattern) (r s text out : List ℕ) (m : ℕ × ℕ) → Some m ≡ find e s 0 → IsOrBothTooLong text (take m.0 s ++ replacement (slice_range s m.0 m.1) r) → out ≡ text ++ drop m.1 s →
+    Left out 1 (Ok (replaced First e r s))
+first_some e r s text out m is laid new =
+    let found = replacement (slice_range s m.0 m.1) r in
+    subst (λ (o : Option (ℕ × ℕ)). Left out 1 (Ok (replaced_at r s o))) is
+    (ended text (take m.0 s ++ found) (drop m.1 s) out (replaced_at r s (Some m)) laid new refl (sym (append_assoc (take m.0 s) found (drop m.1 s))))

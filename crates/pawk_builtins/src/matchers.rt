@@ -199,7 +199,8 @@ impl Matchers {
     }
 
     /// Replaces the first match in a text, or all from left to right, and says how many. The new text
-    /// is written into `out`, which was empty, where there is one; nothing is copied where nothing matches.
+    /// is written into `out`, which was empty, where there is one; nothing is copied where nothing matches, and
+    /// no more where it is longer than a text may be.
     ///
     /// Fault `ere` as [`Matchers::find`] has it.
     ///

@@ -8,7 +8,7 @@ ghost use Rattle.pawk_semantics.specs.Builtins.{replaced};
 ghost use Rattle.pawk_semantics.specs.Builtins as spec;
 ghost use Rattle.pawk_builtins.specs.ReplaceWalks as spec_walks;
 ghost use Rattle.pawk_builtins.specs.ReplaceWalks.{from_after, is_past, IsAhead, IsNextReplaced};
-ghost use Rattle.pawk_builtins.specs.Replaces.{Left};
+ghost use Rattle.pawk_builtins.specs.Replaces.{IsOrBothTooLong, Left};
 ghost use Rattle.pawk_builtins.specs.MatcherViews.{AreOfTheirTexts, IsReplaced};
 ghost use Rattle.pawk_ere.specs.Caches.{IsOfItsText};
 ghost use Rattle.pawk_fields.specs.FieldsOf.{TellsNone};
@@ -17,7 +17,7 @@ use crate::replacement::{push_piece, push_replacement};
 use crate::slot::{fill_slot, lend_matcher};
 use pawk_code::word::ReplacedMatches;
 use pawk_ere::{Cache, Loan, Matcher};
-use pawk_value::Stop;
+use pawk_value::{LENGTH_LIMIT, Stop};
 use std::alloc::{AllocError, Global};
 
 /// Whether what is found is an empty match at a place where a match that is not empty ended.
@@ -70,7 +70,8 @@ fn place_past(text: &[u8], begin: usize, end: usize) -> (usize, bool)
     }
 }
 
-/// Appends the text from a place up to a match, and what stands for the match.
+/// Appends the text from a place up to a match, and what stands for the match; no more of that where the
+/// text is longer than a text may be.
 fn push_match(
     out: &mut Vec<u8>,
     text: &[u8],
@@ -80,15 +81,16 @@ fn push_match(
 ) -> Result<(), AllocError>
     requires place { place ≤ found.0 }
     requires found { (found.0 ≤ found.1) × (found.1 ≤ length text.now) }
-    ensures { OnOk result (out.new.items ≡ out.old.items ++ slice_range text.now place found.0
-        ++ spec.replacement (slice_range text.now found.0 found.1) replacement.now) }
+    ensures { OnOk result (IsOrBothTooLong out.new.items
+        (out.old.items ++ slice_range text.now place found.0
+        ++ spec.replacement (slice_range text.now found.0 found.1) replacement.now)) }
 {
     push_piece(out, &text[place..found.0])?;
     push_replacement(out, &text[found.0..found.1], replacement)
 }
 
 /// Writes a text with all matches replaced into `out`, which was empty, if there are some, and says how
-/// many.
+/// many. It ends at a match with which the text is longer than a text may be.
 fn replace_all(
     matcher: &mut Matcher,
     replacement: &[u8],
@@ -112,6 +114,9 @@ fn replace_all(
         count += 1;
         place = found.1;
         (from, behind) = place_past(text, found.0, found.1);
+        if out.len() > LENGTH_LIMIT {
+            return Ok(count);
+        }
     }
     if count > 0 {
         out.extend_from_slice(&text[place..])?;

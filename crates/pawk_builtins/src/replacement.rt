@@ -3,8 +3,10 @@
 ghost use Rattle.std.specs.Prelude.{◌≡◌, ◌≤◌, ◌∷◌, ◌++◌, ℕ, List, true, length, IfOk, OnOk};
 ghost use Rattle.pawk_semantics.specs.Builtins as spec;
 ghost use Rattle.pawk_builtins.specs.ReplaceWalks.{begins_escaped};
+ghost use Rattle.pawk_builtins.specs.Replaces.{IsOrBothTooLong};
 
 use memchr::memchr2;
+use pawk_value::LENGTH_LIMIT;
 use std::alloc::AllocError;
 
 /// Whether bytes begin with one that a backslash before it makes one of the text.
@@ -64,7 +66,7 @@ fn is_plain(replacement: &[u8]) -> bool
     }
 }
 
-/// Appends what stands for a match.
+/// Appends what stands for a match; no more where the text is longer than a text may be.
 ///
 /// POSIX.1-2017, awk, "String Functions" (`sub`).
 pub(crate) fn push_replacement(
@@ -72,14 +74,14 @@ pub(crate) fn push_replacement(
     found: &[u8],
     replacement: &[u8],
 ) -> Result<(), AllocError>
-    ensures { OnOk result (out.new.items
-        ≡ out.old.items ++ spec.replacement found.now replacement.now) }
+    ensures { OnOk result (IsOrBothTooLong out.new.items
+        (out.old.items ++ spec.replacement found.now replacement.now)) }
 {
     if is_plain(replacement) {
         return out.extend_from_slice(replacement);
     }
     let mut rest = replacement;
-    while !rest.is_empty() {
+    while !rest.is_empty() && out.len() <= LENGTH_LIMIT {
         rest = push_unit(out, found, rest[0], &rest[1..])?;
     }
     Ok(())

@@ -5,6 +5,7 @@ ghost use Rattle.pawk_value.specs.Value.{Num, lent_value};
 ghost use Rattle.pawk_value.specs.Conversion.{text_of};
 ghost use Rattle.pawk_code.specs.Expressions.{field};
 ghost use Rattle.pawk_code.specs.ExpressionViews.{leaf_view};
+ghost use Rattle.pawk_builtins.specs.Replaces.{Left};
 ghost use Rattle.pawk_semantics.specs.Builtins.{Replaced};
 ghost use Rattle.pawk_semantics.specs.Meaning.{place_of_match, put_replaced, set_match, value_of_leaf};
 ghost use Rattle.pawk_semantics.specs.Places.{
@@ -415,7 +416,7 @@ pub fn put_text<W: World>(
 ) -> Result<i64, Halt>
     requires few { count < 2 ^ 63 }
     ensures left { run.new.left ≤ run.old.left }
-    ensures outcome { (r : Replaced) → r.count ≡ count → (0 < count → r.text ≡ text.now)
+    ensures outcome { (r : Replaced) → Left text.now count (Ok r)
         → Yields (λ number. number) (put_replaced W.calls (aim_view target.now) r
         (moment (W.state world.old) run.old)) result (moment (W.state world.new) run.new) }
 {

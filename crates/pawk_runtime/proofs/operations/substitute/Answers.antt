@@ -13,8 +13,8 @@ use Rattle.pawk_runtime.specs.Yields.{Yields}
 use Rattle.pawk_runtime.proofs.operations.substitute.Goals as goal
 
 -- what is put for a text and a count is put for what was replaced
-put_for : {S : Type 0} (meant : Result Replaced Fault) (text : List ℕ) (count : ℕ) (put : Replaced → Part S ℤ) (m m' : Moment S) (result : Result ℤ Code) → Left text count meant → ((r : Replaced) → r.count ≡ count → (0 < count → r.text ≡ text) → Yields (λ (n : ℤ). n) (put r m) result m') → Yields (λ (n : ℤ). n) (bind (settle meant) put m) result m'
-put_for (Ok r) text count put m m' result left puts = puts r left.0 left.1
+put_for : {S : Type 0} (meant : Result Replaced Fault) (text : List ℕ) (count : ℕ) (put : Replaced → Part S ℤ) (m m' : Moment S) (result : Result ℤ Code) → Left text count meant → ((r : Replaced) → Left text count (Ok r) → Yields (λ (n : ℤ). n) (put r m) result m') → Yields (λ (n : ℤ). n) (bind (settle meant) put m) result m'
+put_for (Ok r) text count put m m' result left puts = puts r left
 put_for (Err f) text count put m m' result left puts = absurd left
 
 pub returns-clause-outcome : goal.returns-clause-outcome
