@@ -1,6 +1,6 @@
 //! All of a source's bytes, and all bytes to a sink.
 
-ghost use Rattle.std.specs.Prelude.{◌≡◌, ◌≤◌, ◌<◌, take, drop, length, Ok, Err, IfOk, IfErr, IfSome, OnOk};
+ghost use Rattle.std.specs.Prelude.{◌≡◌, ◌≢◌, ◌≤◌, ◌<◌, take, drop, length, Ok, Err, IfOk, IfErr, IfSome, OnOk};
 ghost use Rattle.std.specs.Io.KnownBytes.{Appends};
 
 use crate::device::{Failed, Sink, Source};
@@ -52,6 +52,8 @@ fn read_pieces<S: Source>(
     ensures bytes { IfOk result (λ v. IfSome (S.left source.old) (λ bytes. v.items ≡ bytes)) }
     ensures small { IfOk result (λ v. length v.items ≤ LIMIT) }
     ensures failed { result ≡ Err ReadStop.Failed → S.failures source.old < S.failures source.new }
+    ensures unfailing { result ≢ Err ReadStop.Failed
+        → S.failures source.new ≡ S.failures source.old }
     ensures large { result ≡ Err ReadStop.TooLarge →
         IfSome (S.left source.old) (λ bytes. LIMIT < length bytes) }
 {
@@ -73,12 +75,14 @@ fn read_pieces<S: Source>(
 
 /// Reads a source to its end, and gives all its bytes, at most as many as an input may have.
 ///
-/// `Failed` comes where a read failed, `TooLarge` where the source has more bytes than that, `Memory` where memory was
-/// refused; the source was then read in part.
+/// `Failed` comes where a read failed, and then alone; `TooLarge` where the source has more bytes than that, `Memory` where
+/// memory was refused; the source was then read in part.
 pub fn read_all<S: Source>(alloc: Global, source: &mut S) -> Result<Vec<u8>, ReadStop>
     ensures bytes { IfOk result (λ v. IfSome (S.left source.old) (λ bytes. v.items ≡ bytes)) }
     ensures small { IfOk result (λ v. length v.items ≤ LIMIT) }
     ensures failed { result ≡ Err ReadStop.Failed → S.failures source.old < S.failures source.new }
+    ensures unfailing { result ≢ Err ReadStop.Failed
+        → S.failures source.new ≡ S.failures source.old }
     ensures large { result ≡ Err ReadStop.TooLarge →
         IfSome (S.left source.old) (λ bytes. LIMIT < length bytes) }
 {

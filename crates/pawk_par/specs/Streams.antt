@@ -1,5 +1,5 @@
 -- Runs from a source to a sink.
-use Rattle.std.specs.Prelude.{◌≡◌, ℕ, ◌<◌, List, [], ◌∷◌, length, take, Option, IfSome, MatchBool, true, false}
+use Rattle.std.specs.Prelude.{◌≡◌, ◌⊎◌, ℕ, ◌<◌, List, [], ◌∷◌, length, take, Option, IfSome, MatchBool, true, false}
 use Rattle.std.specs.Io.KnownBytes.{Keeps, Appends}
 use Rattle.pawk_lex.specs.Bytes.{Text}
 use Rattle.pawk_code.specs.Programs.{Code}
@@ -33,9 +33,9 @@ devices left read_failures taken write_failures =
 abbrev pub ReadNothing : Devices → Devices → Type 0
 ReadNothing old new = Keeps old.left new.left × (new.read_failures ≡ old.read_failures)
 
--- the sink took nothing
+-- the sink took nothing, and no write failed
 abbrev pub WroteNothing : Devices → Devices → Type 0
-WroteNothing old new = Keeps old.taken new.taken
+WroteNothing old new = Keeps old.taken new.taken × (new.write_failures ≡ old.write_failures)
 
 -- standard input as the one file of an input: it has no name
 abbrev pub standard_input : List ℕ → List File
@@ -91,7 +91,7 @@ TookPart output old new count = (count < length output) × Appends old new (take
 
 -- why a source is not read to its end: the bytes that it had, and its count of failures before and after
 abbrev pub WhyUnread : Option (List ℕ) → ℕ → ℕ → StreamRefusal → Type 0
-WhyUnread left old new refusal.Memory = Unit {0}
+WhyUnread left old new refusal.Memory = new ≡ old
 WhyUnread left old new refusal.Thread = ⊥
 WhyUnread left old new refusal.Cutting = ⊥
 WhyUnread left old new (refusal.Program why) = ⊥
@@ -102,7 +102,7 @@ WhyUnread left old new refusal.Input = IfSome left (λ bytes. LIMIT < length byt
 
 -- why an output was not written to its end: the bytes that the sink took, and its count of failures, before and after
 abbrev pub WhyUnwritten : List ℕ → Option (List ℕ) → Option (List ℕ) → ℕ → ℕ → StreamRefusal → Type 0
-WhyUnwritten output old new old_failures new_failures refusal.Memory = Keeps old new
+WhyUnwritten output old new old_failures new_failures refusal.Memory = Keeps old new × (new_failures ≡ old_failures)
 WhyUnwritten output old new old_failures new_failures refusal.Thread = ⊥
 WhyUnwritten output old new old_failures new_failures refusal.Cutting = ⊥
 WhyUnwritten output old new old_failures new_failures (refusal.Program why) = ⊥
@@ -117,10 +117,17 @@ abbrev pub AreWanted : Request → Type 0
 AreWanted wanted =
     (code : Code) × (assignments : List (Text × Text)) × IsAccepted wanted code assignments × (reads_records code ≡ true)
 
+-- Memory was refused: no read and no write failed, and nothing was written; nothing was read where the request is not accepted
+-- or its code reads none.
+pub record LacksMemory (wanted : Request) (old new : Devices) : Type 0 where
+  pub wrote : WroteNothing old new
+  pub no_failure : new.read_failures ≡ old.read_failures
+  pub read : AreWanted wanted ⊎ ReadNothing old new
+
 -- What a refusal says: Nothing was written, but with Write. Nothing was read where the text or the settings are
 -- refused, and where the program reads none.
 abbrev pub WhyRefused : Request → Devices → Devices → StreamRefusal → Type 0
-WhyRefused wanted old new refusal.Memory = WroteNothing old new
+WhyRefused wanted old new refusal.Memory = LacksMemory wanted old new
 WhyRefused wanted old new refusal.Thread = Basis wanted old new × WroteNothing old new
 WhyRefused wanted old new refusal.Cutting = ((b : Basis wanted old new) × IsUncut b) × WroteNothing old new
 WhyRefused wanted old new (refusal.Program why) =

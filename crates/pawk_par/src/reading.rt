@@ -1,6 +1,6 @@
 //! What a run reads of a source.
 
-ghost use Rattle.std.specs.Prelude.{◌≡◌, ◌≤◌, false, true, IfOk, IfErr};
+ghost use Rattle.std.specs.Prelude.{◌≡◌, ◌≤◌, false, true, IfOk, IfErr, OnOk};
 ghost use Rattle.std.specs.Io.KnownBytes.{Keeps};
 ghost use Rattle.pawk_code.specs.ProgramViews.{code_view};
 ghost use Rattle.pawk_input.specs.Limits.{most_bytes};
@@ -31,6 +31,7 @@ fn read_file<S: Source>(
     ensures bytes { IfOk result (λ files.
         AreBytes (S.left source.old) (whole_files files.items)) }
     ensures small { IfOk result (λ files. total_size (whole_files files.items) ≤ most_bytes) }
+    ensures unfailing { OnOk result (S.failures source.new ≡ S.failures source.old) }
     ensures refused { IfErr result
         (WhyUnread (S.left source.old) (S.failures source.old) (S.failures source.new)) }
 {
@@ -64,6 +65,7 @@ pub(crate) fn read_input<S: Source>(
     ensures unread { reads_records (code_view job.entry.code.now) ≡ false →
         Keeps (S.left source.old) (S.left source.new)
         × (S.failures source.new ≡ S.failures source.old) }
+    ensures unfailing { OnOk result (S.failures source.new ≡ S.failures source.old) }
     ensures refused { IfErr result (λ e. (reads_records (code_view job.entry.code.now) ≡ true)
         × WhyUnread (S.left source.old) (S.failures source.old) (S.failures source.new) e) }
 {

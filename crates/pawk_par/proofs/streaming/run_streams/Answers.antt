@@ -1,4 +1,4 @@
-use Rattle.std.proofs.Common.{List, sym, subst}
+use Rattle.std.proofs.Common.{List, refl, sym, subst}
 use Rattle.std.proofs.lemmas.Result.{err_from_is_err_and}
 use Rattle.std.specs.Io.KnownBytes.{Appends}
 use Rattle.std.specs.Prelude.{ℕ}
@@ -29,7 +29,7 @@ returns-in_err-outcome-clause-refused g c =
       unread = c.in_ok-input.ensures.unread;
     } in
     let p = err_from_is_err_and c.from_residual-in_err-outcome.result c.from_residual-in_err-outcome.ensures.1 in
-    rw (p.1, p.2) (why_run wanted old new basis _ (keeps_same (g.K.Sink.taken c.args.sink.now)) c.in_err-outcome.ensures.refused)
+    rw (p.1, p.2) (why_run wanted old new basis _ (keeps_same (g.K.Sink.taken c.args.sink.now), refl) c.in_ok-input.ensures.unfailing c.in_err-outcome.ensures.refused)
 
 pub returns-in_err-write_output-clause-refused : goal.returns-in_err-write_output-clause-refused
 returns-in_err-write_output-clause-refused g c =
@@ -50,7 +50,7 @@ returns-in_err-write_output-clause-refused g c =
     let p = err_from_is_err_and c.from_residual-in_err-write_output.result c.from_residual-in_err-write_output.ensures.1 in
     let why : WhyUnwritten c.in_ok-outcome.outcome.output old.taken new.taken old.write_failures new.write_failures p.0 =
     subst (λ (e : StreamRefusal). WhyUnwritten c.in_ok-outcome.outcome.output old.taken new.taken old.write_failures new.write_failures e) (sym p.2) c.in_err-write_output.ensures.refused in
-    rw p.1 (why_unwritten wanted old new basis c.in_ok-outcome.outcome.output p.0 c.in_ok-outcome.ensures.outcome.output why)
+    rw p.1 (why_unwritten wanted old new basis c.in_ok-outcome.outcome.output p.0 c.in_ok-outcome.ensures.outcome.output c.in_ok-input.ensures.unfailing why)
 
 pub returns-clause-answered : goal.returns-clause-answered
 returns-clause-answered g c =
