@@ -462,7 +462,7 @@ where
     I: Read,
     O: Write,
 {
-    let cutting = Cutting::Size(line.chunk);
+    let cutting = Cutting::AtLeast(line.chunk);
     let request = Request {
         text,
         assigns,

@@ -4,3 +4,5 @@ pub mod EndLemmas
 pub mod MergedLemmas
 pub mod OutputLemmas
 pub mod AllowedLemmas
+pub mod TotalLemmas
+pub mod SizedLemmas

@@ -6,11 +6,13 @@ ghost use Rattle.pawk_chunks.specs.Task.{IsCrew};
 ghost use Rattle.pawk_input.specs.Counts.{block_counts};
 ghost use Rattle.pawk_input.specs.Input.{IsReady, files_of};
 ghost use Rattle.pawk_input.specs.Plan.{IsPlanOf};
-ghost use Rattle.pawk_threads.specs.Cuttings.{IsSized, IsRefused};
+ghost use Rattle.pawk_input.specs.Input as sizes;
+ghost use Rattle.pawk_threads.specs.Cuttings.{IsAsked, IsSized, IsRefused};
+ghost use Rattle.pawk_threads.specs.Cuttings as cuttings;
 
 use crate::report::Refusal;
 use pawk_chunks::{CrewRefusal, Gate};
-use pawk_input::{CutRefusal, Input, Plan, SizeStep};
+use pawk_input::{CutRefusal, Input, MOST_CHUNKS, Plan, SizeStep};
 use pawk_workers::{block_size, count_records};
 use std::alloc::Global;
 use std::sync::Wait;
@@ -45,6 +47,9 @@ pub enum Cutting {
     /// these; and the last are small, since a worker that finds no more waits for the others. By a single
     /// worker a single file of more than 16 times the size is run as one chunk.
     Size(u64),
+    /// As by [`Cutting::Size`], and by a greater size where there might be more than 1,048,576 chunks else: there is a plan
+    /// wherever no more files than that have records.
+    AtLeast(u64),
     /// One more chunk begins at each of these places: a file, and an offset in it, both counted from 0.
     At(Vec<(usize, usize)>),
 }
@@ -77,12 +82,23 @@ fn plan_here(alloc: Global, input: &Input, rs: &[u8], bytes: u64) -> Result<Plan
 }
 
 /// How many bytes all files of an input have together.
-fn total_size(input: &Input) -> u64 {
+fn total_size(input: &Input) -> u64
+    ensures { result ≡ sizes.total_size (files_of input.now) }
+{
     let mut total: u64 = 0;
     for file in 0..input.files() {
         total = total.saturating_add(input.size(file) as u64);
     }
     total
+}
+
+/// The size by which an input is cut where at least this one is asked for.
+fn size_taken(input: &Input, bytes: u64) -> u64
+    ensures size { result ≡ cuttings.size_taken (files_of input.now) bytes }
+    ensures some { 0 < result }
+{
+    let others = MOST_CHUNKS.saturating_sub(input.files()).max(1) as u64;
+    (total_size(input) / others + 1).max(bytes)
 }
 
 /// How many chunks there may be for `workers` workers before the input is cut by greater sizes.
@@ -260,6 +276,7 @@ pub(crate) fn plan_of<G: Gate + Sync, R: Threads + Wait>(
     requires workers { IsCrew way.workers }
     ensures plan { IfOk result (λ p. IsPlanOf rs.now (files_of input.now) p) }
     ensures few { IfOk result (λ p. length p ≤ most_chunks) }
+    ensures asked { IfOk result (IsAsked rs.now (files_of input.now) way.entry.cutting.now) }
     ensures accepted { IfOk result (λ _.
         ¬ IsRefused rs.now (files_of input.now) way.entry.cutting.now) }
     ensures refused { result ≡ Err Refusal.Cutting
@@ -267,6 +284,10 @@ pub(crate) fn plan_of<G: Gate + Sync, R: Threads + Wait>(
 {
     match way.cutting {
         Cutting::Size(bytes) => plan_by_size(rt, alloc, input, rs, *bytes, way.workers, gate),
+        Cutting::AtLeast(bytes) => {
+            let size = size_taken(input, *bytes);
+            plan_by_size(rt, alloc, input, rs, size, way.workers, gate)
+        }
         Cutting::At(cuts) => match Plan::at(alloc, input, rs, cuts) {
             Ok(plan) => Ok(plan),
             Err(CutRefusal::Memory) => Err(Refusal::Memory),

@@ -1,10 +1,13 @@
-//! A law of whole runs.
+//! Laws of whole runs.
 
-ghost use Rattle.std.specs.Prelude.{◌≢◌, ℕ, List};
+ghost use Rattle.std.specs.Prelude.{◌≢◌, ◌≤◌, ℕ, List, length};
 ghost use Rattle.pawk_code.specs.Programs.{Code};
 ghost use Rattle.pawk_input.specs.Input.{File};
+ghost use Rattle.pawk_input.specs.declared.cutting.TheConstants.{MOST_CHUNKS};
 ghost use Rattle.pawk_semantics.specs.Runs.{disallowed};
+ghost use Rattle.pawk_threads.specs.Cuttings.{IsRefused};
 ghost use Rattle.pawk_threads.specs.Routes.{whole_run};
+ghost use Rattle.pawk_threads.specs.declared.cutting.Cutting.TheVariants as cutting;
 
 use pawk_semantics::law::{Policy, never_disallows};
 
@@ -31,3 +34,10 @@ pub(crate) fn never_disallowed()
 {
     never_disallows::<PlainStore>();
 }
+
+/// There is a plan by at least a size wherever there are no more files than there may be chunks. A law,
+/// which takes and leaves nothing.
+pub fn at_least_law()
+    ensures { (rs : List ℕ) (files : List File) (bytes : ℕ) → length files ≤ MOST_CHUNKS
+        → ¬ IsRefused rs files (cutting.AtLeast bytes) }
+{}

@@ -10,6 +10,7 @@ mod report;
 mod running;
 
 pub use cutting::{Cutting, Way};
+pub use law::at_least_law;
 pub use pawk_chunks::{
     ChunkResult, Chunked, Gate, Open, Opening, STACK_BYTES, Task, run_chunk, work,
 };
