@@ -2,7 +2,7 @@
 
 use crate::fixtures::SUM;
 use pawk_par::{
-    Cutting, Ending, Open, Reader, Report, Request, StreamRefusal, Writer, run_streams,
+    Cutting, Ending, Open, Reader, Report, Request, Seed, StreamRefusal, Writer, run_streams,
 };
 use std::io;
 use std::io::{ErrorKind, Read, Write};

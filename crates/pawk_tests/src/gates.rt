@@ -29,11 +29,20 @@ enum Until {
     Left,
 }
 
-/// Holds one chunk until another has entered or left, for at most 10,000 turns of a millisecond. Keeps a bit for each chunk
-/// that entered and that left, and counts the calls of enter.
+/// What a gate watches: blocks that are counted, or chunks that are run.
+#[derive(Clone, Copy, PartialEq)]
+enum Watched {
+    Blocks,
+    Chunks,
+}
+
+/// Holds one block or chunk until another has entered or left, for at most 10,000 turns of a millisecond. Keeps a bit for
+/// each that entered and that left, counts the calls of enter, and notes of the output of each of the first four chunks its
+/// first byte and its length.
 #[derive(Drop)]
-struct Holding<'a> {
+pub(crate) struct Holding<'a> {
     clock: &'a HostRuntime,
+    watched: Watched,
     held: u64,
     awaited: u64,
     until: Until,
@@ -41,12 +50,20 @@ struct Holding<'a> {
     left: AtomicU64,
     enters: AtomicU64,
     gave_up: AtomicU64,
+    lent: AtomicU64,
 }
 
 impl<'a> Holding<'a> {
-    fn new(clock: &'a HostRuntime, held: u64, awaited: u64, until: Until) -> Holding<'a> {
+    fn of(
+        clock: &'a HostRuntime,
+        watched: Watched,
+        held: u64,
+        awaited: u64,
+        until: Until,
+    ) -> Holding<'a> {
         Holding {
             clock,
+            watched,
             held,
             awaited,
             until,
@@ -54,7 +71,17 @@ impl<'a> Holding<'a> {
             left: AtomicU64::new(0),
             enters: AtomicU64::new(0),
             gave_up: AtomicU64::new(0),
+            lent: AtomicU64::new(0),
         }
+    }
+
+    fn new(clock: &'a HostRuntime, held: u64, awaited: u64, until: Until) -> Holding<'a> {
+        Holding::of(clock, Watched::Chunks, held, awaited, until)
+    }
+
+    /// A gate that holds no chunk.
+    pub(crate) fn none(clock: &'a HostRuntime) -> Holding<'a> {
+        Holding::new(clock, 99, 99, Until::Left)
     }
 
     fn is_free(&self) -> bool {
@@ -64,13 +91,12 @@ impl<'a> Holding<'a> {
         };
         seen & (1 << (self.awaited % 64)) != 0
     }
-}
 
-impl Gate for Holding<'_> {
-    fn enter(&self, chunk: u64) {
+    /// A block or a chunk enters.
+    fn arrive(&self, number: u64) {
         self.enters.fetch_add(1, Ordering::SeqCst);
-        self.entered.fetch_or(1 << (chunk % 64), Ordering::SeqCst);
-        if chunk != self.held {
+        self.entered.fetch_or(1 << (number % 64), Ordering::SeqCst);
+        if number != self.held {
             return;
         }
         for _ in 0..10_000 {
@@ -82,15 +108,44 @@ impl Gate for Holding<'_> {
         self.gave_up.store(1, Ordering::SeqCst);
     }
 
+    /// A block or a chunk leaves.
+    fn depart(&self, number: u64) {
+        self.left.fetch_or(1 << (number % 64), Ordering::SeqCst);
+    }
+}
+
+impl Gate for Holding<'_> {
+    fn enter_block(&self, block: u64) {
+        if self.watched == Watched::Blocks {
+            self.arrive(block);
+        }
+    }
+
+    fn leave_block(&self, block: u64) {
+        if self.watched == Watched::Blocks {
+            self.depart(block);
+        }
+    }
+
+    fn enter(&self, chunk: u64) {
+        if self.watched == Watched::Chunks {
+            self.arrive(chunk);
+        }
+    }
+
     fn leave(&self, chunk: u64, output: Option<&[u8]>) {
-        if output.is_some() {
-            self.left.fetch_or(1 << (chunk % 64), Ordering::SeqCst);
+        if let (Watched::Chunks, Some(output)) = (self.watched, output) {
+            self.depart(chunk);
+            let first = u64::from(output.first().copied().unwrap_or(0));
+            let note = first << 8 | output.len() as u64 & 255;
+            self.lent
+                .fetch_or(note << (16 * (chunk % 4)), Ordering::SeqCst);
         }
     }
 }
 
 /// What a gate saw: whether it gave up, how often a chunk entered, and a bit for each that entered and that left.
-fn seen_by(gate: &Holding<'_>) -> (u64, u64, u64, u64) {
+pub(crate) fn seen_by(gate: &Holding<'_>) -> (u64, u64, u64, u64) {
     (
         gate.gave_up.load(Ordering::SeqCst),
         gate.enters.load(Ordering::SeqCst),
@@ -111,6 +166,20 @@ fn two_workers_run_at_once(rt: HostRuntime) -> Result<(), Fail> {
     Ok(())
 }
 
+// Two workers count the records of blocks at once: each block is held until the other has entered.
+#[test]
+fn two_workers_count_at_once(rt: HostRuntime) -> Result<(), Fail> {
+    let line = vec![in rt.alloc(); b'x'; 131_072]?;
+    for (held, awaited) in [(0, 1), (1, 0)] {
+        let gate = Holding::of(&rt, Watched::Blocks, held, awaited, Until::Entered);
+        let shown = chunks_show(b"1\n");
+        let is_shown = shows(&rt, b"END { print NR }", &line, 2, &gate, shown)?;
+        assert!(rt; seen_by(&gate) == (0, 2, 3, 3), "block {held} was held");
+        assert!(rt; is_shown);
+    }
+    Ok(())
+}
+
 /// Lines whose sum ends in a fault at the third.
 const FAULTY: &[u8] = b"1\n2\n12.5\n4\n";
 
@@ -124,7 +193,7 @@ const FAULT_AT_THREE: RunOutcome<'static> = RunOutcome {
 // One worker: the chunk past the fault is skipped without the gate.
 #[test]
 fn skips_past_a_fault(rt: HostRuntime) -> Result<(), Fail> {
-    let gate = Holding::new(&rt, 99, 99, Until::Left);
+    let gate = Holding::none(&rt);
     let is_shown = shows(&rt, SUM, FAULTY, 1, &gate, FAULT_AT_THREE)?;
     assert!(rt; seen_by(&gate) == (0, 3, 7, 7));
     assert!(rt; is_shown);
@@ -239,7 +308,7 @@ fn both_run<G: Gate + Sync, R: AllocGlobal + Threads>(
     both_work(rt, opening, source, gate)
 }
 
-// Two threads of the test's own, each with a seat: each runs one chunk.
+// Two threads of the test's own, each with a seat: each runs one chunk, and the gate is lent its output.
 #[test]
 fn two_threads_work(rt: HostRuntime) -> Result<(), Fail> {
     let mut input = one_file(rt.alloc(), b"5\n7\n")?;
@@ -250,5 +319,6 @@ fn two_threads_work(rt: HostRuntime) -> Result<(), Fail> {
     let (zero, one) = (Some((0, b'5')), Some((1, b'7')));
     assert!(rt; seen_by(&gate) == (0, 2, 3, 3));
     assert!(rt; lines == (zero, one) || lines == (one, zero));
+    assert!(rt; gate.lent.load(Ordering::SeqCst) == 0x3702_3502);
     Ok(())
 }
