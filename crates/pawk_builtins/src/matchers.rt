@@ -25,7 +25,7 @@ use std::marker::Model;
 use std::ops::Range;
 
 /// How many matchers of expressions that were values are kept, beside the one that was used last.
-const CACHE_SIZE: usize = 64;
+const CACHE_SIZE: usize = 1024;
 
 /// Places in a longer text are no numbers of 64 bits with a sign, and no memory holds one.
 const LONGEST_TEXT: usize = 9_223_372_036_854_775_806;

@@ -73,13 +73,7 @@ fn chunk_run<'a>(alloc: Global, opening: Opening<'_, 'a>, nr: u64) -> Result<Run
 {
     let state = chunk_state(alloc, opening.state, nr)?;
     let expressions = opening.job.code.expressions.len();
-    let run = Run::new(
-        alloc,
-        opening.job.seed,
-        state,
-        opening.job.budget,
-        expressions,
-    )?;
+    let run = Run::new(alloc, state, opening.job.budget, expressions)?;
     Ok(run)
 }
 

@@ -42,6 +42,17 @@ fn zeros(alloc: Global, count: usize) -> Result<Vec<u8>, AllocError>
     vec![in alloc; 0u8; count]
 }
 
+/// Makes room for more bytes. Where there is none, an eighth of what is there is added, so that what was read never takes
+/// much more than itself.
+fn make_room(bytes: &mut Vec<u8>, count: usize) -> Result<(), AllocError>
+    ensures { bytes.new.items ≡ bytes.old.items }
+{
+    if bytes.capacity() - bytes.len() < count {
+        bytes.reserve_exact(count.max(bytes.len() / 8))?;
+    }
+    Ok(())
+}
+
 /// Reads a source to its end, a piece at a time.
 fn read_pieces<S: Source>(
     alloc: Global,
@@ -66,6 +77,7 @@ fn read_pieces<S: Source>(
         if count == 0 {
             return Ok(bytes);
         }
+        make_room(&mut bytes, count)?;
         bytes.extend_from_slice(&piece[..count])?;
         if bytes.len() as u64 > LIMIT {
             return Err(ReadStop::TooLarge);

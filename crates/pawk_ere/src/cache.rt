@@ -102,7 +102,7 @@ impl Cache {
         Ok(Cache {
             alloc,
             latest: None,
-            others: LruCache::new(alloc, capacity)?,
+            others: LruCache::sparse(alloc, capacity)?,
         })
     }
 

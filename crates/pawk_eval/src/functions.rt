@@ -81,7 +81,7 @@ pub(crate) fn call<W: World>(
             let open = run.arrays.len();
             let fresh = parameters(
                 run.alloc,
-                run.seed,
+                world.seed(),
                 arguments,
                 &function.kinds,
                 &mut run.arrays,

@@ -10,7 +10,7 @@ use Rattle.pawk_value.specs.Bytes.{is_blank}
 use Rattle.pawk_fields.specs.Fields.{is_not_blank, blank_fields}
 use Rattle.pawk_fields.proofs.FieldsLemmas.{fields_of_word, no_blanks_left}
 use Rattle.pawk_fields.specs.Splits.{bytes_of, separates, pieces_from, words_from, NonePass, ArePieces, PiecesLaw}
-use Rattle.pawk_fields.specs.FieldSeparator.{fields_by, ranges_by}
+use Rattle.pawk_fields.specs.FieldSeparator.{fields_by, ranges_from}
 use Rattle.pawk_fields.specs.declared.separator.FieldSeparator.{FieldSeparator}
 use Rattle.pawk_fields.specs.declared.separator.FieldSeparator.TheVariants.{Blanks, Byte, ByteOrNewline}
 
@@ -270,19 +270,20 @@ count_same f g (b ∷ t) h =
     ∙ ap (λ n. n + count_by f t) head ∙ ap (λ n. cond (g b) 1 0 + n) (count_same f g t h)
     ∙ sym (sum_by-cons (λ y. cond (g y) 1 0) b t)
 
-pub count_byte_pieces : (b : ℕ) (s : List ℕ) → 0 < length s → length (ranges_by (Byte b) s) ≡ count_by (is_byte2 b b) s + 1
-count_byte_pieces b [] some = absurd (omega arith)
-count_byte_pieces b (x ∷ s) some =
-    pieces_count (separates b false) (x ∷ s) 0 0
-    ∙ ap (λ n. n + 1) (count_same (separates b false) (is_byte2 b b) (x ∷ s) (λ y. twice (eqb y b)))
+-- pieces from a place on, by a byte
+pub count_byte_pieces : (b : ℕ) (s : List ℕ) (p : ℕ) → length (ranges_from (Byte b) s (Some p)) ≡ count_by (is_byte2 b b) (drop p s) + 1
+count_byte_pieces b s p =
+    pieces_count (separates b false) (drop p s) p p
+    ∙ ap (λ n. n + 1) (count_same (separates b false) (is_byte2 b b) (drop p s) (λ y. twice (eqb y b)))
   where
     twice : (v : Bool) → (v || false) ≡ (v || v)
     twice true = refl
     twice false = refl
 
-pub count_line_pieces : (b : ℕ) (s : List ℕ) → 0 < length s → length (ranges_by (ByteOrNewline b) s) ≡ count_by (is_byte2 b 10) s + 1
-count_line_pieces b [] some = absurd (omega arith)
-count_line_pieces b (x ∷ s) some = pieces_count (separates b true) (x ∷ s) 0 0
+-- the same by a byte and newlines
+pub count_line_pieces : (b : ℕ) (s : List ℕ) (p : ℕ) → length (ranges_from (ByteOrNewline b) s (Some p)) ≡ count_by (is_byte2 b 10) (drop p s) + 1
+count_line_pieces b s p = pieces_count (separates b true) (drop p s) p p
 
-pub count_word_ranges : (s : List ℕ) → length (ranges_by Blanks s) ≡ length (blank_fields s)
-count_word_ranges s = sym (length-map_of s (ranges_by Blanks s)) ∙ ap length (fields_by_blanks s)
+-- words from a place on
+pub count_words_from : (s : List ℕ) (p : ℕ) → length (ranges_from Blanks s (Some p)) ≡ length (blank_fields (drop p s))
+count_words_from s p = sym (length-map_of s (ranges_from Blanks s (Some p))) ∙ ap length (words_are s (drop p s) p refl).0

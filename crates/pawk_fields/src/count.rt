@@ -1,8 +1,8 @@
 //! Counting the fields of a record.
 
-ghost use Rattle.std.specs.Prelude.{◌≡◌, ◌≤◌, count_by, length};
+ghost use Rattle.std.specs.Prelude.{◌≡◌, ◌≤◌, count_by, length, IfSome};
 ghost use Rattle.memchr.specs.Find.{is_byte2};
-ghost use Rattle.pawk_fields.specs.FieldSeparator.{ranges_by};
+ghost use Rattle.pawk_fields.specs.FieldSeparator.{ranges_from};
 
 use crate::blanks::count_fields;
 use crate::separator::FieldSeparator;
@@ -41,16 +41,19 @@ fn count_bytes(text: &[u8], byte: u8, other: u8) -> usize
     count + usize::from(count_block(rest, byte, other))
 }
 
-/// How many fields a record has (`NF`), as `append_ranges` appends them. Takes no memory.
-pub fn count_split(separator: FieldSeparator, text: &[u8]) -> usize
-    ensures { result ≡ length (ranges_by separator text.now) }
+/// How many fields there are from a place of a record on, as [`FieldSeparator::next_field`] gives them one after the other;
+/// none from no place on. Takes no memory.
+pub fn count_from(separator: FieldSeparator, text: &[u8], next: Option<usize>) -> usize
+    requires { IfSome next (λ place. place ≤ length text.now) }
+    ensures { result ≡ length (ranges_from separator text.now next) }
 {
-    if text.is_empty() {
+    let Some(place) = next else {
         return 0;
-    }
+    };
+    let (_, rest) = text.split_at(place);
     match separator {
-        FieldSeparator::Blanks => count_fields(text),
-        FieldSeparator::Byte(byte) => count_bytes(text, byte, byte) + 1,
-        FieldSeparator::ByteOrNewline(byte) => count_bytes(text, byte, b'\n') + 1,
+        FieldSeparator::Blanks => count_fields(rest),
+        FieldSeparator::Byte(byte) => count_bytes(rest, byte, byte) + 1,
+        FieldSeparator::ByteOrNewline(byte) => count_bytes(rest, byte, b'\n') + 1,
     }
 }

@@ -23,7 +23,7 @@ mod words;
 
 pub use append::append_between;
 pub use blanks::{count_fields, fields_law};
-pub use count::count_split;
+pub use count::count_from;
 pub use field_walk::{append_ranges, blanks_law, pieces_law};
 pub use fields_by::{append_fields, split_fields, split_fields_with};
 pub use find::find_words;

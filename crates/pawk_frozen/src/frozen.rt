@@ -9,7 +9,7 @@ ghost use Rattle.pawk_frozen.specs.Frozens as spec;
 use crate::table::Table;
 use itoa::Buffer;
 use pawk_admit::{Role, Roles};
-use pawk_array::Texts;
+use pawk_array::{Seed, Texts};
 use pawk_code::word::Sign;
 use pawk_store::Globals;
 use pawk_value::{Fault, Held, ValueRef, hold};
@@ -92,6 +92,10 @@ impl<'a> World for Frozen<'a> {
     ghost state = { λ f. f };
 
     ghost calls = { spec.calls };
+
+    fn seed(&self) -> Seed {
+        self.fixed.seed()
+    }
 
     fn scalar(&self, slot: usize) -> ValueRef<'_> {
         self.fixed.scalar(slot)

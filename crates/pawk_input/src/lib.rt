@@ -22,7 +22,7 @@ pub use files::{Input, LIMIT, TooLarge};
 pub use item::Item;
 pub use pawk_fields::{
     FieldSeparator, FieldStep, Finder, append_between, append_fields, append_ranges, blanks_law,
-    count_fields, count_split, expression_matcher, fields_law, pieces_law, split_fields,
+    count_fields, count_from, expression_matcher, fields_law, pieces_law, split_fields,
     split_fields_with, split_law,
 };
 pub use pawk_records::{Block, Blocks, begins_law, records_law};

@@ -1,5 +1,5 @@
 -- What a record shows.
-use Rattle.std.proofs.Common.{◌≡◌, ◌⊎◌, ℕ, ◌-◌, ◌<◌, ◌≤◌, arith, zero, suc, Bool, cond, leb, List, [], ◌∷◌, ◌++◌, length, map, Option, Some, None, Result, Ok, Err, refl, sym, ap, ◌∙◌, subst, ⊎_elim, true, false, append-nil, length-append}
+use Rattle.std.proofs.Common.{◌+◌, ◌≡◌, ◌⊎◌, ℕ, ◌-◌, ◌<◌, ◌≤◌, arith, zero, suc, Bool, cond, leb, List, [], ◌∷◌, ◌++◌, length, map, Option, Some, None, Result, Ok, Err, refl, sym, ap, ◌∙◌, subst, ⊎_elim, true, false, append-nil, length-append}
 use Rattle.std.proofs.lemmas.Bool.{cases_lt, le-leb, leb-true}
 use Rattle.std.proofs.lemmas.List.{length-map}
 use Rattle.std.proofs.lemmas.Option.{slice_get_past}
@@ -85,14 +85,15 @@ count_found r h =
     let long = length-values (text_of r) (rs ++ more) r.here.kinds.items in
     omega (arith, long, length-append rs more)
 
--- where none was found the fields are as many as are left
-pub left_counted : (r : Inside) (text : List ℕ) (count : ℕ) → length r.here.ranges.items ≡ 0 → text ≡ text_of r → count ≡ length (left r.splitter text r.next) → count ≡ length (record_of r).fields
-left_counted r text count none same is =
+-- the fields are those that were found and those that are left
+pub left_counted : (r : Inside) (text : List ℕ) (more count : ℕ) → text ≡ text_of r → more ≡ length (left r.splitter text r.next) → count ≡ more + length r.here.ranges.items
+    → count ≡ length (record_of r).fields
+left_counted r text more count same is sum =
     let rs = r.here.ranges.items in
     let rest = left r.splitter (text_of r) r.next in
     let long = length-values (text_of r) (rs ++ map range_of rest) r.here.kinds.items in
-    let here : count ≡ length rest = is ∙ ap (λ t. length (left r.splitter t r.next)) same in
-    omega (arith, long, none, here, length-map rest range_of, length-append rs (map range_of rest))
+    let here : more ≡ length rest = is ∙ ap (λ t. length (left r.splitter t r.next)) same in
+    omega (arith, long, sum, here, length-map rest range_of, length-append rs (map range_of rest))
 
 -- how many fields there are stays so while more are found
 pub counted_still : (r : Inside) (text : List ℕ) (ranges : List (Range ℕ)) (next : Option ℕ) (s : Splitter) → text ≡ text_of r

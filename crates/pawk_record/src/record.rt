@@ -212,18 +212,18 @@ impl<'a> Record<'a> {
         self.count_anew()
     }
 
-    /// How many fields there are, where they were neither counted nor all looked for: counts them by an FS of one byte
-    /// where none was looked for yet, and else looks for all.
+    /// How many fields there are, where they were neither counted nor all looked for: by an FS of one byte counts those that
+    /// are left, and else looks for all.
     fn count_anew(&mut self) -> Result<usize, AllocError>
         ensures count { IfOk result (λ count. count ≡ length self.new.record_now.fields) }
         ensures same { self.new.record_now ≡ self.old.record_now }
         ensures more { self.old.found ≤ self.new.found }
     {
-        if !self.here.ranges.is_empty() {
-            return self.count();
-        }
         let text = line(self.is_own, self.here.text.as_slice(), self.lent);
-        let Some(count) = self.splitter.count_left(text, self.next) else {
+        let Some(left) = self.splitter.count_left(text, self.next) else {
+            return self.count();
+        };
+        let Some(count) = left.checked_add(self.here.ranges.len()) else {
             return self.count();
         };
         self.counted = Some(count);

@@ -10,7 +10,7 @@ ghost use Rattle.pawk_record.specs.Splitting.{IsBy, IsSplitter, first_place, lef
 
 use pawk_ere::Matcher;
 use pawk_fields::{
-    FieldSeparator, append_fields, byte_separator, count_split, expression_matcher, find_words,
+    FieldSeparator, append_fields, byte_separator, count_from, expression_matcher, find_words,
 };
 use pawk_value::{Fault, Stop};
 use std::alloc::{AllocError, Global};
@@ -287,18 +287,15 @@ impl Splitter {
         }
     }
 
-    /// How many fields of a record are left, if they are counted without looking for them: where none was looked for yet,
-    /// by an FS of one byte.
+    /// How many fields of a record are left, if they are counted without looking for them: by an FS of one byte.
     pub(crate) fn count_left(&self, text: &[u8], next: Option<usize>) -> Option<usize>
+        requires { IfSome next (λ place. place ≤ length text.now) }
         ensures { IfSome result (λ count. count ≡ length (left self.now text.now next)) }
     {
-        let By::Plain(separator) = &self.by else {
-            return None;
-        };
-        if next != separator.first_place(text) {
-            return None;
+        match &self.by {
+            By::Plain(separator) => Some(count_from(*separator, text, next)),
+            By::Expression(_) | By::Bad(_) => None,
         }
-        Some(count_split(*separator, text))
     }
 
     /// Looks for all fields of a record from the next one on. What was found and what is left are together what they were,

@@ -28,8 +28,6 @@ pub enum Parameter {
 #[derive(Drop)]
 pub struct Run<'a> {
     pub alloc: Global,
-    /// What keys of elements of local arrays are hashed by.
-    pub seed: Seed,
     /// The record, and what is kept from record to record.
     pub state: RecordState<'a>,
     /// The parameters of the function that runs; none outside of functions.
@@ -51,7 +49,6 @@ impl<'a> Run<'a> {
     /// with matchers for this many expressions between slashes. An error where memory is refused.
     pub fn new(
         alloc: Global,
-        seed: Seed,
         state: RecordState<'a>,
         left: u64,
         expressions: usize,
@@ -61,7 +58,6 @@ impl<'a> Run<'a> {
     {
         Ok(Run {
             alloc,
-            seed,
             matchers: Matchers::new(alloc, expressions)?,
             state,
             frame: Vec::new(alloc),

@@ -59,13 +59,7 @@ pub fn opening_run<'a>(alloc: Global, job: Job<'_>) -> Result<Run<'a>, AllocErro
         × (state_of run.state ≡ opening (length (code_view job.entry.code.now).rules))) }
 {
     let state = RecordState::new(alloc, job.code.rules.len())?;
-    let run = Run::new(
-        alloc,
-        job.seed,
-        state,
-        job.budget,
-        job.code.expressions.len(),
-    )?;
+    let run = Run::new(alloc, state, job.budget, job.code.expressions.len())?;
     Ok(run)
 }
 

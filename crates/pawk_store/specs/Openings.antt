@@ -1,9 +1,9 @@
 -- The globals with which a run begins: the variables of the language have their values, then the assignments that were
 -- asked for are made in their order (POSIX.1-2017, awk, "Variables and Special Variables"; "OPTIONS", -v).
-use Rattle.std.specs.Prelude.{ℕ, Bool, if◌then◌else◌, List, [], ◌∷◌, ◌++◌, map, replicate, codes, Vec}
+use Rattle.std.specs.Prelude.{◌≡◌, ℕ, is_some, if◌then◌else◌, List, [], ◌∷◌, ◌++◌, map, replicate, codes, Vec}
 use Rattle.std.specs.declared.alloc.Global.{Global}
-use Rattle.std.specs.List.{list_any}
 use Rattle.std.specs.Str.{bytes_eq}
+use Rattle.pawk_array.specs.Entries.{Entries, found, put}
 use Rattle.pawk_value.specs.Value.{Val, Uninit, Text, Maybe}
 use Rattle.pawk_lex.specs.Vocabulary.{is_among}
 use Rattle.pawk_settings.specs.declared.assignment.Assignment.{Assignment}
@@ -12,10 +12,6 @@ use Rattle.pawk_store.specs.Globals.{Globals}
 -- the names of the code
 abbrev pub texts_of : List (Vec ℕ Global) → List (List ℕ)
 texts_of names = map (λ name. name.items) names
-
--- whether a name of the code has this text
-abbrev pub is_named_in : List ℕ → List (Vec ℕ Global) → Bool
-is_named_in text names = list_any (λ name. bytes_eq text name.items) names
 
 -- assignments of the code, as names and what they are assigned
 abbrev pub pairs_of : List Assignment → List (List ℕ × List ℕ)
@@ -49,6 +45,15 @@ names_with names (a ∷ rest) = names_with (with_name names a.0) rest
 -- what a scalar of this name has when the run begins
 abbrev pub opening_value : List (List ℕ × List ℕ) → List ℕ → Val
 opening_value assignments name = value_after assignments name (first_value name)
+
+-- what names are assigned last, over what they had
+abbrev pub with_assignments : List (List ℕ × List ℕ) → Entries → Entries
+with_assignments [] es = es
+with_assignments (a ∷ rest) es = with_assignments rest (put a.0 (Maybe a.1) es)
+
+-- just these names have an element
+abbrev pub Knows : Entries → List (List ℕ) → Type 0
+Knows es names = (w : List ℕ) → is_some (found w es) ≡ is_among names w
 
 -- the globals of a program with scalars of these names and this number of arrays, where these names are assigned texts
 abbrev pub opened : List (List ℕ) → ℕ → List (List ℕ × List ℕ) → Globals

@@ -8,7 +8,7 @@ ghost use Rattle.pawk_store.specs.Openings.{texts_of, pairs_of, opened};
 
 use crate::appending::append_in;
 use crate::copies::{copy_arrays, copy_scalars};
-use crate::openings::{empty_arrays, extra_names, push_opening_values};
+use crate::openings::{empty_arrays, extra_names, last_assigned, push_opening_values};
 use pawk_array::{AssociativeArray, Element, Seed, Texts};
 use pawk_code::word::Sign;
 use pawk_settings::Assignment;
@@ -84,10 +84,11 @@ impl Globals {
         ensures { IfOk result (λ globals.
             globals ≡ opened (texts_of names.now) arrays (pairs_of assignments.now)) }
     {
-        let extras = extra_names(alloc, names, assignments)?;
+        let extras = extra_names(alloc, seed, names, assignments)?;
+        let last = last_assigned(alloc, seed, assignments)?;
         let mut scalars = Vec::new(alloc);
-        push_opening_values(alloc, assignments, names, &mut scalars)?;
-        push_opening_values(alloc, assignments, extras.as_slice(), &mut scalars)?;
+        push_opening_values(alloc, &last, names, &mut scalars)?;
+        push_opening_values(alloc, &last, extras.as_slice(), &mut scalars)?;
         Ok(Globals {
             alloc,
             seed,
@@ -108,11 +109,6 @@ impl Globals {
             Some(elements) => elements.elements(alloc),
             None => Ok(Vec::new(alloc)),
         }
-    }
-
-    /// What keys of elements are hashed by.
-    pub fn seed(&self) -> Seed {
-        self.seed
     }
 
     /// A copy that holds its own bytes.
@@ -136,6 +132,10 @@ impl World for Globals {
     ghost state = { λ g. g };
 
     ghost calls = { spec.calls };
+
+    fn seed(&self) -> Seed {
+        self.seed
+    }
 
     fn scalar(&self, slot: usize) -> ValueRef<'_> {
         match self.scalars.get(slot) {

@@ -1,8 +1,9 @@
 //! What the globals of a run begin with.
 
-ghost use Rattle.std.specs.Prelude.{◌≡◌, ◌||◌, ◌++◌, [], map, replicate, IfOk, OnOk};
+ghost use Rattle.std.specs.Prelude.{◌≡◌, ◌++◌, ℕ, List, [], map, replicate, IfOk, OnOk};
 ghost use Rattle.pawk_value.specs.Value.{lent_value, shown};
-ghost use Rattle.pawk_store.specs.Openings.{texts_of, pairs_of, names_with, is_named_in, with_name};
+ghost use Rattle.pawk_store.specs.Openings.{texts_of, pairs_of, names_with, with_name};
+ghost use Rattle.pawk_store.specs.Openings.{Knows, with_assignments};
 ghost use Rattle.pawk_store.specs.Openings as spec;
 
 use pawk_array::{AssociativeArray, Seed};
@@ -27,63 +28,84 @@ fn first_value(name: &[u8]) -> ValueRef<'static>
     }
 }
 
-/// What a scalar of this name has when the run begins.
-fn opening_value<'a>(assignments: &'a [Assignment], name: &[u8]) -> ValueRef<'a>
-    ensures { lent_value result ≡ spec.opening_value (pairs_of assignments.now) name.now }
+/// What names are assigned last.
+pub(crate) fn last_assigned(
+    alloc: Global,
+    seed: Seed,
+    assignments: &[Assignment],
+) -> Result<AssociativeArray, AllocError>
+    ensures { IfOk result (λ last. last ≡ with_assignments (pairs_of assignments.now) []) }
 {
-    let mut value = first_value(name);
+    let mut last = AssociativeArray::new(alloc, seed);
     for assignment in assignments {
-        if name == assignment.name.as_slice() {
-            value = ValueRef::Maybe(assignment.value.as_slice());
-        }
+        let value = ValueRef::Maybe(assignment.value.as_slice());
+        last.set(assignment.name.as_slice(), value)?;
     }
-    value
+    Ok(last)
+}
+
+/// What a scalar of this name has when the run begins.
+fn opening_value<'a>(last: &'a AssociativeArray, name: &[u8]) -> ValueRef<'a>
+    ensures { (pairs : List (List ℕ × List ℕ)) → last.now ≡ with_assignments pairs []
+        → lent_value result ≡ spec.opening_value pairs name.now }
+{
+    match last.get(name) {
+        Some(value) => value,
+        None => first_value(name),
+    }
 }
 
 /// Appends what scalars of these names have when the run begins.
 pub(crate) fn push_opening_values(
     alloc: Global,
-    assignments: &[Assignment],
+    last: &AssociativeArray,
     names: &[Vec<u8>],
     scalars: &mut Vec<Value>,
 ) -> Result<(), AllocError>
-    ensures { OnOk result (map shown scalars.new.items ≡ map shown scalars.old.items
-        ++ map (spec.opening_value (pairs_of assignments.now)) (texts_of names.now)) }
+    ensures { OnOk result ((pairs : List (List ℕ × List ℕ))
+        → last.now ≡ with_assignments pairs []
+        → map shown scalars.new.items ≡ map shown scalars.old.items
+        ++ map (spec.opening_value pairs) (texts_of names.now)) }
 {
     for name in names {
-        let value = copy_lent(alloc, opening_value(assignments, name.as_slice()))?;
+        let value = copy_lent(alloc, opening_value(last, name.as_slice()))?;
         scalars.push(value)?;
     }
     Ok(())
 }
 
-/// Whether a name is among others.
-fn is_among(names: &[Vec<u8>], name: &[u8]) -> bool
-    ensures { result ≡ is_named_in name.now names.now }
+/// The names of a program, for looking names up among them.
+fn known_names(
+    alloc: Global,
+    seed: Seed,
+    names: &[Vec<u8>],
+) -> Result<AssociativeArray, AllocError>
+    ensures { IfOk result (λ known. Knows known (texts_of names.now)) }
 {
-    names.iter().any(|other| name == other.as_slice())
+    let mut known = AssociativeArray::new(alloc, seed);
+    for name in names {
+        known.set(name.as_slice(), ValueRef::Uninit)?;
+    }
+    Ok(known)
 }
 
-/// Whether a name is among those of the program or the extras.
-fn is_scalar(names: &[Vec<u8>], extras: &[Vec<u8>], name: &[u8]) -> bool
-    ensures { result ≡ (is_named_in name.now names.now || is_named_in name.now extras.now) }
-{
-    is_among(names, name) || is_among(extras, name)
-}
-
-/// Appends a name that is neither among those of the program nor among the extras.
+/// Appends a name that is not known yet, which makes it known.
 fn push_name(
     alloc: Global,
-    names: &[Vec<u8>],
+    known: &mut AssociativeArray,
     extras: &mut Vec<Vec<u8>>,
     name: &[u8],
 ) -> Result<(), AllocError>
-    ensures { OnOk result (texts_of names.now ++ texts_of extras.new.items
-        ≡ with_name (texts_of names.now ++ texts_of extras.old.items) name.now) }
+    ensures { OnOk result ((names : List (List ℕ))
+        → Knows known.old (names ++ texts_of extras.old.items)
+        → Knows known.new (names ++ texts_of extras.new.items)
+        × (names ++ texts_of extras.new.items
+        ≡ with_name (names ++ texts_of extras.old.items) name.now)) }
 {
-    if is_scalar(names, extras.as_slice(), name) {
+    if known.contains(name) {
         return Ok(());
     }
+    known.set(name, ValueRef::Uninit)?;
     let name = Vec::from_slice(alloc, name)?;
     extras.push(name)?;
     Ok(())
@@ -92,15 +114,17 @@ fn push_name(
 /// The names that are assigned and are not those of the program, each once.
 pub(crate) fn extra_names(
     alloc: Global,
+    seed: Seed,
     names: &[Vec<u8>],
     assignments: &[Assignment],
 ) -> Result<Vec<Vec<u8>>, AllocError>
     ensures { IfOk result (λ extras. texts_of names.now ++ texts_of extras.items
         ≡ names_with (texts_of names.now) (pairs_of assignments.now)) }
 {
+    let mut known = known_names(alloc, seed, names)?;
     let mut extras = Vec::new(alloc);
     for assignment in assignments {
-        push_name(alloc, names, &mut extras, assignment.name.as_slice())?;
+        push_name(alloc, &mut known, &mut extras, assignment.name.as_slice())?;
     }
     Ok(extras)
 }

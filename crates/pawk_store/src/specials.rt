@@ -7,7 +7,7 @@ ghost use Rattle.pawk_store.specs.ListingViews.{special_of};
 ghost use Rattle.pawk_store.specs.RecordStates.{special_value};
 ghost use Rattle.pawk_store.specs.StateViews.{state_of};
 
-use crate::state::RecordState;
+use crate::state::{RecordState, check_number};
 use pawk_code::leaf::Special;
 use pawk_value::{Value, copy_lent};
 use std::alloc::{AllocError, Global};
@@ -26,7 +26,7 @@ pub struct Specials {
 
 impl RecordState<'_> {
     /// What the variables that the run sets have now. The state stays, but for what was found of the
-    /// fields.
+    /// fields, which are only counted where that is enough.
     ///
     /// Memory is refused also where NR, FNR or NF is 2^63 or more, which no memory holds.
     pub fn specials(&mut self, alloc: Global) -> Result<Specials, AllocError>
@@ -36,10 +36,11 @@ impl RecordState<'_> {
     {
         self.prepare_special(Special::Nr)?;
         self.prepare_special(Special::Fnr)?;
-        self.prepare_special(Special::Nf)?;
+        let nf = self.line.field_count()?;
+        check_number(nf as u64)?;
         Ok(Specials {
             nr: self.nr as i64,
-            nf: self.line.prepared_count() as i64,
+            nf: nf as i64,
             fnr: self.fnr as i64,
             filename: copy_lent(alloc, self.special(Special::Filename))?,
             rstart: self.rstart,

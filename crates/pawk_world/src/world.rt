@@ -10,7 +10,7 @@ ghost use Rattle.pawk_world.specs.Answers.{Answers};
 ghost use Rattle.pawk_world.specs.Writings.{append_to, fill_after};
 
 use crate::halt::Halt;
-use pawk_array::Texts;
+use pawk_array::{Seed, Texts};
 use pawk_code::word::Sign;
 use pawk_value::{Fault, Held, ValueRef};
 use std::ops::Range;
@@ -28,6 +28,9 @@ pub trait World {
 
     /// What each call answers in a state.
     ghost calls: { Calls State };
+
+    /// What keys of elements are hashed by, those of local arrays among them. No answer depends on it.
+    fn seed(&self) -> Seed;
 
     /// Lends a scalar.
     fn scalar(&self, slot: usize) -> ValueRef<'_>
