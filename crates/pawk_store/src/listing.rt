@@ -166,7 +166,7 @@ impl Globals {
             (texts_of names.entry.scalars.now) (texts_of names.entry.arrays.now)
             (pairs_of names.entry.assignments.now) (special_of specials.now) self.now) }
     {
-        let extras = extra_names(alloc, names.scalars, names.assignments)?;
+        let extras = extra_names(alloc, self.seed, names.scalars, names.assignments)?;
         let mut all = BTreeMap::new(alloc);
         put_scalars(alloc, self, 0, names.scalars, &mut all)?;
         put_scalars(

@@ -22,7 +22,7 @@ fn next_count(count: u64) -> Result<u64, AllocError>
 }
 
 /// Refuses what is no number of the language.
-fn check_number(count: u64) -> Result<(), AllocError>
+pub(crate) fn check_number(count: u64) -> Result<(), AllocError>
     ensures { OnOk result (count < 2 ^ 63) }
 {
     if count > i64::MAX as u64 {
