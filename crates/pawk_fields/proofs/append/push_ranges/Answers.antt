@@ -10,7 +10,9 @@ loop-field-init g c = record {
   long = search rules;
   needs = λ h. h;
   pattern = search rules;
+  text = search rules;
   finder = refl;
+  misses = c.no_misses.ensures c.args.fields.text;
 }
 
 pub loop-field-preserved : goal.loop-field-preserved
@@ -24,13 +26,20 @@ loop-field-preserved g c =
       long = omega (arith, i.long, c.in_ok-push.ensures.len);
       needs = λ h. i.needs (needed_before c.loop-field.fields c.next_range.new.self nearer);
       pattern = search rules;
+      text = search rules;
       finder = c.in_ok-field.ensures.finder ∙ i.finder;
+      misses = subst (λ f. g.F.Finder.are_misses f c.args.fields.text c.next_range.new.misses) i.finder
+          (subst (λ t. g.F.Finder.are_misses c.loop-field.finder t c.next_range.new.misses) i.text c.in_ok-field.ensures.misses);
     }
 
 pub next_range-requires : goal.next_range-requires
 next_range-requires g c =
     let i = c.loop-field.invariant in
-    record { ready = λ needs. subst (λ f. g.F.Finder.answers_for f c.loop-field.fields.pattern) (sym i.finder) (subst (g.F.Finder.answers_for c.args.finder.now) (sym i.pattern) (c.requires.ready (i.needs needs))) }
+    record {
+      ready = λ needs. subst (λ f. g.F.Finder.answers_for f c.loop-field.fields.pattern) (sym i.finder) (subst (g.F.Finder.answers_for c.args.finder.now) (sym i.pattern) (c.requires.ready (i.needs needs)));
+      misses = subst (λ f. g.F.Finder.are_misses f c.loop-field.fields.text c.loop-field.misses) (sym i.finder)
+          (subst (λ t. g.F.Finder.are_misses c.args.finder.now t c.loop-field.misses) (sym i.text) i.misses);
+    }
 
 pub returns-clause-added : goal.returns-clause-added
 returns-clause-added g c = adds_all c.args.fields c.loop-field.fields c.args.ranges.now.items c.loop-field.ranges.items c.loop-field.invariant.adds (rw c.in_default.is at c.in_ok-field.ensures.field)

@@ -10,7 +10,9 @@ invariant-loop-field g l = record {
   long : vec_len l.initial.ranges ≤ vec_len l.ranges;
   needs : NeedsFinder l.fields → NeedsFinder l.initial.fields;
   pattern : l.fields.pattern ≡ l.initial.fields.pattern;
+  text : l.fields.text ≡ l.initial.fields.text;
   finder : l.finder ≡ l.initial.finder;
+  misses : g.F.Finder.are_misses l.initial.finder l.initial.fields.text l.misses;
 }
 
 abbrev pub decreases-loop-field : goal.decreases-loop-field
