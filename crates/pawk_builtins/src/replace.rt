@@ -2,7 +2,7 @@
 
 ghost use Rattle.std.specs.Prelude.{◌≡◌, ◌+◌, ◌^◌, ◌<◌, ◌≤◌, ◌++◌, [], false, ℕ, Ok, length, slice_range, IfErr, IfOk, IfSome, OnOk};
 ghost use Rattle.pawk_ere_syntax.specs.Pattern.{Pattern};
-ghost use Rattle.pawk_ere.specs.Answers.{IsFor};
+ghost use Rattle.pawk_ere.specs.Answers.{AreMissesFor, IsFor};
 ghost use Rattle.pawk_fields.specs.Search as search;
 ghost use Rattle.pawk_semantics.specs.Builtins.{replaced};
 ghost use Rattle.pawk_semantics.specs.Builtins as spec;
@@ -16,7 +16,7 @@ ghost use Rattle.pawk_fields.specs.FieldsOf.{TellsNone};
 use crate::replacement::{push_piece, push_replacement};
 use crate::slot::{fill_slot, lend_matcher};
 use pawk_code::word::ReplacedMatches;
-use pawk_ere::{Cache, Loan, Matcher};
+use pawk_ere::{Cache, Loan, Matcher, Misses};
 use pawk_value::{LENGTH_LIMIT, Stop};
 use std::alloc::{AllocError, Global};
 
@@ -34,25 +34,28 @@ fn is_used(found: Option<(usize, usize)>, from: usize, behind: bool) -> bool
 /// is not empty ended there.
 fn next_match(
     matcher: &mut Matcher,
+    misses: &mut Misses,
     text: &[u8],
     from: usize,
     behind: bool,
 ) -> Result<Option<(usize, usize)>, AllocError>
     requires matcher { (e : Pattern) × IsFor e matcher.old }
+    requires misses { AreMissesFor matcher.old text.now misses.old }
     requires within { from ≤ length text.now }
     ensures found { (e : Pattern) → IsFor e matcher.old
         → IfOk result (IsNextReplaced e text.now from behind) }
     ensures ahead { IfOk result (λ found. IfSome found (IsAhead text.now from behind)) }
+    ensures misses { AreMissesFor matcher.old text.now misses.new }
     ensures matcher { matcher.new ≡ matcher.old }
 {
-    let found = matcher.find(text, from)?;
+    let found = matcher.find_next(misses, text, from)?;
     if !is_used(found, from, behind) {
         return Ok(found);
     }
     if from == text.len() {
         return Ok(None);
     }
-    matcher.find(text, from + 1)
+    matcher.find_next(misses, text, from + 1)
 }
 
 /// Where matches are looked for after a match, and whether an empty one there is none.
@@ -109,7 +112,8 @@ fn replace_all(
     let mut from = 0;
     let mut behind = false;
     let mut count = 0;
-    while let Some(found) = next_match(matcher, text, from, behind)? {
+    let mut misses = matcher.no_misses();
+    while let Some(found) = next_match(matcher, &mut misses, text, from, behind)? {
         push_match(out, text, place, found, replacement)?;
         count += 1;
         place = found.1;

@@ -9,6 +9,7 @@ ghost use Rattle.std.specs.Prelude.{◌≡◌, ◌≤◌, length, IfErr, IfOk, I
 use crate::loan::Loan;
 use crate::matcher::Matcher;
 use lru::LruCache;
+use pawk_ere_automaton::Misses;
 use pawk_ere_syntax::EreRefusal;
 use std::alloc::{AllocError, Global};
 use std::marker::Model;
@@ -104,6 +105,11 @@ impl Cache {
             latest: None,
             others: LruCache::sparse(alloc, capacity)?,
         })
+    }
+
+    /// No misses: a cache holds none.
+    pub fn no_misses(&self) -> Misses {
+        Misses::none(self.alloc)
     }
 
     /// The matcher of the expression, to be used for as long as the caller wants. The cache answers as before, whether or not

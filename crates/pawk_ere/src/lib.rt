@@ -15,4 +15,5 @@ pub use crate::cache::Cache;
 pub use crate::loan::Loan;
 pub use crate::matcher::Matcher;
 pub use crate::words::needed_words_of;
+pub use pawk_ere_automaton::Misses;
 pub use pawk_ere_syntax::{Ere, EreRefusal, laws};

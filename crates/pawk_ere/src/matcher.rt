@@ -1,14 +1,14 @@
 // A matcher of one expression.
 
-ghost use Rattle.pawk_ere.specs.Answers.{IsAnswer, IsFor};
+ghost use Rattle.pawk_ere.specs.Answers.{AreMissesFor, IsAnswer, IsFor};
 ghost use Rattle.pawk_ere_syntax.specs.Pattern.{HasMatch, Matches, Pattern};
 ghost use Rattle.pawk_ere_syntax.specs.Spelled.{expression};
-ghost use Rattle.std.specs.Prelude.{◌≡◌, ◌↔◌, ◌≤◌, length, IfOk, IsTrue};
+ghost use Rattle.std.specs.Prelude.{◌≡◌, ◌↔◌, ◌≤◌, ℕ, List, length, IfOk, IsTrue};
 
 use crate::literal::{has_literal, search_literal};
 use crate::run::{has_run, has_turns, search_run, search_turns};
 use crate::words::{Prefilter, lacks_words, prefilter_of};
-use pawk_ere_automaton::{Node, StateTable, begin, expand, first_byte, has_match, search};
+use pawk_ere_automaton::{Misses, Node, StateTable, begin, expand, first_byte, has_match, search};
 use pawk_ere_syntax::Ere;
 use std::alloc::{AllocError, Global};
 use std::marker::Model;
@@ -60,12 +60,40 @@ impl Matcher {
         })
     }
 
+    /// No misses yet, for the searches of one text. Takes no memory.
+    pub fn no_misses(&self) -> Misses
+        ensures { (text : List ℕ) → AreMissesFor self.now text result }
+    {
+        Misses::none(self.alloc)
+    }
+
     /// The leftmost match that starts at the byte `from` or later, and of those the longest (XBD 9.1): the byte where it
     /// starts, and the byte after it, counted from 0. After an `Err` the matcher answers as before.
     pub fn find(&mut self, text: &[u8], from: usize) -> Result<Option<(usize, usize)>, AllocError>
         requires { from ≤ length text.now }
         ensures answer { (e : Pattern) → IsFor e self.old
             → IfOk result (λ found. IsAnswer e text.now from found) }
+        ensures same { self.new ≡ self.old }
+    {
+        let mut misses = self.no_misses();
+        self.find_next(&mut misses, text, from)
+    }
+
+    /// What [`find`](Matcher::find) answers, one of many searches of one text, which all pass the same `misses`: what one
+    /// search finds to lead to nothing no later one walks over again. Searches that each begin where the last match ended
+    /// take together a time linear in the text, unless the expression has more sets of places than a table has room for, or
+    /// `^` or `$` in alternatives.
+    pub fn find_next(
+        &mut self,
+        misses: &mut Misses,
+        text: &[u8],
+        from: usize,
+    ) -> Result<Option<(usize, usize)>, AllocError>
+        requires within { from ≤ length text.now }
+        requires misses { AreMissesFor self.old text.now misses.old }
+        ensures answer { (e : Pattern) → IsFor e self.old
+            → IfOk result (λ found. IsAnswer e text.now from found) }
+        ensures misses { AreMissesFor self.old text.now misses.new }
         ensures same { self.new ≡ self.old }
     {
         match &self.prefilter {
@@ -82,6 +110,7 @@ impl Matcher {
             self.alloc,
             &self.node,
             &mut self.table,
+            misses,
             self.first,
             text,
             from,

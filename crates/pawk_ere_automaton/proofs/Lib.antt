@@ -7,3 +7,4 @@ pub mod Rows
 pub mod Walks
 pub mod Begins
 pub mod Copies
+pub mod Silent

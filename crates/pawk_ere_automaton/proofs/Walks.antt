@@ -24,7 +24,7 @@ no_marks (Either a b) marks s p j h r = ⊎_elim (no_marks a marks s p j h) (no_
 no_marks (Star a) marks s p j h r = no_marks a marks s p r.0 h r.1
 no_marks (Plus a) marks s p j h r = no_marks a marks s p r.0 h r.1
 
-not_equal : (a b : ℕ) → (a ≡ b → ⊥) → eqb a b ≡ false
+pub not_equal : (a b : ℕ) → (a ≡ b → ⊥) → eqb a b ≡ false
 not_equal a b h = go (eqb a b) refl
   where
     go : (x : Bool) → eqb a b ≡ x → eqb a b ≡ false
@@ -191,7 +191,7 @@ pub record KnowsAll (e : Regex) (s : List ℕ) (from p : ℕ) (t : State) : Type
   pub enter_is : t.enter ≡ true
   pub stays_is : t.stays ≡ true
   pub first_is : t.first ≡ eqb p 0
-  pub is : (j : ℕ) → Rest e t.marks.items s p j → (k : ℕ) × (from ≤ k) × Takes e s k j
+  pub is : (j : ℕ) → Rest e t.marks.items s p j → (k : ℕ) × (from ≤ k) × (k < p) × Takes e s k j
   pub if : (k j : ℕ) → from ≤ k → k < p → p ≤ j → Takes e s k j → Rest e t.marks.items s p j
 
 -- no match ends before p, and none starts before begin
@@ -235,8 +235,8 @@ all_step e s from p t u after more k key = record {
   stays_is = key.stays_is ∙ k.stays_is;
   first_is = key.first_is ∙ sym (not_equal (p + 1) 0 (λ h. omega arith));
   is = λ j r. ⊎_elim
-      (λ x. (p, after, x.1))
-      (λ x. k.is j x)
+      (λ x. (p, after, omega arith, x.1))
+      (λ x. let y = k.is j x in (y.0, y.1, omega (arith, y.2), y.3))
       (shift_is s p (eqb p 0) (eqb-true p 0) (eq-eqb p 0) more e true t.marks.items j (subst (λ m. Rest e m s (p + 1) j) marks r));
   if = λ i j ge lt le m. subst (λ m. Rest e m s (p + 1) j) (sym marks) (shift_if s p (eqb p 0) (eqb-true p 0) (eq-eqb p 0) more e true t.marks.items j (omega arith)
       (⊎_elim {B = p ≤ i}
@@ -258,7 +258,7 @@ next_all e s from p old new q r t after more at k leads =
 all_ends_is : (e : Regex) (s : List ℕ) (from p : ℕ) (t : State) (last : Bool) → from ≤ p → (last ≡ true → p ≡ length s) → (p ≡ length s → last ≡ true) → KnowsAll e s from p t → ends_with e t.enter t.marks.items t.first last ≡ true → (k : ℕ) × (from ≤ k) × Takes e s k p
 all_ends_is e s from p t last after is_last if_last k h = ⊎_elim
     (λ x. let both = and_parts _ _ x in (p, after, nullable_is s p t.first last first_is first_if is_last if_last e both.1))
-    (λ x. k.is p (final_is s p t.first last first_is first_if is_last if_last e t.marks.items x))
+    (λ x. let y = k.is p (final_is s p t.first last first_is first_if is_last if_last e t.marks.items x) in (y.0, y.1, y.3))
     (or_parts _ _ h)
   where
     first_is : t.first ≡ true → p ≡ 0

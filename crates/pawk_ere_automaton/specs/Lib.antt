@@ -5,3 +5,4 @@ pub mod Tree
 pub mod Expand
 pub mod Hints
 pub mod Table
+pub mod Misses

@@ -9,13 +9,16 @@ mod expansion;
 mod hints;
 mod marks;
 mod members;
+mod misses;
 mod node;
+mod notes;
 mod scan;
 mod table;
 
 pub use crate::expansion::expand;
 pub use crate::hints::{first_byte, is_anchored};
 pub use crate::members::Members;
+pub use crate::misses::Misses;
 pub use crate::node::Node;
 pub use crate::scan::{has_match, search};
 pub use crate::table::{StateTable, begin};

@@ -23,7 +23,8 @@ fn push_ranges<F: Finder>(
     ensures fault { IfErr result (TellsNone fields.entry.pattern) }
     ensures finder { finder.new ≡ finder.old }
 {
-    while let Some(field) = fields.next_range(finder)? {
+    let mut misses = finder.no_misses();
+    while let Some(field) = fields.next_range(finder, &mut misses)? {
         ranges.push(field)?;
     }
     Ok(())

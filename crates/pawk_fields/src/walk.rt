@@ -13,6 +13,7 @@ ghost use Rattle.pawk_fields.specs.FieldsOf.{AreFieldsOf, IsFaultOf, TellsNone, 
 use crate::FieldSeparator;
 use crate::cut::{Ahead, cut_at};
 use crate::finder::{Finder, next_match};
+use pawk_ere::Misses;
 use pawk_value::{Fault, Stop};
 use std::marker::Model;
 use std::ops::Range;
@@ -35,21 +36,24 @@ pub fn byte_separator(byte: u8, paragraph: bool) -> FieldSeparator
 /// The next match that is not empty, looked for where it is not known.
 fn match_ahead<F: Finder>(
     finder: &mut F,
+    misses: &mut Misses,
     pattern: &[u8],
     text: &[u8],
     from: usize,
     ahead: Ahead,
 ) -> Result<Option<(usize, usize)>, Stop>
     requires ready { F.answers_for finder.old pattern.now }
+    requires misses { F.are_misses finder.old text.now misses.old }
     requires within { from ≤ length text.now }
     requires ahead { IsAhead pattern.now text.now (Some from) ahead }
     ensures found { IfOk result (IsNextMatch pattern.now text.now from) }
     ensures fault { IfErr result (TellsNone pattern.now) }
+    ensures misses { F.are_misses finder.old text.now misses.new }
     ensures finder { finder.new ≡ finder.old }
 {
     match ahead {
         Ahead::Known(found) => Ok(found),
-        Ahead::Unknown => next_match(finder, pattern, text, from),
+        Ahead::Unknown => next_match(finder, misses, pattern, text, from),
     }
 }
 
@@ -104,15 +108,18 @@ impl<'a> FieldWalk<'a> {
     }
 
     /// The range of the next field, in bytes counted from 0, or `None` after the last one. The finder
-    /// answers for the expression. Takes no memory but what the finder takes.
+    /// answers for the expression, and the misses are of this record. Takes no memory but what the
+    /// finder and the misses take.
     ///
     /// Fault `ere` where the expression is needed and cannot be read. After an `Err` the walk is as
     /// before.
     pub(crate) fn next_range<F: Finder>(
         &mut self,
         finder: &mut F,
+        misses: &mut Misses,
     ) -> Result<Option<Range<usize>>, Stop>
         requires ready { NeedsFinder self.old → F.answers_for finder.old self.old.pattern }
+        requires misses { F.are_misses finder.old self.old.text misses.old }
         ensures field { IfOk result (λ field. MatchOption field (IsOver self.old)
             (λ f. HandsOut self.old self.new (f.start, f.end))) }
         ensures within { IfOk result (λ field. IfSome field
@@ -123,12 +130,13 @@ impl<'a> FieldWalk<'a> {
         ensures refused { IfErr result (λ _. self.new ≡ self.old) }
         ensures fault { IfErr result
             (λ stop. NeedsFinder self.old × TellsNone self.old.pattern stop) }
+        ensures misses { F.are_misses finder.old self.old.text misses.new }
         ensures finder { finder.new ≡ finder.old }
     {
         let Some(from) = self.next else {
             return Ok(None);
         };
-        let found = match_ahead(finder, self.pattern, self.text, from, self.ahead)?;
+        let found = match_ahead(finder, misses, self.pattern, self.text, from, self.ahead)?;
         let cut = cut_at(self.text, self.paragraph, from, found);
         self.next = cut.next;
         self.ahead = cut.ahead;

@@ -22,9 +22,9 @@ returns-clause-found c = λ e for.
     let text = c.args.text.now in
     let within = c.requires.within in
     let less : c.args.from < length text = omega (arith, c.if-from-text.false) in
-    IfOk-weaker c.find-2.result _ _
+    IfOk-weaker c.find_next-2.result _ _
     (λ found next. used_next e text c.args.from c.args.behind c.in_ok-found.found found less (c.in_ok-found.ensures.answer e for) (sym c.is_used.ensures ∙ c.if-not-is_used.false) next)
-    (c.find-2.ensures.answer e (subst (IsFor e) (sym c.find.ensures.same) for))
+    (c.find_next-2.ensures.answer e (subst (IsFor e) (sym c.find_next.ensures.same) for))
 
 pub returns-clause-ahead : goal.returns-clause-ahead
 returns-clause-ahead c =
@@ -32,6 +32,6 @@ returns-clause-ahead c =
     let within = c.requires.within in
     let e = c.requires.matcher.0 in
     let less : c.args.from < length text = omega (arith, c.if-from-text.false) in
-    IfOk-weaker c.find-2.result _ _
+    IfOk-weaker c.find_next-2.result _ _
     (λ found next. used_ahead e text c.args.from c.args.behind found less next)
-    (c.find-2.ensures.answer e (subst (IsFor e) (sym c.find.ensures.same) c.requires.matcher.1))
+    (c.find_next-2.ensures.answer e (subst (IsFor e) (sym c.find_next.ensures.same) c.requires.matcher.1))

@@ -1,6 +1,6 @@
 use Rattle.std.proofs.Common.{◌++◌, ◌∙◌, ◌<◌, ap, ℕ, List, Option, IfSome, length, slice_range, refl, sym, subst, arith, inl, inr}
 use Rattle.std.proofs.lemmas.List.{take_rest}
-use Rattle.pawk_ere.specs.Answers.{IsFor}
+use Rattle.pawk_ere.specs.Answers.{AreMissesFor, IsFor}
 use Rattle.pawk_code.specs.declared.word.ReplacedMatches.TheVariants.{All}
 use Rattle.pawk_value.specs.Limits.{length_limit}
 use Rattle.pawk_semantics.specs.Builtins.{replaced, replacement}
@@ -11,43 +11,44 @@ use Rattle.pawk_builtins.proofs.replace.replace_all.Goals as goal
 
 pub overflow_add-count : goal.overflow_add-count
 overflow_add-count c =
-    let i = c.loop-found.invariant in
+    let i = c.loop-misses.invariant in
     let text = c.args.text.now in
     let e = c.requires.matcher.0 in
     let for = c.requires.matcher.1 in
-    let next = subst (λ (o : Option (ℕ × ℕ)). IsNextReplaced e text c.loop-found.from c.loop-found.behind o) c.in-Some.is (c.in_ok-found.ensures.found e (subst (IsFor e) (sym i.matcher) for)) in
-    let few = count_more e c.args.replacement.now text c.loop-found.out.items c.loop-found.place c.loop-found.from c.loop-found.count c.loop-found.behind c.in-Some.found (i.laid e for) next in
+    let next = subst (λ (o : Option (ℕ × ℕ)). IsNextReplaced e text c.loop-misses.from c.loop-misses.behind o) c.in-Some.is (c.in_ok-found.ensures.found e (subst (IsFor e) (sym i.matcher) for)) in
+    let few = count_more e c.args.replacement.now text c.loop-misses.out.items c.loop-misses.place c.loop-misses.from c.loop-misses.count c.loop-misses.behind c.in-Some.found (i.laid e for) next in
     let short = c.requires.short in
     omega arith
 
-pub loop-found-preserved : goal.loop-found-preserved
-loop-found-preserved c =
-    let i = c.loop-found.invariant in
+pub loop-misses-preserved : goal.loop-misses-preserved
+loop-misses-preserved c =
+    let i = c.loop-misses.invariant in
     let text = c.args.text.now in
     let r = c.args.replacement.now in
-    let ahead = subst (λ (o : Option (ℕ × ℕ)). IfSome o (IsAhead text c.loop-found.from c.loop-found.behind)) c.in-Some.is c.in_ok-found.ensures.ahead in
+    let ahead = subst (λ (o : Option (ℕ × ℕ)). IfSome o (IsAhead text c.loop-misses.from c.loop-misses.behind)) c.in-Some.is c.in_ok-found.ensures.ahead in
     let put = is_meant c.push_match.new.out.items _ c.in_ok-push_match.ensures (omega arith) in
     record {
       matcher = c.next_match.ensures.matcher ∙ i.matcher;
+      misses = subst (λ m. AreMissesFor m text c.next_match.new.misses) i.matcher c.next_match.ensures.misses;
       ordered = c.place_past.ensures.within.0;
       high = c.place_past.ensures.within.1;
       laid = λ e for.
-          let next = subst (λ (o : Option (ℕ × ℕ)). IsNextReplaced e text c.loop-found.from c.loop-found.behind o) c.in-Some.is (c.in_ok-found.ensures.found e (subst (IsFor e) (sym i.matcher) for)) in
-          laid_step e r text (replaced All e r text) c.loop-found.out.items c.loop-found.place c.loop-found.from c.loop-found.count c.loop-found.behind c.in-Some.found
+          let next = subst (λ (o : Option (ℕ × ℕ)). IsNextReplaced e text c.loop-misses.from c.loop-misses.behind o) c.in-Some.is (c.in_ok-found.ensures.found e (subst (IsFor e) (sym i.matcher) for)) in
+          laid_step e r text (replaced All e r text) c.loop-misses.out.items c.loop-misses.place c.loop-misses.from c.loop-misses.count c.loop-misses.behind c.in-Some.found
           c.push_match.new.out.items c.place_past.result i.ordered ahead (i.laid e for) next put c.place_past.ensures.place;
     }
 
 pub returns-then-len-gt-LENGTH_LIMIT-clause-text : goal.returns-then-len-gt-LENGTH_LIMIT-clause-text
 returns-then-len-gt-LENGTH_LIMIT-clause-text c = λ e for.
-    let i = c.loop-found.invariant in
+    let i = c.loop-misses.invariant in
     let text = c.args.text.now in
     let r = c.args.replacement.now in
     let m = c.in-Some.found in
-    let out = c.loop-found.out.items in
-    let ahead = subst (λ (o : Option (ℕ × ℕ)). IfSome o (IsAhead text c.loop-found.from c.loop-found.behind)) c.in-Some.is c.in_ok-found.ensures.ahead in
-    let next = subst (λ (o : Option (ℕ × ℕ)). IsNextReplaced e text c.loop-found.from c.loop-found.behind o) c.in-Some.is (c.in_ok-found.ensures.found e (subst (IsFor e) (sym i.matcher) for)) in
-    let full = out ++ slice_range text c.loop-found.place m.0 ++ replacement (slice_range text m.0 m.1) r in
-    let laid = laid_step e r text (replaced All e r text) out c.loop-found.place c.loop-found.from c.loop-found.count c.loop-found.behind m full c.place_past.result i.ordered ahead (i.laid e for) next refl c.place_past.ensures.place in
+    let out = c.loop-misses.out.items in
+    let ahead = subst (λ (o : Option (ℕ × ℕ)). IfSome o (IsAhead text c.loop-misses.from c.loop-misses.behind)) c.in-Some.is c.in_ok-found.ensures.ahead in
+    let next = subst (λ (o : Option (ℕ × ℕ)). IsNextReplaced e text c.loop-misses.from c.loop-misses.behind o) c.in-Some.is (c.in_ok-found.ensures.found e (subst (IsFor e) (sym i.matcher) for)) in
+    let full = out ++ slice_range text c.loop-misses.place m.0 ++ replacement (slice_range text m.0 m.1) r in
+    let laid = laid_step e r text (replaced All e r text) out c.loop-misses.place c.loop-misses.from c.loop-misses.count c.loop-misses.behind m full c.place_past.result i.ordered ahead (i.laid e for) next refl c.place_past.ensures.place in
     let over : length_limit < length c.push_match.new.out.items = omega arith in
     let meant = both c.push_match.new.out.items full c.in_ok-push_match.ensures over in
     inr (record {
@@ -57,28 +58,28 @@ returns-then-len-gt-LENGTH_LIMIT-clause-text c = λ e for.
 
 pub returns-then-len-gt-LENGTH_LIMIT-clause-few : goal.returns-then-len-gt-LENGTH_LIMIT-clause-few
 returns-then-len-gt-LENGTH_LIMIT-clause-few c =
-    let i = c.loop-found.invariant in
+    let i = c.loop-misses.invariant in
     let text = c.args.text.now in
     let e = c.requires.matcher.0 in
     let for = c.requires.matcher.1 in
-    let next = subst (λ (o : Option (ℕ × ℕ)). IsNextReplaced e text c.loop-found.from c.loop-found.behind o) c.in-Some.is (c.in_ok-found.ensures.found e (subst (IsFor e) (sym i.matcher) for)) in
-    let few = count_more e c.args.replacement.now text c.loop-found.out.items c.loop-found.place c.loop-found.from c.loop-found.count c.loop-found.behind c.in-Some.found (i.laid e for) next in
+    let next = subst (λ (o : Option (ℕ × ℕ)). IsNextReplaced e text c.loop-misses.from c.loop-misses.behind o) c.in-Some.is (c.in_ok-found.ensures.found e (subst (IsFor e) (sym i.matcher) for)) in
+    let few = count_more e c.args.replacement.now text c.loop-misses.out.items c.loop-misses.place c.loop-misses.from c.loop-misses.count c.loop-misses.behind c.in-Some.found (i.laid e for) next in
     let short = c.requires.short in
     omega arith
 
 pub returns-in_ok-extend_from_slice-clause-text : goal.returns-in_ok-extend_from_slice-clause-text
 returns-in_ok-extend_from_slice-clause-text c = λ e for.
-    let i = c.loop-found.invariant in
+    let i = c.loop-misses.invariant in
     let text = c.args.text.now in
     let r = c.args.replacement.now in
-    let out = c.loop-found.out.items in
-    let next = subst (λ (o : Option (ℕ × ℕ)). IsNextReplaced e text c.loop-found.from c.loop-found.behind o) c.in_default.is (c.in_ok-found.ensures.found e (subst (IsFor e) (sym i.matcher) for)) in
-    let all = laid_all e r text (replaced All e r text) out c.loop-found.place c.loop-found.from c.loop-found.count c.loop-found.behind i.ordered (i.laid e for) next in
-    inl (all.0, λ h. all.1 ∙ (ap (λ t. out ++ t) (sym (take_rest text c.loop-found.place)) ∙ sym c.in_ok-extend_from_slice.ensures.items))
+    let out = c.loop-misses.out.items in
+    let next = subst (λ (o : Option (ℕ × ℕ)). IsNextReplaced e text c.loop-misses.from c.loop-misses.behind o) c.in_default.is (c.in_ok-found.ensures.found e (subst (IsFor e) (sym i.matcher) for)) in
+    let all = laid_all e r text (replaced All e r text) out c.loop-misses.place c.loop-misses.from c.loop-misses.count c.loop-misses.behind i.ordered (i.laid e for) next in
+    inl (all.0, λ h. all.1 ∙ (ap (λ t. out ++ t) (sym (take_rest text c.loop-misses.place)) ∙ sym c.in_ok-extend_from_slice.ensures.items))
 
 pub returns-in_ok-extend_from_slice-clause-few : goal.returns-in_ok-extend_from_slice-clause-few
 returns-in_ok-extend_from_slice-clause-few c =
-    let i = c.loop-found.invariant in
+    let i = c.loop-misses.invariant in
     let text = c.args.text.now in
     let r = c.args.replacement.now in
     let e = c.requires.matcher.0 in

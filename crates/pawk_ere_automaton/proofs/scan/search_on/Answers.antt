@@ -26,6 +26,7 @@ longest_at R start o end is m = subst (λ p. MatchOption p (StartsNone R start) 
 pub loop-start-preserved : goal.loop-start-preserved
 loop-start-preserved c = record {
   table = c.in_ok-end-2.ensures.table;
+  misses = c.in_ok-end-2.ensures.misses;
   none = none_more (Takes (regex_of c.args.node.now) c.args.text.now) c.args.from c.loop-start.start c.loop-start.invariant.none _ c.in-None-2.is c.in_ok-end-2.ensures.longest;
 }
 

@@ -1,7 +1,7 @@
-use Rattle.std.proofs.Common.{◌≡◌, ◌<◌, Bool, true, false, length, refl, inl, inr, arith}
-use Rattle.std.specs.Bool.{OnFalse}
+use Rattle.std.proofs.Common.{◌<◌, length, inl, inr, arith}
 use Rattle.pawk_ere_automaton.specs.Tree.{regex_of}
 use Rattle.pawk_ere_automaton.proofs.Walks.{all_start, none_start, next_all, none_step, none_of_yet, some_start, some_step, some_none_step, some_dead, some_at_end}
+use Rattle.pawk_ere_automaton.proofs.Silent.{some_miss}
 use Rattle.pawk_ere_automaton.proofs.scan.starts_within.Goals as goal
 use Rattle.pawk_ere_automaton.proofs.scan.starts_within.Goals.{then-low-eq0, else-low-eq0}
 
@@ -66,11 +66,14 @@ later-preserved c =
       none = some_none_step (regex_of c.args.node.now) c.args.text.now c.args.low c.args.high c.later.place c.later.table.states.items c.later.table.next.items c.later.at i.knows.0 c.index-state.result.now c.later-test.true i.table i.knows.1 c.index-state.ensures i.knows.2 i.none c.if-state.false;
     }
 
-on_false : (b : Bool) (P : Type 0) → (b ≡ false → P) → OnFalse b P
-on_false true P h = tt
-on_false false P h = h refl
+pub returns-then-has-clause-none : goal.returns-then-has-clause-none
+returns-then-has-clause-none c =
+    let i = c.later.invariant in
+    let e = regex_of c.args.node.now in
+    some_miss e c.args.text.now c.args.low c.args.high c.later.place c.later.at c.later.table.states.items i.knows.0 c.index-state.result.now c.deref.result.now i.knows.1 c.index-state.ensures c.deref.ensures.value i.knows.2 i.none
+    (c.has.ensures.silent e c.args.text.now c.requires.misses c.if-has.true)
 
 pub returns-clause-none : goal.returns-clause-none
 returns-clause-none c =
     let i = c.later.invariant in
-    on_false c.index-2.result.now.ends_at_end _ (some_at_end (regex_of c.args.node.now) c.args.text.now c.args.low c.args.high c.later.place c.later.table.states.items c.later.table.next.items c.later.at i.knows.0 c.index-2.result.now (omega (arith, c.requires.within)) i.inside c.later-test.false i.table i.knows.1 c.index-2.ensures i.knows.2 i.none)
+    some_at_end (regex_of c.args.node.now) c.args.text.now c.args.low c.args.high c.later.place c.later.table.states.items c.later.table.next.items c.later.at i.knows.0 c.index-2.result.now (omega (arith, c.requires.within)) i.inside c.later-test.false i.table i.knows.1 c.index-2.ensures i.knows.2 i.none c.if-index-2.false

@@ -8,6 +8,7 @@ invariant-loop-start g l = record {
   within : l.place ≤ length l.text;
   none : NoneUpTo l.pattern l.text l.from l.place;
   finder : l.finder ≡ l.initial.finder;
+  misses : g.F.Finder.are_misses l.initial.finder l.text l.misses;
 }
 
 abbrev pub decreases-loop-start : goal.decreases-loop-start

@@ -12,7 +12,7 @@ use Rattle.pawk_ere_automaton.specs.Tree.{regex_of}
 use Rattle.pawk_ere_automaton.specs.declared.node.Node.{Node}
 use Rattle.pawk_ere_automaton.proofs.Leftmost.{found_map, found_none}
 use Rattle.pawk_ere.proofs.Needed.{none_filtered}
-use Rattle.pawk_ere.proofs.matcher.Matcher.find.Goals as goal
+use Rattle.pawk_ere.proofs.matcher.Matcher.find_next.Goals as goal
 
 answers : (r : Result (Option (ℕ × ℕ)) AllocError) (e : Pattern) (node : Node) (text : List ℕ) (start : ℕ) → IsFor e node → IfOk r (λ found. IsFound (Takes (regex_of node) text) start found) → IfOk r (λ found. IsAnswer e text start found)
 answers (Ok found) e node text start for h = found_map (Takes (regex_of node) text) (Matches e text) start found (for.same text) h
