@@ -242,9 +242,9 @@ pub fn read_directive(text: &[u8]) -> Option<Reading<'_>>
     }
 }
 
-/// What a directive writes is as long as the width at least; the digits of a number read back as it,
-/// with no 0 in front that neither precision nor width asks for; a text is as much of the value's as
-/// the precision allows. It fails only as the value does, or for its sign or its size.
+/// What a directive writes is as long as the width or longer. The digits of a number read back as
+/// it, with no 0 in front that nothing asks for; of a text there is as much as the precision allows.
+/// It fails only as the value does, or for its sign or size. Beside `-` or a precision `0` is idle.
 pub fn directive_law(directive: Directive)
     ensures writes { DirectiveLaw directive }
     ensures fails { DirectiveFaults directive }
