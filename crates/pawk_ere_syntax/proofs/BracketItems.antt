@@ -7,6 +7,7 @@ use Rattle.pawk_ere_syntax.specs.Brackets.{all_classes, begins, bracket_at, clas
 use Rattle.pawk_ere_syntax.specs.Items.{ends, Items, with_items, IsBracket}
 use Rattle.pawk_ere_syntax.specs.Sets.{none, with_ranges, complement}
 use Rattle.std.proofs.Math.Nat.{le_refl, le_trans}
+use Rattle.pawk_ere_syntax.proofs.ItemReading.{item_is, item_read}
 use Rattle.pawk_ere_syntax.proofs.Reading.{some_inj}
 
 -- what was read leaves at most n bytes
@@ -130,7 +131,7 @@ read_items (suc n) first bytes members all rest h = go (ends first bytes) refl h
     next None at going h again = cc
     next (Some x) at going h again =
         let y = again x.0 x.1 h in
-        (x.0 ∷ y.0, (going, x.1, at, y.1), y.2)
+        (x.0 ∷ y.0, (going, x.1, item_is first bytes x.1 x.0 at, y.1), y.2)
 
     go : (b : Bool) → ends first bytes ≡ b → cond b (Some (members, drop 1 bytes)) (and_then (λ more left. items n more false left) members (item_at first bytes)) ≡ Some (all, rest) → ReadsOn n members all rest
         → (is : List BracketItem) × Items first bytes is rest × (all ≡ with_items is members)
@@ -150,12 +151,13 @@ items_read : (is : List BracketItem) (n : ℕ) (first : Bool) (bytes : List ℕ)
 unfolding items
 items_read [] zero first bytes members rest le h = let x = ends_some first bytes h.0 in absurd (omega arith)
 items_read [] (suc n) first bytes members rest le h = rw (h.0, h.1) refl
-items_read (i ∷ is) zero first bytes members rest le h = let x = shorter first bytes h.1 i h.2 in absurd (omega arith)
+items_read (i ∷ is) zero first bytes members rest le h = let x = shorter first bytes h.1 i (item_read first bytes h.1 i h.2) in absurd (omega arith)
 items_read (i ∷ is) (suc n) first bytes members rest le h =
-    let x = shorter first bytes h.1 i h.2 in
+    let at = item_read first bytes h.1 i h.2 in
+    let x = shorter first bytes h.1 i at in
     let y = items_read is n false h.1 (with_ranges (item_ranges i) members) rest (omega arith) h.3 in
     let step : items (suc n) members first bytes ≡ and_then (λ more left. items n more false left) members (item_at first bytes) = rw h.0 refl in
-    step ∙ ap (and_then (λ more left. items n more false left) members) h.2 ∙ y
+    step ∙ ap (and_then (λ more left. items n more false left) members) at ∙ y
 
 outside_some : (o : Option (List Bool × List ℕ)) (members : List Bool) (rest : List ℕ) → outside o ≡ Some (members, rest)
     → (all : List Bool) × (o ≡ Some (all, rest)) × (members ≡ complement all)

@@ -1,5 +1,6 @@
 pub mod Refused
 pub mod Sets
+pub mod ItemReading
 pub mod Items
 pub mod Reading
 pub mod Weights

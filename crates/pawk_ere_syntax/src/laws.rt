@@ -35,7 +35,8 @@ pub fn sets_hold()
     ensures outside { (m : List Bool) (b : ℕ) → b < 256 → Holds (complement m) b ↔ (Holds m b → ⊥) }
 {}
 
-/// What is read after a `[` is a bracket expression, item by item, and each is read so.
+/// What is read after a `[` is a bracket expression: classes, points and ranges up to the `]`; and
+/// each is read so.
 pub fn brackets_are_items()
     ensures { (s rest : List ℕ) (m : List Bool) → (bracket_at s ≡ Some (m, rest)) ↔ IsBracket s m rest }
 {}
@@ -46,7 +47,8 @@ pub fn bounds_are_numerals()
         → (bound_at bytes ≡ Some (Times least most, rest)) ↔ IsBound bytes least most rest }
 {}
 
-/// What is read after a backslash is a letter of the table, octal digits of the byte, or punctuation.
+/// What is read after a backslash is a letter for a byte, punctuation, or up to three octal digits,
+/// as many as there are and make a byte; and each is read so.
 pub fn escapes_are_bytes()
-    ensures { (s rest : List ℕ) (b : ℕ) → escape_at s ≡ Some (b, rest) → IsEscape s b rest }
+    ensures { (s rest : List ℕ) (b : ℕ) → (escape_at s ≡ Some (b, rest)) ↔ IsEscape s b rest }
 {}

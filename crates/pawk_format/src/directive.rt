@@ -6,7 +6,7 @@ ghost use Rattle.pawk_format.specs.Format.{contains, is_flag, spelling_in_front,
 ghost use Rattle.pawk_format.specs.FormatViews.{cap, cap_precision, cap_directive};
 ghost use Rattle.pawk_scalar.specs.Bytes.{is_digit};
 ghost use Rattle.pawk_scalar.specs.Numeral.{digits_value, after_while};
-ghost use Rattle.pawk_format.specs.DirectiveLaw.{DirectiveLaw};
+ghost use Rattle.pawk_format.specs.DirectiveLaw.{DirectiveLaw, DirectiveFaults, ZeroIsIdle};
 ghost use Rattle.pawk_format.specs.Format as spec;
 
 use pawk_scalar::{LENGTH_LIMIT, leading_digits};
@@ -242,10 +242,13 @@ pub fn read_directive(text: &[u8]) -> Option<Reading<'_>>
     }
 }
 
-/// What a directive writes is at least as long as the width; the digits of a number read back as it,
-/// and are at least as many as the precision; a text is a beginning of the value's.
+/// What a directive writes is as long as the width or longer. The digits of a number read back as
+/// it, with no 0 in front that nothing asks for; of a text there is as much as the precision allows.
+/// It fails only as the value does, or for its sign or size. Beside `-` or a precision `0` is idle.
 pub fn directive_law(directive: Directive)
-    ensures { DirectiveLaw directive }
+    ensures writes { DirectiveLaw directive }
+    ensures fails { DirectiveFaults directive }
+    ensures idle { ZeroIsIdle directive }
 {
     let _ = directive;
 }

@@ -4,11 +4,12 @@ use Rattle.std.proofs.lemmas.Bool.{eqb-true, false≢true}
 use Rattle.std.proofs.lemmas.Bool.Decides.{eqb_tells}
 use Rattle.std.proofs.lemmas.List.{get_or-drop, get_or-take, length-drop, length-take-le, drop-drop, take-take, drop-take, nil_from_length}
 use Rattle.std.specs.List.{onto_first}
-use Rattle.pawk_records.specs.Records.{newline, records, records_by}
+use Rattle.pawk_records.specs.Records.{newline, records, paragraphs, records_by}
 use Rattle.pawk_records.specs.Begins.{is_after, begins_at, BeginsAt, begins_by, places_where, BeginsLaw}
 use Rattle.pawk_records.proofs.PlaceLemmas.{places_where-none, places_where-rising, places_where-same, passes_at, contains_place}
 use Rattle.pawk_records.proofs.LineLemmas.{records_parts}
 use Rattle.pawk_records.proofs.RecordsLemmas.{length-records, some_records}
+use Rattle.pawk_records.proofs.StandingLemmas.{lines_along, Stand, records_stand, paragraphs_stand, standing_at}
 use Rattle.pawk_records.proofs.ParagraphLemmas.{begins_along, count_outside, IsGap, paragraphs_parts, some_paragraphs, length-paragraphs_from}
 
 -- ---- what the test says
@@ -68,12 +69,6 @@ rest_is s at b t left = sym (drop-drop 1 at s) ∙ ap (drop 1) left
 
 -- ---- as many as records
 
--- the places in bytes that begin at place `at`; `fresh` says whether one begins at the first
-abbrev lines_along : ℕ → ℕ → Bool → List ℕ → List ℕ
-lines_along e at fresh [] = []
-lines_along e at fresh (b ∷ s) =
-    cond fresh (at ∷ lines_along e (at + 1) (eqb b e) s) (lines_along e (at + 1) (eqb b e) s)
-
 length-onto_first : (b : ℕ) (ps : List (List ℕ)) → length (onto_first b ps) ≡ length ps - 1 + 1
 length-onto_first b [] = refl
 length-onto_first b (p ∷ ps) = omega arith
@@ -119,6 +114,10 @@ pub length-begins_by : (rs s : List ℕ) → length (begins_by rs s) ≡ length 
 length-begins_by [] s = ap length (along_paragraphs s s 0 refl) ∙ sym (count_outside s 0)
 length-begins_by (e ∷ rs) s = ap length (along_lines e rs s s 0 refl) ∙ count_lines e s 0 true
 
+all_stand : (rs s : List ℕ) → Stand s (begins_by rs s) (records_by rs s)
+all_stand [] s = subst (λ ps. Stand s ps (paragraphs s)) (sym (along_paragraphs s s 0 refl)) (paragraphs_stand s)
+all_stand (e ∷ rs) s = subst (λ ps. Stand s ps (records e s)) (sym (along_lines e rs s s 0 refl)) (records_stand e s)
+
 pub begins_law_lem : (rs s : List ℕ) → BeginsLaw rs s
 begins_law_lem rs s = record {
   just = λ p. (
@@ -127,6 +126,7 @@ begins_law_lem rs s = record {
   );
   rising = places_where-rising (begins_at rs s) 0 (length s);
   count = length-begins_by rs s;
+  standing = λ k lt. standing_at s (begins_by rs s) (records_by rs s) k (all_stand rs s) lt;
 }
 
 -- ---- parted where a record begins

@@ -4,6 +4,7 @@ pub mod LineLemmas
 pub mod PlaceLemmas
 pub mod ParagraphLemmas
 pub mod ParagraphLawLemmas
+pub mod StandingLemmas
 pub mod BeginsLemmas
 pub mod FindLemmas
 pub mod CountLemmas

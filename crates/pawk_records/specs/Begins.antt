@@ -1,6 +1,6 @@
 -- The places at which the records of a file begin, counted from 0.
 use Rattle.std.specs.Prelude.{◌≡◌, ℕ, zero, suc, ◌+◌, ◌-◌, ◌<◌, ◌↔◌, Bool, true, not, ◌==◌}
-use Rattle.std.specs.Prelude.{◌||◌, ◌&&◌, if◌then◌else◌, List, [], ◌∷◌, slice_index, length, Contains}
+use Rattle.std.specs.Prelude.{◌||◌, ◌&&◌, if◌then◌else◌, List, [], ◌∷◌, slice_index, slice_range, get_or, length, Contains}
 use Rattle.std.specs.List.Sorted.{IsStrictlyIncreasing}
 use Rattle.pawk_records.specs.Records.{newline, records_by}
 
@@ -34,9 +34,13 @@ begins_by rs bytes = places_where (begins_at rs bytes) 0 (length bytes)
 abbrev pub begins_within : List ℕ → List ℕ → ℕ → ℕ → List ℕ
 begins_within rs bytes i j = places_where (begins_at rs bytes) i (j - i)
 
--- the begins are just the places within the bytes at which a record begins, they rise, and there
--- are as many as records
+-- the begins are just the places within the bytes at which a record begins, they rise, there are as
+-- many as records, and the bytes from the k-th on are those of the k-th record
 pub record BeginsLaw (rs bytes : List ℕ) : Type 0 where
   pub just : (p : ℕ) → Contains (begins_by rs bytes) p ↔ ((p < length bytes) × BeginsAt rs bytes p)
   pub rising : IsStrictlyIncreasing (begins_by rs bytes)
   pub count : length (begins_by rs bytes) ≡ length (records_by rs bytes)
+  pub standing : (k : ℕ) → k < length (records_by rs bytes)
+      → let begin = get_or (begins_by rs bytes) k 0 in
+      let record_k = get_or (records_by rs bytes) k [] in
+      slice_range bytes begin (begin + length record_k) ≡ record_k

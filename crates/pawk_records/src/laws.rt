@@ -17,7 +17,7 @@ pub fn records_law(rs: &[u8], text: &[u8])
 
 /// The places at which a text's records begin are, by one byte, the first byte and each byte after
 /// it; by an empty `RS` each byte that is no newline and follows two, or nothing but newlines. They
-/// rise, and there are as many as records.
+/// rise, there are as many as records, and each record's bytes stand where it begins.
 pub fn begins_law(rs: &[u8], text: &[u8])
     ensures { BeginsLaw rs.now text.now }
 {

@@ -1,2 +1,3 @@
 pub mod ValueLemmas
 pub mod AnswerLemmas
+pub mod ValueLawLemmas

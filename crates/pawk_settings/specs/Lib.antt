@@ -3,3 +3,4 @@ pub mod Refusals
 pub mod Escapes
 pub mod Assignments
 pub mod SettingsViews
+pub mod ValueLaw

@@ -2,6 +2,7 @@
 #![tactic(auto)]
 
 mod assignment;
+pub mod law;
 mod refusal;
 mod settings;
 
