@@ -1,0 +1,9 @@
+pub mod PiecesLemmas
+pub mod WindowLemmas
+pub mod PartingLemmas
+pub mod ExtentLemmas
+pub mod FilesLemmas
+pub mod StreamLemmas
+pub mod CutLemmas
+pub mod NumberLemmas
+pub mod WayLemmas
