@@ -26,6 +26,7 @@ pub struct Row {
 /// that is begun anew has other states at the same numbers. A miss is a fact of the marks alone and stays true.
 #[derive(Drop)]
 pub struct Misses {
+    pub alloc: Global,
     pub rows: Vec<Row>,
     /// A walk went on in vain for long: the next one is noted.
     pub wanted: bool,
@@ -102,6 +103,7 @@ impl Misses {
         ensures { (e : Regex) (text : List ℕ) → AreMissesOf e text result }
     {
         Misses {
+            alloc,
             rows: Vec::new(alloc),
             wanted: false,
         }
@@ -152,7 +154,6 @@ impl Misses {
     /// there in the state of this number, with these marks.
     pub fn note(
         &mut self,
-        alloc: Global,
         at: usize,
         marks: &[bool],
         place: usize,
@@ -165,7 +166,7 @@ impl Misses {
         if place % STRIDE != 0 || place <= past {
             return Ok(());
         }
-        add_rows(alloc, &mut self.rows, at)?;
-        note_row(alloc, &mut self.rows[at], marks, place / STRIDE)
+        add_rows(self.alloc, &mut self.rows, at)?;
+        note_row(self.alloc, &mut self.rows[at], marks, place / STRIDE)
     }
 }

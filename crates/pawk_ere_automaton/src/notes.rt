@@ -10,14 +10,13 @@ ghost use Rattle.std.specs.Prelude.{◌≡◌, ℕ, ◌<◌, ◌≤◌, length};
 use crate::misses::Misses;
 use crate::node::Node;
 use crate::table::{FIRST, IDLE, LATER, OPEN, StateTable, close, state_after};
-use std::alloc::{AllocError, Global};
+use std::alloc::AllocError;
 
 /// Notes the states of the walk from `from` at the places after `past`, before `end`: no match from `from` ends there. An
 /// `Err` leaves a table too.
 #[cold]
 #[inline(never)]
 pub fn note_walk(
-    alloc: Global,
     node: &Node,
     table: &mut StateTable,
     misses: &mut Misses,
@@ -34,10 +33,11 @@ pub fn note_walk(
     ensures table { IsTable (regex_of node.now) table.new }
     ensures misses { AreMissesOf (regex_of node.now) text.now misses.new }
 {
+    let alloc = misses.alloc;
     let mut place = from;
     let mut at = if from == 0 { FIRST } else { LATER };
     while place < end {
-        misses.note(alloc, at, &table.states[at].marks, place, past)?;
+        misses.note(at, &table.states[at].marks, place, past)?;
         at = state_after(alloc, node, table, at, text[place])?;
         place += 1;
     }
@@ -49,7 +49,6 @@ pub fn note_walk(
 #[cold]
 #[inline(never)]
 pub fn note_starts(
-    alloc: Global,
     node: &Node,
     table: &mut StateTable,
     misses: &mut Misses,
@@ -68,6 +67,7 @@ pub fn note_starts(
     ensures table { IsTable (regex_of node.now) table.new }
     ensures misses { AreMissesOf (regex_of node.now) text.now misses.new }
 {
+    let alloc = misses.alloc;
     let mut at = if low == 0 { OPEN } else { IDLE };
     let mut place = low;
     while place <= high {
@@ -76,7 +76,7 @@ pub fn note_starts(
     }
     at = close(alloc, node, table, at)?;
     'later: while place < end {
-        misses.note(alloc, at, &table.states[at].marks, place, high)?;
+        misses.note(at, &table.states[at].marks, place, high)?;
         at = state_after(alloc, node, table, at, text[place])?;
         place += 1;
     }

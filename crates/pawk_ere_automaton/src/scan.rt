@@ -255,7 +255,7 @@ fn longest_noted(
     let walk = longest_walk(alloc, node, table, misses, text, from)?;
     let past = walk.best.unwrap_or(from);
     if misses.wants(walk.end.saturating_sub(past)) {
-        note_walk(alloc, node, table, misses, text, from, past, walk.end)?;
+        note_walk(node, table, misses, text, from, past, walk.end)?;
     }
     Ok(walk.best)
 }
@@ -334,7 +334,7 @@ fn starts_noted(
         None => Ok(true),
         Some(end) => {
             if misses.wants(end.saturating_sub(high)) {
-                note_starts(alloc, node, table, misses, text, low, high, end)?;
+                note_starts(node, table, misses, text, low, high, end)?;
             }
             Ok(false)
         }
