@@ -7,3 +7,4 @@ pub mod FormatLemmas
 pub mod OccurrenceLemmas
 pub mod PlaceLemmas
 pub mod ValueLemmas
+pub mod TextLawLemmas

@@ -8,3 +8,4 @@ pub mod MatcherViews
 pub mod ReplaceWalks
 pub mod ValueViews
 pub mod FormatViews
+pub mod TextLaws

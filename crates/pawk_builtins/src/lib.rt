@@ -8,6 +8,7 @@ mod between;
 mod conversions;
 mod expression;
 mod formats;
+pub mod laws;
 mod letters;
 mod matchers;
 mod occurrence;

@@ -1,0 +1,9 @@
+use Rattle.pawk_builtins.proofs.TextLawLemmas as lemmas
+use Rattle.pawk_builtins.proofs.laws.text_laws.Goals as goal
+
+pub returns : goal.returns
+returns c = record {
+  index = lemmas.index_law;
+  replacement = lemmas.replacement_law;
+  replaced = lemmas.replaced_law;
+}
