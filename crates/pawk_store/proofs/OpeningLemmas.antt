@@ -53,7 +53,7 @@ knows_more es ns n h w =
     ∙ ap (λ b. b || bytes_eq w n) (h w)
     ∙ sym (among_more w n ns)
 
-texts_and : (es : List (Vec ℕ Global)) (e : Vec ℕ Global) → texts_of (es ++ e ∷ []) ≡ texts_of es ++ e.items ∷ []
+pub texts_and : (es : List (Vec ℕ Global)) (e : Vec ℕ Global) → texts_of (es ++ e ∷ []) ≡ texts_of es ++ e.items ∷ []
 texts_and [] e = refl
 texts_and (x ∷ es) e = ap (λ ts. x.items ∷ ts) (texts_and es e)
 
