@@ -134,6 +134,7 @@ struct Walk {
 }
 
 /// Where the longest match from a place ends. An `Err` leaves a table too.
+#[inline(always)]
 fn longest_from(
     alloc: Global,
     node: &Node,
@@ -170,6 +171,7 @@ fn longest_from(
 }
 
 /// What `longest_from` answers, by a walk that ends where it meets a miss.
+#[inline(never)]
 fn longest_until(
     alloc: Global,
     node: &Node,
@@ -211,6 +213,7 @@ fn longest_until(
 }
 
 /// What `longest_from` answers, with the misses that there are.
+#[inline(always)]
 fn longest_walk(
     alloc: Global,
     node: &Node,
@@ -235,6 +238,7 @@ fn longest_walk(
 }
 
 /// Where the longest match from a place ends. What the walk found to lead to nothing is held. An `Err` leaves a table too.
+#[inline(always)]
 fn longest_noted(
     alloc: Global,
     node: &Node,
@@ -343,6 +347,7 @@ fn starts_noted(
 
 /// A place from `low` to `high`, before which no match starts from `low` on.
 /// An `Err` leaves a table too.
+#[inline(never)]
 fn least_start(
     alloc: Global,
     node: &Node,
