@@ -75,11 +75,7 @@ pub(crate) fn push_opening_values(
 }
 
 /// The names of a program, for looking names up among them.
-fn known_names(
-    alloc: Global,
-    seed: Seed,
-    names: &[Vec<u8>],
-) -> Result<AssociativeArray, AllocError>
+fn known_names(alloc: Global, seed: Seed, names: &[Vec<u8>]) -> Result<AssociativeArray, AllocError>
     ensures { IfOk result (λ known. Knows known (texts_of names.now)) }
 {
     let mut known = AssociativeArray::new(alloc, seed);

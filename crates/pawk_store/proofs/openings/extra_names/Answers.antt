@@ -14,10 +14,9 @@ loop-assignment-preserved c =
     let rest = pairs_of (drop (i + 1) all) in
     let step = c.in_ok-push_name.ensures names c.loop-assignment.invariant.0 in
     let next : pairs_of (drop i all) ≡ (item.name.items, item.value.items) ∷ rest =
-    ap pairs_of (drop_more all i item c.loop-assignment-test.true ∙ ap (λ a. a ∷ drop (i + 1) all) (sym c.assignment-item.is)) in
-    (
+    ap pairs_of (drop_more all i item c.loop-assignment-test.true ∙ ap (λ a. a ∷ drop (i + 1) all) (sym c.assignment-item.is)) in (
       step.0,
       ap (λ ns. names_with ns rest) (step.1 ∙ ap (with_name before) c.as_slice.ensures.value)
-      ∙ ap (names_with before) (sym next)
-      ∙ c.loop-assignment.invariant.1,
+          ∙ ap (names_with before) (sym next)
+          ∙ c.loop-assignment.invariant.1,
     )

@@ -17,9 +17,8 @@ returns c names knows =
     let ns = names ++ texts_of c.args.extras.now.items in
     let away : is_some (found w c.args.known.now) ≡ false = sym c.contains.ensures ∙ c.if-contains.false in
     let more : names ++ texts_of c.push.new.self.items ≡ ns ++ w ∷ [] =
-    texts_more names w c.args.extras.now.items c.push.new.self.items c.in_ok-name.name c.in_ok-name.ensures.items c.in_ok-push.ensures.items in
-    (
+    texts_more names w c.args.extras.now.items c.push.new.self.items c.in_ok-name.name c.in_ok-name.ensures.items c.in_ok-push.ensures.items in (
       subst (λ es. Knows es (names ++ texts_of c.push.new.self.items)) (sym c.in_ok-set.ensures)
-      (subst (λ ts. Knows (put w Uninit c.args.known.now) ts) (sym more) (knows_more c.args.known.now ns w knows)),
+          (subst (λ ts. Knows (put w Uninit c.args.known.now) ts) (sym more) (knows_more c.args.known.now ns w knows)),
       more ∙ name_added w ns c.args.known.now knows away,
     )
