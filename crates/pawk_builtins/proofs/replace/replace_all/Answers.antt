@@ -8,6 +8,7 @@ use Rattle.pawk_builtins.specs.ReplaceWalks.{IsAhead, IsNextReplaced}
 use Rattle.pawk_builtins.proofs.LongLemmas.{is_meant, both, longer}
 use Rattle.pawk_builtins.proofs.ReplaceLemmas.{laid_step, laid_all, count_more, count_within}
 use Rattle.pawk_builtins.proofs.replace.replace_all.Goals as goal
+use Rattle.pawk_builtins.proofs.replace.replace_all.Goals.{then-count-gt0+in_ok-extend_from_slice, else-count-gt0}
 
 pub overflow_add-count : goal.overflow_add-count
 overflow_add-count c =
@@ -67,18 +68,25 @@ returns-then-len-gt-LENGTH_LIMIT-clause-few c =
     let short = c.requires.short in
     omega arith
 
-pub returns-in_ok-extend_from_slice-clause-text : goal.returns-in_ok-extend_from_slice-clause-text
-returns-in_ok-extend_from_slice-clause-text c = λ e for.
+pub returns-clause-text : goal.returns-clause-text
+returns-clause-text c = λ e for.
     let i = c.loop-misses.invariant in
     let text = c.args.text.now in
     let r = c.args.replacement.now in
     let out = c.loop-misses.out.items in
     let next = subst (λ (o : Option (ℕ × ℕ)). IsNextReplaced e text c.loop-misses.from c.loop-misses.behind o) c.in_default.is (c.in_ok-found.ensures.found e (subst (IsFor e) (sym i.matcher) for)) in
     let all = laid_all e r text (replaced All e r text) out c.loop-misses.place c.loop-misses.from c.loop-misses.count c.loop-misses.behind i.ordered (i.laid e for) next in
-    inl (all.0, λ h. all.1 ∙ (ap (λ t. out ++ t) (sym (take_rest text c.loop-misses.place)) ∙ sym c.in_ok-extend_from_slice.ensures.items))
+    inl (
+      all.0,
+      λ h. elim c.if-count-gt0.branch [
+        | then-count-gt0+in_ok-extend_from_slice w ↦
+            all.1 ∙ (ap (λ t. out ++ t) (sym (take_rest text c.loop-misses.place)) ∙ sym w.in_ok-extend_from_slice.ensures.items) ∙ sym (ap (λ v. v.items) w.out-is)
+        | else-count-gt0 w ↦ absurd (omega (arith, h, w.if-count-gt0.false))
+      ],
+    )
 
-pub returns-in_ok-extend_from_slice-clause-few : goal.returns-in_ok-extend_from_slice-clause-few
-returns-in_ok-extend_from_slice-clause-few c =
+pub returns-clause-few : goal.returns-clause-few
+returns-clause-few c =
     let i = c.loop-misses.invariant in
     let text = c.args.text.now in
     let r = c.args.replacement.now in
