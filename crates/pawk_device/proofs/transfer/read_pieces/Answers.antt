@@ -19,7 +19,7 @@ pub returns-then-len-gt-LIMIT-clause-large : goal.returns-then-len-gt-LIMIT-clau
 returns-then-len-gt-LIMIT-clause-large g c = λ _.
     let bs = c.loop-count.bytes.items in
     let given = Consumes-more _ _ _ bs (take c.in-Ok.count c.read.new.buffer) c.loop-count.invariant.gave c.in-Ok.ensures.bytes.0 in
-    let all = subst (λ l. Consumes (g.S.Source.left c.args.source.now) (g.S.Source.left c.read.new.self) l) (sym c.in_ok-extend_from_slice.ensures.items) given in
+    let all = subst (λ l. Consumes (g.S.Source.left c.args.source.now) (g.S.Source.left c.read.new.self) l) (sym (c.in_ok-extend_from_slice.ensures.items ∙ ap (λ l. l ++ take c.in-Ok.count c.read.new.buffer) c.make_room.ensures)) given in
     given_most _ _ c.extend_from_slice.new.self.items LIMIT all (omega arith)
 
 pub loop-count-preserved : goal.loop-count-preserved
@@ -28,6 +28,6 @@ loop-count-preserved g c =
     let given = Consumes-more _ _ _ bs (take c.in-Ok.count c.read.new.buffer) c.loop-count.invariant.gave c.in-Ok.ensures.bytes.0 in
     record {
       small = omega arith;
-      gave = subst (λ l. Consumes (g.S.Source.left c.args.source.now) (g.S.Source.left c.read.new.self) l) (sym c.in_ok-extend_from_slice.ensures.items) given;
+      gave = subst (λ l. Consumes (g.S.Source.left c.args.source.now) (g.S.Source.left c.read.new.self) l) (sym (c.in_ok-extend_from_slice.ensures.items ∙ ap (λ l. l ++ take c.in-Ok.count c.read.new.buffer) c.make_room.ensures)) given;
       no_failure = c.in-Ok.ensures.counted ∙ c.loop-count.invariant.no_failure;
     }
