@@ -56,7 +56,7 @@ demo:
 	@printf '1\n2\n3\n' | build/pawk -j 2 -c 1 '{ n += $$1 } END { print n }'
 
 test: program
-	@tests/run rows programs tables devices cookbook completions memory
+	@tests/run rows programs tables devices threads cookbook completions memory
 
 prove: toolchain
 	@release/gate always

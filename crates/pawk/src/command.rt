@@ -2,6 +2,7 @@
 
 use crate::command_line::{CommandLine, read_words};
 use crate::explanations::explain_stop;
+use crate::host::Host;
 use crate::outlet::Outlet;
 use crate::reports::{End, RunFailure, UNWRITTEN, report_end, report_stop, report_words};
 use crate::script::read_script;
@@ -9,7 +10,6 @@ use crate::whole::run_whole;
 use crate::words::unambiguous;
 use clap::Error;
 use pawk_explain::Script;
-use pawk_par::Seed;
 use std::alloc::{AllocError, Global};
 use std::io;
 use std::io::{IsTerminal, Read, Write};
@@ -122,7 +122,7 @@ where
 fn do_words<R, I, O, E>(
     rt: &R,
     words: &[String],
-    seed: Seed,
+    host: Host,
     input: &mut I,
     output: &mut Outlet<O>,
     errors: &mut E,
@@ -138,7 +138,7 @@ where
     let Ok(words) = unambiguous(alloc, words) else {
         return report_words(alloc, &Error::from(AllocError), output, errors);
     };
-    match read_words(alloc, words.as_slice(), seed) {
+    match read_words(alloc, words.as_slice(), host) {
         Ok(line) => do_line(rt, &line, input, output, errors),
         Err(error) => report_words(alloc, &error, output, errors),
     }
@@ -146,11 +146,11 @@ where
 
 /// Does what the words ask for, the first of which is the program's name, and gives the exit status: the output goes to
 /// `output`, what else there is to report to `errors`. Without files in the words, `input` is the one file without a name.
-/// Keys of elements are hashed by `seed`.
+/// `host` says what keys of elements are hashed by, and how deep this thread's stack is.
 pub(crate) fn command<R, I, O, E>(
     rt: &R,
     words: &[String],
-    seed: Seed,
+    host: Host,
     mut input: I,
     output: O,
     mut errors: E,
@@ -163,7 +163,7 @@ where
     E: Write + IsTerminal + Drop,
 {
     let mut output = Outlet::new(output);
-    match do_words(rt, words, seed, &mut input, &mut output, &mut errors) {
+    match do_words(rt, words, host, &mut input, &mut output, &mut errors) {
         Ok(status) => status,
         Err(_) => {
             let _ = errors.write_all(b"pawk: cannot write\n");

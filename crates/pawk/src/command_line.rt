@@ -2,9 +2,9 @@
 
 ghost use Rattle.std.specs.Prelude.{◌<◌, ◌≤◌};
 
+use crate::host::Host;
 use clap::error::ErrorKind;
 use clap::{Arg, ArgAction, ArgMatches, Command, Error, value_parser};
-use pawk_par::Seed;
 use std::alloc::{AllocError, Global};
 use std::io::IsTerminal;
 
@@ -71,7 +71,7 @@ impl Tools {
     }
 }
 
-/// What the words of the command line ask for, and the seed of the run.
+/// What the words of the command line ask for, and what the run takes of its host.
 #[derive(Drop)]
 pub(crate) struct CommandLine<'a> {
     pub(crate) program: ProgramSource<'a>,
@@ -87,8 +87,7 @@ pub(crate) struct CommandLine<'a> {
     pub(crate) workers: u8,
     /// The size of a chunk in bytes.
     pub(crate) chunk: u64,
-    /// What keys of elements are hashed by.
-    pub(crate) seed: Seed,
+    pub(crate) host: Host,
     pub(crate) tools: Tools,
     ghost some: { 1 ≤ workers },
     ghost few: { workers ≤ 64 },
@@ -300,7 +299,7 @@ fn line_of<'a>(
     alloc: Global,
     matches: &ArgMatches<'a>,
     program: ProgramSource<'a>,
-    seed: Seed,
+    host: Host,
 ) -> Result<CommandLine<'a>, AllocError> {
     let files = file_names(alloc, matches, &program)?;
     let assignments = Vec::from_slice(alloc, matches.get_strs("assignment").unwrap_or(&[]))?;
@@ -315,7 +314,7 @@ fn line_of<'a>(
             .unwrap_or(WORKERS)
             .clamp(1, 64),
         chunk: matches.get_one::<u64>("chunk").unwrap_or(CHUNK).max(1),
-        seed,
+        host,
         tools: read_tools(matches),
     })
 }
@@ -325,11 +324,11 @@ fn read_by<'a>(
     alloc: Global,
     command: &mut Command<'a>,
     words: &'a [String],
-    seed: Seed,
+    host: Host,
 ) -> Result<CommandLine<'a>, Error> {
     let matches = command.try_get_matches_from_mut(words)?;
     match program_source(alloc, &matches)? {
-        Some(program) if are_plain(&matches) => Ok(line_of(alloc, &matches, program, seed)?),
+        Some(program) if are_plain(&matches) => Ok(line_of(alloc, &matches, program, host)?),
         Some(_) => {
             let text = "a number is written in digits alone";
             Err(fault(command, ErrorKind::ValueValidation, text))
@@ -345,8 +344,8 @@ fn read_by<'a>(
 pub(crate) fn read_words<'a>(
     alloc: Global,
     words: &'a [String],
-    seed: Seed,
+    host: Host,
 ) -> Result<CommandLine<'a>, Error> {
     let mut command = definition(alloc)?;
-    read_by(alloc, &mut command, words, seed)
+    read_by(alloc, &mut command, words, host)
 }

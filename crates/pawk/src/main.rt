@@ -6,21 +6,21 @@ mod command_line;
 mod deep;
 mod explanations;
 mod files;
+mod host;
 mod listing;
 mod messages;
 mod outlet;
 mod reports;
 mod script;
-mod seeding;
 mod statistics;
 mod stripes;
 mod whole;
 mod words;
 
 use command::command;
-use deep::do_in;
+use deep::{Depth, do_in};
+use host::{Host, seed_of};
 use messages::Messages;
-use seeding::seed_of;
 use std::process::ExitCode;
 use std::{io, thread};
 
@@ -59,17 +59,24 @@ fn main(rt: HostRuntime) -> ExitCode {
     };
     let words = words.as_slice();
     let seed = seed_of(rt);
+    // A flat stack is enough for a program without functions, where the system has no space for a deep one.
     let status = thread::scope(thread::scope_env(), rt, |scope| -> Option<u8> {
-        do_in(scope, rt, move || {
-            command(
-                rt,
-                words,
-                seed,
-                rt.stdin(),
-                rt.stdout(),
-                Messages::new(rt.stderr()),
-            )
-        })
+        for depth in [Depth::Deep, Depth::Flat] {
+            let done = do_in(scope, rt, depth, move || {
+                command(
+                    rt,
+                    words,
+                    Host { seed, depth },
+                    rt.stdin(),
+                    rt.stdout(),
+                    Messages::new(rt.stderr()),
+                )
+            });
+            if done.is_some() {
+                return done;
+            }
+        }
+        None
     });
     ExitCode::from(status.unwrap_or_else(|| refuse(rt, NO_THREAD)))
 }

@@ -9,32 +9,44 @@ use std::sync::atomic::AtomicUsize;
 use std::sync::atomic::Ordering::SeqCst;
 use std::time::{Duration, Instant};
 
-/// Counts the chunks that workers run.
+/// Counts the chunks that workers run, and the threads that cannot be started for workers, whose work the run's own thread does.
 #[derive(Drop)]
-pub(crate) struct ChunkCount {
-    count: AtomicUsize,
+pub(crate) struct Tally {
+    chunks: AtomicUsize,
+    lacking_threads: AtomicUsize,
 }
 
-impl ChunkCount {
-    /// No chunk yet.
-    pub(crate) fn new() -> ChunkCount {
-        ChunkCount {
-            count: AtomicUsize::new(0),
+impl Tally {
+    /// Nothing yet.
+    pub(crate) fn new() -> Tally {
+        Tally {
+            chunks: AtomicUsize::new(0),
+            lacking_threads: AtomicUsize::new(0),
         }
     }
 
     /// How many chunks were begun.
-    pub(crate) fn get(&self) -> usize {
-        self.count.load(SeqCst)
+    pub(crate) fn chunks(&self) -> usize {
+        self.chunks.load(SeqCst)
+    }
+
+    /// How many threads could not be started.
+    pub(crate) fn lacking_threads(&self) -> usize {
+        self.lacking_threads.load(SeqCst)
     }
 }
 
-impl Gate for ChunkCount {
+impl Gate for Tally {
     fn enter(&self, _chunk: u64) {
-        self.count.fetch_add(1, SeqCst);
+        self.chunks.fetch_add(1, SeqCst);
     }
 
     fn leave(&self, _chunk: u64, _output: Option<&[u8]>) {}
+
+    fn may_lack_thread(&self) -> bool {
+        self.lacking_threads.fetch_add(1, SeqCst);
+        true
+    }
 }
 
 /// A moment, where the system has a clock.
@@ -70,6 +82,8 @@ pub(crate) struct Moments {
 pub(crate) struct Statistics {
     pub(crate) route: Route,
     pub(crate) workers: u8,
+    /// How many threads could not be started for workers.
+    pub(crate) lacking_threads: usize,
     /// How many chunks were run by workers.
     pub(crate) chunks: usize,
     /// How many records were read.
@@ -93,6 +107,7 @@ impl Statistics {
         write_route(self.route, errors)?;
         let Statistics {
             workers,
+            lacking_threads,
             chunks,
             records,
             bytes,
@@ -100,6 +115,9 @@ impl Statistics {
             ..
         } = *self;
         writeln!(errors, "statistics workers {workers}")?;
+        if lacking_threads > 0 {
+            writeln!(errors, "statistics lacking-threads {lacking_threads}")?;
+        }
         writeln!(errors, "statistics chunks {chunks}")?;
         writeln!(errors, "statistics records {records}")?;
         writeln!(errors, "statistics bytes {bytes}")?;

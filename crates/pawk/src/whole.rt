@@ -4,19 +4,20 @@ ghost use Rattle.pawk_threads.specs.Task.{IsCrew};
 ghost use Rattle.pawk_threads.specs.Cuttings.{IsSized};
 
 use crate::command_line::{CommandLine, Tools};
+use crate::deep::Depth;
 use crate::explanations::{Remains, explain_end};
 use crate::files::read_inputs;
 use crate::listing::append_globals;
 use crate::reports::{End, RunFailure, UNWRITTEN};
 use crate::script::STANDARD_INPUT;
-use crate::statistics::{ChunkCount, Moment, Moments, Statistics};
+use crate::statistics::{Moment, Moments, Statistics, Tally};
 use pawk_code::program::Code;
 use pawk_input::Input;
 use pawk_par::{Reader, Request, StreamRefusal, Writer, prepare, run_streams};
 use pawk_settings::Assignment;
 use pawk_store::Names;
 use pawk_syntax::{SyntaxRefusal, parse, show};
-use pawk_threads::{Cutting, Ending, Job, Open, Outcome, Output, Route, Way, run};
+use pawk_threads::{Cutting, Ending, Job, Outcome, Output, Route, Way, run};
 use std::alloc::{AllocError, Global};
 use std::io;
 use std::io::{Read, Write};
@@ -253,7 +254,7 @@ fn show_run<R: Threads + Wait>(
     rt: &R,
     alloc: Global,
     ready: Ready<'_>,
-    gate: &ChunkCount,
+    gate: &Tally,
     input: &mut Input,
 ) -> Result<Shown, StreamRefusal>
     requires sized { IsSized ready.request.cutting.now }
@@ -315,7 +316,7 @@ fn run_inputs<R: Threads + Wait + AllocGlobal + Clock, O: Write>(
     requires workers { IsCrew ready.request.workers }
 {
     let read = Moment::now(rt);
-    let gate = ChunkCount::new();
+    let gate = Tally::new();
     let shown = show_run(rt, rt.alloc(), ready, &gate, input)?;
     let ran = Moment::now(rt);
     let (route, records) = (shown.route, shown.records);
@@ -323,8 +324,9 @@ fn run_inputs<R: Threads + Wait + AllocGlobal + Clock, O: Write>(
     if ready.wishes.tools.statistics {
         end.statistics = Some(Statistics {
             route,
-            workers: if gate.get() == 0 { 1 } else { line.workers },
-            chunks: gate.get(),
+            workers: if gate.chunks() == 0 { 1 } else { line.workers },
+            lacking_threads: gate.lacking_threads(),
+            chunks: gate.chunks(),
             records,
             bytes: size_of(input),
             moments: Moments {
@@ -373,7 +375,7 @@ fn run_stream<R: Threads + Wait, I: Read, O: Write>(
 {
     let mut source = Reader::new(input);
     let mut sink = Writer::new(output);
-    let (ending, report) = run_streams(rt, alloc, &request, &mut source, &mut sink, &Open)?;
+    let (ending, report) = run_streams(rt, alloc, &request, &mut source, &mut sink, &Tally::new())?;
     Ok(End {
         ending,
         route: Some(report.route),
@@ -414,7 +416,7 @@ fn check<O: Write>(
 }
 
 /// Reads a request's program and its settings, and runs it over the files that are named, or over standard input, or
-/// runs nothing where that is asked for.
+/// runs nothing where that is asked for. A program with functions is refused on a flat stack.
 fn run_files<'a, R, I, O>(
     rt: &R,
     line: &CommandLine<'a>,
@@ -435,6 +437,9 @@ where
     let (code, settings) = prepare(rt.alloc(), &request)?;
     if wishes.run_nothing() {
         return Ok(check(rt.alloc(), wishes.tools, request.text, output)?);
+    }
+    if line.host.depth == Depth::Flat && !code.functions.is_empty() {
+        return Err(RunFailure::from(StreamRefusal::Thread));
     }
     let ready = Ready {
         request,
@@ -469,9 +474,10 @@ where
         budget: line.steps,
         cutting: &cutting,
         workers: usize::from(line.workers),
-        seed: line.seed,
+        seed: line.host.seed,
     };
-    if line.files.is_empty() && !wishes.are_more() && !wishes.run_nothing() {
+    let is_plain = !wishes.are_more() && !wishes.run_nothing();
+    if line.files.is_empty() && is_plain && line.host.depth == Depth::Deep {
         Ok(run_stream(rt, rt.alloc(), request, input, output)?)
     } else {
         run_files(rt, line, request, wishes, input, output)

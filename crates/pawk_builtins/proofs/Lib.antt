@@ -7,4 +7,5 @@ pub mod FormatLemmas
 pub mod OccurrenceLemmas
 pub mod PlaceLemmas
 pub mod ValueLemmas
+pub mod SubstringLemmas
 pub mod TextLawLemmas

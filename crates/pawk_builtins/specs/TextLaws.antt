@@ -1,10 +1,10 @@
--- What `index`, `sub` and `gsub` do, in the words of the standard (awk, "String Functions").
-use Rattle.std.specs.Prelude.{◌≡◌, ◌≢◌, ◌⊎◌, ℕ, ◌+◌, ◌<◌, Bool, true, false, if◌then◌else◌, nat_lt, Option, Some, None, List, [], ◌∷◌, ◌++◌, length, drop, slice_range, option_to_list}
+-- What `index`, `substr`, `sub` and `gsub` do, in the words of the standard (awk, "String Functions").
+use Rattle.std.specs.Prelude.{◌≡◌, ◌≢◌, ◌⊎◌, ℕ, pos, int_le, ◌+◌, ◌<◌, ◌≤◌, Bool, true, false, if◌then◌else◌, nat_lt, Option, Some, None, List, [], ◌∷◌, ◌++◌, length, drop, slice_range, option_to_list}
 use Rattle.memchr.specs.Find.{OccursAt}
 use Rattle.pawk_code.specs.declared.word.ReplacedMatches.TheVariants as count
 use Rattle.pawk_ere_syntax.specs.Pattern.{Pattern}
 use Rattle.pawk_fields.specs.Search.{find}
-use Rattle.pawk_semantics.specs.Builtins.{index, Replaced, replacement, replaced}
+use Rattle.pawk_semantics.specs.Builtins.{index, bytes_where, is_from, Replaced, replacement, replaced}
 
 -- ---- index
 
@@ -13,6 +13,15 @@ pub record IndexLaw (s t : List ℕ) : Type 0 where
   pub first : (k : ℕ) → 0 < length t → OccursAt s t k → ((j : ℕ) → j < k → OccursAt s t j → ⊥) → index s t ≡ k + 1
   pub nowhere : 0 < length t → ((k : ℕ) → OccursAt s t k → ⊥) → index s t ≡ 0
   pub empty : index s [] ≡ 0
+
+-- ---- substr
+
+-- places are counted from 1: from the place after `front`, as many bytes as `middle` has are `middle`; with no number all that
+-- are left, and so with a number that is no less than these
+pub record SubstringLaw (front middle back : List ℕ) : Type 0 where
+  pub part : bytes_where (is_from (pos (length front + 1)) (pos (length middle))) 1 (front ++ (middle ++ back)) ≡ middle
+  pub rest : bytes_where (λ p. int_le (pos (length front + 1)) (pos p)) 1 (front ++ back) ≡ back
+  pub limited : (n : ℕ) → length back ≤ n → bytes_where (is_from (pos (length front + 1)) (pos n)) 1 (front ++ back) ≡ back
 
 -- ---- what stands for a match
 

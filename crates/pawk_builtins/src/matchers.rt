@@ -25,10 +25,10 @@ use std::marker::Model;
 use std::ops::Range;
 
 /// How many matchers of expressions that were values are kept, beside the one that was used last.
-const CACHE_SIZE: usize = 1024;
+pub const CACHE_SIZE: usize = 1024;
 
 /// Places in a longer text are no numbers of 64 bits with a sign, and no memory holds one.
-const LONGEST_TEXT: usize = 9_223_372_036_854_775_806;
+pub const LONGEST_TEXT: usize = 9_223_372_036_854_775_806;
 
 /// The matchers of a run: one for each expression between slashes, read when it is first used, and
 /// those of the expressions that were values last.

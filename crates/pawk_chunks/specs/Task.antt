@@ -2,7 +2,7 @@
 use Rattle.std.specs.Prelude.{◌≡◌, ℕ, ◌≤◌, length}
 use Rattle.pawk_board.specs.Limits.{most_workers}
 use Rattle.pawk_input.specs.Input.{IsReady, files_of}
-use Rattle.pawk_input.specs.Plan.{IsPlanOf}
+use Rattle.pawk_input.specs.Plan.{AreChunksOf}
 use Rattle.pawk_input.specs.declared.cutting.Chunk.{Chunk}
 use Rattle.pawk_frozen.specs.Frozens.{Frozen}
 use Rattle.pawk_semantics.specs.Records.{End}
@@ -11,11 +11,12 @@ use Rattle.pawk_chunks.specs.declared.chunk.Opening.{Opening}
 use Rattle.pawk_chunks.specs.declared.task.Chunked.{Chunked}
 use Rattle.pawk_chunks.specs.declared.task.Task.{Task}
 
--- RS has at most one byte, the input is ready for it, and the plan is one of the input by it
+-- RS has at most one byte, the input is ready for it, and the plan's chunks are of the input by it, which may come after
+-- other records
 pub record IsChunked (s : Chunked) : Type 0 where
   pub one_byte : length s.rs.now ≤ 1
   pub ready : IsReady s.rs.now s.input.now
-  pub planned : IsPlanOf s.rs.now (files_of s.input.now) s.plan.now
+  pub planned : AreChunksOf s.rs.now (files_of s.input.now) s.plan.now
 
 -- the board has as many chunks as the plan
 pub record IsTask (t : Task) : Type 0 where

@@ -3,7 +3,7 @@
 ghost use Rattle.std.specs.Prelude.{◌≡◌, ◌<◌, ◌≤◌, [], None, length, slice_get, IfOk, IfSome};
 ghost use Rattle.std.specs.Option.{option_map};
 ghost use Rattle.pawk_input.specs.Input.{IsReady, files_of};
-ghost use Rattle.pawk_input.specs.Plan.{IsPlanOf};
+ghost use Rattle.pawk_input.specs.Plan.{AreChunksOf};
 ghost use Rattle.pawk_input.specs.Walk.{items_left};
 ghost use Rattle.pawk_store.specs.StateViews.{state_of};
 ghost use Rattle.pawk_frozen.specs.Frozens.{calls};
@@ -102,8 +102,8 @@ fn run_from<'a>(
 }
 
 /// Runs the records of the chunk at a place of a plan, counted from 0, over the globals that
-/// `BEGIN` left; `input` and `rs` are those that the plan was made of. No global is changed: what
-/// the records would change is noted.
+/// `BEGIN` left; `input` and `rs` are those that the plan was made of, and its chunks may come after
+/// records of a larger input. No global is changed: what the records would change is noted.
 ///
 /// POSIX.1-2017, awk, "Overall Program Structure".
 pub fn run_chunk<'a>(
@@ -115,7 +115,7 @@ pub fn run_chunk<'a>(
     place: usize,
 ) -> Result<ChunkResult<'a>, AllocError>
     requires chunk { place < length plan.now }
-    requires plan { IsPlanOf rs.now (files_of input.now) plan.now }
+    requires plan { AreChunksOf rs.now (files_of input.now) plan.now }
     requires one_byte { length rs.now ≤ 1 }
     requires ready { IsReady rs.now input.now }
     ensures { IfOk result (λ left. IfSome (slice_get plan.now place) (λ c.

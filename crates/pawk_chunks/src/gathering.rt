@@ -88,7 +88,7 @@ fn without_numbers<'a>(
 ///
 /// The plan is of the input by its `RS`, of at most one byte, and of at most 1,048,576 chunks; there are 1 to 64 workers.
 ///
-/// `Memory` comes where memory was refused, and `Thread` where a worker could not be started.
+/// `Memory` comes where memory was refused, and `Thread` where a worker could not be started, which the gate did not allow.
 ///
 /// POSIX.1-2017, awk, "Overall Program Structure".
 pub fn run_chunks<'a, G: Gate + Sync, R: Threads + Wait>(

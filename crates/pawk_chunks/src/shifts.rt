@@ -54,9 +54,9 @@ impl<'p, 'a> Labour<Shift<'a>> for Task<'p, 'a> {
     }
 }
 
-/// A worker for each seat, the last one on this thread and each other in a thread of its own. Each has ended when this
-/// returns, also where one could not be started, which is reported as `Thread`. `Memory` comes where memory was refused
-/// before a thread was started.
+/// A worker for each seat, the last one on this thread and each other in a thread of its own, or on this one where it cannot be
+/// started and the gate allows that; else that is reported as `Thread`. Each has ended when this returns. `Memory` comes where
+/// memory was refused before a thread was started.
 pub fn all_work<'a, G: Gate + Sync, R: Threads + Wait>(
     rt: &R,
     alloc: Global,

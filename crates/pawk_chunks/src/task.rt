@@ -4,7 +4,8 @@ use crate::Opening;
 use pawk_board::Board;
 use pawk_input::{Input, Plan};
 
-/// An input that is cut into chunks: a plan of it by an `RS` of at most one byte, for which the input is ready.
+/// An input that is cut into chunks: a plan of it by an `RS` of at most one byte, for which the input is ready. Its chunks
+/// may come after records of a larger input (`Plan::after`).
 #[derive(Clone, Copy)]
 pub struct Chunked<'p, 'a> {
     /// The input.

@@ -12,3 +12,8 @@ CountsWrite old new [] (Ok n) = new ≡ old
 CountsWrite old new (b ∷ bs) (Ok zero) = old < new
 CountsWrite old new (b ∷ bs) (Ok (suc n)) = new ≡ old
 CountsWrite old new bs (Err e) = old < new
+
+-- the same of a call that gives no count
+abbrev pub CountsFailure : {X E : Type 0} → ℕ → ℕ → Result X E → Type 0
+CountsFailure old new (Ok x) = new ≡ old
+CountsFailure old new (Err e) = old < new

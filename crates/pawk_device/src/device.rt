@@ -2,8 +2,8 @@
 
 ghost use Rattle.std.specs.Prelude.{◌≡◌, ◌≤◌, ◌<◌, ℕ, List, Option, length, IfOk};
 ghost use Rattle.std.specs.Io.{ReadsAtMost, WritesAtMost};
-ghost use Rattle.std.specs.Io.KnownBytes.{ReadConsumes, WriteAppends};
-ghost use Rattle.pawk_device.specs.Device.{CountsRead, CountsWrite};
+ghost use Rattle.std.specs.Io.KnownBytes.{Keeps, ReadConsumes, WriteAppends};
+ghost use Rattle.pawk_device.specs.Device.{CountsFailure, CountsRead, CountsWrite};
 
 use crate::count::Count;
 use std::io;
@@ -35,7 +35,7 @@ pub trait Sink {
     // The bytes that were taken, where the device reports them.
     ghost taken: { Self → Option (List ℕ) };
 
-    // How often a write failed: one that takes nothing of some bytes is a failure.
+    // How often a write or a flush failed: a write that takes nothing of some bytes is a failure.
     ghost failures: { Self → ℕ };
 
     /// Takes some of the bytes, from the first on, and gives their count.
@@ -43,6 +43,11 @@ pub trait Sink {
         ensures bound { IfOk result (λ n. n ≤ length bytes.now) }
         ensures bytes { WriteAppends (taken self.old) (taken self.new) result bytes.now }
         ensures counted { CountsWrite (failures self.old) (failures self.new) bytes.now result };
+
+    /// Hands on what it holds back of the bytes that were taken. Takes no byte.
+    fn flush(&mut self) -> Result<(), Failed>
+        ensures bytes { Keeps (taken self.old) (taken self.new) }
+        ensures counted { CountsFailure (failures self.old) (failures self.new) result };
 }
 
 /// A source over any reader. Each error is a failure, but that a call that a signal interrupted is made again.
@@ -138,6 +143,23 @@ fn write_on<W: Write>(writer: &mut W, bytes: &[u8]) -> io::Result<usize>
     Err(io::Error::from(ErrorKind::Interrupted))
 }
 
+/// Flushes, and again where a signal interrupted the call.
+fn flush_on<W: Write>(writer: &mut W) -> io::Result<()>
+    ensures { Keeps (W.contents writer.old) (W.contents writer.new) }
+{
+    for _ in 0..u64::MAX {
+        match writer.flush() {
+            Ok(()) => return Ok(()),
+            Err(error) => {
+                if error.kind() != ErrorKind::Interrupted {
+                    return Err(error);
+                }
+            }
+        }
+    }
+    Err(io::Error::from(ErrorKind::Interrupted))
+}
+
 impl<W: Write> Sink for Writer<W> {
     ghost taken = { λ w. W.contents w.inner };
 
@@ -150,6 +172,16 @@ impl<W: Write> Sink for Writer<W> {
                 Ok(0)
             }
             Ok(count) => Ok(count),
+            Err(_) => {
+                self.failures = Count::one_more(&self.failures);
+                Err(Failed)
+            }
+        }
+    }
+
+    fn flush(&mut self) -> Result<(), Failed> {
+        match flush_on(&mut self.inner) {
+            Ok(()) => Ok(()),
             Err(_) => {
                 self.failures = Count::one_more(&self.failures);
                 Err(Failed)

@@ -2,8 +2,8 @@
 
 ghost use Rattle.pawk_ere.specs.Caches.{AreOfTexts, IsAnswerOfText, IsOfItsText, IsOfText};
 ghost use Rattle.pawk_ere_syntax.specs.Pattern.{Pattern};
-ghost use Rattle.pawk_ere_syntax.specs.Refusals.{Tells};
-ghost use Rattle.pawk_ere_syntax.specs.Tokens.{SpellsEre};
+ghost use Rattle.pawk_ere_syntax.specs.Refusals.{IfTooLarge, Tells};
+ghost use Rattle.pawk_ere_syntax.specs.Tokens.{IsTooLarge, SpellsEre};
 ghost use Rattle.std.specs.Prelude.{◌≡◌, ◌≤◌, length, IfErr, IfOk, IfSome};
 
 use crate::loan::Loan;
@@ -119,6 +119,7 @@ impl Cache {
         ensures matcher { IfOk result (λ loan. IsOfText pattern.now loan.matcher) }
         ensures refused { IfErr result
             (λ why. Tells why ((e : Pattern) → SpellsEre pattern.now e → ⊥)) }
+        ensures too_large { IfErr result (λ why. IfTooLarge why (IsTooLarge pattern.now)) }
         ensures capacity { self.new ≡ self.old }
     {
         if let Some(loan) = take_latest(&mut self.latest, pattern) {
@@ -152,6 +153,7 @@ impl Cache {
         ensures answer { IfOk result (λ found. IsAnswerOfText pattern.now text.now from found) }
         ensures refused { IfErr result
             (λ why. Tells why ((e : Pattern) → SpellsEre pattern.now e → ⊥)) }
+        ensures too_large { IfErr result (λ why. IfTooLarge why (IsTooLarge pattern.now)) }
         ensures capacity { self.new ≡ self.old }
     {
         if let Some(answer) = search_latest(&mut self.latest, pattern, text, from) {

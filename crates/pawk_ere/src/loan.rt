@@ -2,8 +2,8 @@
 
 ghost use Rattle.pawk_ere.specs.Caches.{IsOfText};
 ghost use Rattle.pawk_ere_syntax.specs.Pattern.{Pattern};
-ghost use Rattle.pawk_ere_syntax.specs.Refusals.{Tells};
-ghost use Rattle.pawk_ere_syntax.specs.Tokens.{SpellsEre};
+ghost use Rattle.pawk_ere_syntax.specs.Refusals.{IfTooLarge, Tells};
+ghost use Rattle.pawk_ere_syntax.specs.Tokens.{IsTooLarge, SpellsEre};
 ghost use Rattle.std.specs.Prelude.{◌≡◌, IfErr, IfOk};
 
 use crate::matcher::Matcher;
@@ -26,6 +26,7 @@ impl Loan {
         ensures matcher { IfOk result (λ loan. IsOfText pattern.now loan.matcher) }
         ensures refused { IfErr result
             (λ why. Tells why ((e : Pattern) → SpellsEre pattern.now e → ⊥)) }
+        ensures too_large { IfErr result (λ why. IfTooLarge why (IsTooLarge pattern.now)) }
     {
         let ere = Ere::parse(alloc, pattern)?;
         let matcher = Matcher::new(alloc, &ere)?;

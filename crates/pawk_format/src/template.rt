@@ -1,6 +1,6 @@
 //! A format that was read once.
 
-ghost use Rattle.std.specs.Prelude.{◌≡◌, ℕ, List, [], map, IfOk};
+ghost use Rattle.std.specs.Prelude.{◌≡◌, ◌<◌, ℕ, List, [], length, map, IfOk, OnErr};
 ghost use Rattle.std.specs.List.{flat_map};
 ghost use Rattle.pawk_scalar.specs.Value.{lent_value};
 ghost use Rattle.pawk_format.specs.Format.{pieces_of};
@@ -58,9 +58,11 @@ pub struct Template {
     parts: Vec<FormatPart>,
 }
 
-/// The template of a format. It is refused only where an allocation is refused.
+/// The template of a format. It is refused only where an allocation is refused, and never that of a
+/// format of no bytes.
 pub fn read_template(alloc: Global, format: &[u8]) -> Result<Template, AllocError>
-    ensures { IfOk result (λ template. IsTemplateOf template format.now) }
+    ensures template { IfOk result (λ template. IsTemplateOf template format.now) }
+    ensures full { OnErr result (0 < length format.now) }
 {
     let mut parts = Vec::new(alloc);
     let mut rest = format;

@@ -10,5 +10,5 @@ mod table;
 
 pub use frozen::Frozen;
 pub use mark::{CellMark, Sums};
-pub use marks::{ElementMarks, MarkPairs};
+pub use marks::{ElementMarks, LentPairs, MarkPairs};
 pub use table::Table;

@@ -14,7 +14,7 @@ ghost use Rattle.pawk_frozen.specs.MarkLending.{LendsMark};
 
 use crate::mark::CellMark;
 use indexmap::IndexMap;
-use indexmap::map::IntoIter;
+use indexmap::map::{IntoIter, Iter};
 use pawk_code::word::Sign;
 use pawk_keyed_map::{Key, KeyedMap, Seed, place_of};
 use pawk_value::ValueRef;
@@ -70,6 +70,36 @@ impl MarkPairs {
     }
 }
 
+/// Keys and their marks that are lent one after the other, in the order in which the elements were
+/// first noted. Contracts see those that are left, in the order of the bytes of the keys.
+#[derive(Drop)]
+pub struct LentPairs<'a> {
+    pairs: Iter<'a, Key, CellMark>,
+}
+
+impl<'a> Model for LentPairs<'a> {
+    ghost use Rattle.pawk_frozen.specs.Marks as spec;
+    ghost use Rattle.pawk_keyed_map.specs.Pairs.{OccurOnce};
+    ghost use Rattle.pawk_frozen.specs.MarkViews.{mark_view, marks_of};
+
+    ghost Value = { spec.Marks };
+
+    ghost view = { λ m. marks_of m.pairs };
+
+    ghost invariant = { λ m. OccurOnce mark_view m.pairs };
+}
+
+impl<'a> LentPairs<'a> {
+    /// Lends the next key and its mark; each that is left has another key. None where there is none.
+    pub fn next(&mut self) -> Option<(&'a Key, &'a CellMark)>
+        ensures { MatchOption result ((self.old ≡ []) × (self.new ≡ [])) (λ pair.
+            (self.old ≡ put_mark (text_of pair.0.now) (mark_view pair.1.now) self.new)
+            × (find order (text_of pair.0.now) self.new ≡ None)) }
+    {
+        self.pairs.next()
+    }
+}
+
 impl ElementMarks {
     /// Nothing noted; keys are hashed by `seed`. Takes no memory.
     pub(crate) fn new(alloc: Global, seed: Seed) -> ElementMarks
@@ -87,6 +117,15 @@ impl ElementMarks {
     {
         MarkPairs {
             pairs: self.map.into_iter(),
+        }
+    }
+
+    /// The keys and their marks, to be lent one after the other. Takes no memory.
+    pub fn pairs(&self) -> LentPairs<'_>
+        ensures { result ≡ self.now }
+    {
+        LentPairs {
+            pairs: self.map.iter(),
         }
     }
 

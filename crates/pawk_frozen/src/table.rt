@@ -79,6 +79,20 @@ impl Table {
         })
     }
 
+    /// The marks of the scalars, by their slots.
+    pub fn scalars(&self) -> &[CellMark]
+        ensures { map mark_view result.now ≡ self.now.scalars }
+    {
+        self.scalars.as_slice()
+    }
+
+    /// The marks of the elements of each array, by their slots.
+    pub fn arrays(&self) -> &[ElementMarks]
+        ensures { result.now ≡ self.now.arrays }
+    {
+        self.arrays.as_slice()
+    }
+
     /// The marks of the scalars, and those of the elements of each array, by their slots.
     pub fn into_marks(self) -> (Vec<CellMark>, Vec<ElementMarks>)
         ensures scalars { map mark_view result.0.items ≡ self.scalars }

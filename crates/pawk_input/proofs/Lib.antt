@@ -6,4 +6,5 @@ pub mod SizeLemmas
 pub mod StepLemmas
 pub mod CountLemmas
 pub mod OneLemmas
+pub mod PlacedLemmas
 pub mod PassingLemmas

@@ -1,6 +1,6 @@
 -- Chunks of the input: a plan writes the list of all records as consecutive runs, none over two
 -- files.
-use Rattle.std.specs.Prelude.{ℕ, ◌+◌, ◌≡◌, ◌<◌, ◌≤◌, Bool, true, nat_lt, nat_le}
+use Rattle.std.specs.Prelude.{ℕ, ◌+◌, ◌≡◌, ◌<◌, ◌≤◌, ◌⊎◌, Bool, true, nat_lt, nat_le, map}
 use Rattle.std.specs.Prelude.{◌==◌, ◌||◌, ◌&&◌, if◌then◌else◌, List, [], ◌∷◌, ◌++◌, length, take}
 use Rattle.std.specs.Prelude.{drop, All, Contains, Option, None, Some, MatchOption}
 use Rattle.std.specs.Prelude.{slice_range}
@@ -8,6 +8,7 @@ use Rattle.std.specs.List.{slice_index_or, flat_map, list_any}
 use Rattle.pawk_records.specs.Records.{records_by}
 use Rattle.pawk_records.specs.Begins.{BeginsAt, begins_by}
 use Rattle.pawk_input.specs.Input.{File, Item, file_at, file_items, items, total_size}
+use Rattle.pawk_input.specs.Limits.{most_bytes}
 use Rattle.pawk_input.specs.declared.cutting.Chunk.{Chunk}
 use Rattle.pawk_input.specs.declared.steps.SizeStep.{SizeStep}
 use Rattle.pawk_input.specs.declared.cutting.CutRefusal.{CutRefusal}
@@ -36,6 +37,65 @@ pub record IsChunkOf (rs : List ℕ) (files : List File) (c : Chunk) : Type 0 wh
 pub record IsPlanOf (rs : List ℕ) (files : List File) (chunks : List Chunk) : Type 0 where
   pub whole : flat_map (chunk_items rs files) chunks ≡ items rs files
   pub each : All (λ c. IsChunkOf rs files c) chunks
+
+-- ---- chunks of a part of an input
+
+-- A chunk of these files, which may come after other records: no more records come before it in its file than in all, and
+-- no record has a number past the most bytes of an input.
+pub record IsPlaced (rs : List ℕ) (files : List File) (c : Chunk) : Type 0 where
+  pub chunk : IsChunkOf rs files c
+  pub fits : c.nr + length (records_by rs (chunk_bytes files c)) ≤ most_bytes
+  pub in_file : c.fnr ≤ c.nr
+
+-- the same of each of the chunks
+abbrev pub ArePlaced : List ℕ → List File → List Chunk → Type 0
+ArePlaced rs files chunks = All (λ c. IsPlaced rs files c) chunks
+
+-- the chunks are all records of these files, or they may come after others
+abbrev pub AreChunksOf : List ℕ → List File → List Chunk → Type 0
+AreChunksOf rs files chunks = IsPlanOf rs files chunks ⊎ ArePlaced rs files chunks
+
+-- the same chunk, with so many records more before it in all, and so many of them in its file
+abbrev pub chunk_after : ℕ → ℕ → Chunk → Chunk
+chunk_after nr fnr c = record c { nr = nr + c.nr; fnr = fnr + c.fnr }
+
+-- the same chunks after so many records
+abbrev pub plan_after : ℕ → ℕ → List Chunk → List Chunk
+plan_after nr fnr chunks = map (chunk_after nr fnr) chunks
+
+-- Why the chunks of these files cannot come after so many records: there are more of them in the file than in all, or they
+-- and the files' bytes are together more than the most bytes of an input.
+abbrev pub CannotFollow : List File → ℕ → ℕ → Type 0
+CannotFollow files nr fnr = (nr < fnr) ⊎ (most_bytes < nr + total_size files)
+
+-- d begins where c ends, and after its records
+pub record IsNext (rs : List ℕ) (files : List File) (c d : Chunk) : Type 0 where
+  pub file : d.file ≡ c.file
+  pub begins : d.range.start ≡ c.range.end
+  pub nr : d.nr ≡ c.nr + length (chunk_items rs files c)
+  pub fnr : d.fnr ≡ c.fnr + length (chunk_items rs files c)
+
+-- each of these chunks comes next after the one before it, the first after c
+abbrev pub FollowOn : List ℕ → List File → Chunk → List Chunk → Type 0
+FollowOn rs files c [] = Unit {0}
+FollowOn rs files c (d ∷ ds) = IsNext rs files c d × FollowOn rs files d ds
+
+-- each of these chunks but the first comes next after the one before it
+abbrev pub AreConsecutive : List ℕ → List File → List Chunk → Type 0
+AreConsecutive rs files [] = Unit {0}
+AreConsecutive rs files (c ∷ cs) = FollowOn rs files c cs
+
+-- each of these chunks begins where the one before it ends, the first where c ends, if both are of one file
+abbrev pub Adjoin : Chunk → List Chunk → Type 0
+Adjoin c [] = Unit {0}
+Adjoin c (d ∷ ds) = (d.file ≡ c.file → d.range.start ≡ c.range.end) × Adjoin d ds
+
+-- each of these chunks but the first begins where the one before it ends, if both are of one file
+abbrev pub AreAdjoining : List Chunk → Type 0
+AreAdjoining [] = Unit {0}
+AreAdjoining (c ∷ cs) = Adjoin c cs
+
+-- ---- the plans
 
 -- The chunks of a file that begin at these places: each reaches to the next place, the last to the
 -- file's end. Before the file came nr records; those of the bytes before a chunk are the ones

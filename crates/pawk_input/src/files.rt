@@ -1,7 +1,7 @@
 //! The input: a list of files.
 
 ghost use Rattle.std.specs.Prelude.{◌≡◌, ℕ, ◌+◌, ◌<◌, ◌≤◌, ◌↔◌, [], ◌∷◌, length, IsTrue};
-ghost use Rattle.std.specs.Prelude.{List, OnOk, IfOk, MatchResult};
+ghost use Rattle.std.specs.Prelude.{List, OnOk, IfOk, IfSome, MatchResult};
 ghost use Rattle.pawk_input.specs.Limits.{most_bytes};
 ghost use Rattle.pawk_records.specs.Blocks.{AreMended, joined};
 ghost use Rattle.pawk_input.specs.Input.{IsReady, file_at, file_of, files_of, in_blocks};
@@ -190,6 +190,30 @@ impl Input {
         ensures { result ≡ length (file_at (files_of self.now) file).bytes }
     {
         self.file(file).blocks.size()
+    }
+
+    /// How many bytes the files hold together.
+    pub fn total_size(&self) -> u64
+        ensures value { result ≡ total_size (files_of self.now) }
+        ensures limited { result ≤ most_bytes }
+    {
+        let mut total = 0u64;
+        for file in 0..self.files() {
+            total += self.size(file) as u64;
+        }
+        total
+    }
+
+    /// Gives the files back, each a name and its bytes, so that their memory may be used again: those
+    /// that the input was made of (`new`), as they were. `None` where they lie in blocks
+    /// (`from_blocks`), which are then given up.
+    pub fn into_files(self) -> Option<Vec<(Vec<u8>, Vec<u8>)>>
+        ensures { IfSome result (λ files. whole_files files.items ≡ files_of self) }
+    {
+        match self.held {
+            HeldFiles::Vectors(files) => Some(files),
+            HeldFiles::Blocks(_) => None,
+        }
     }
 
     /// The blocks of a file, by its place counted from 0.

@@ -1,19 +1,20 @@
 //! Plans: the input cut into chunks of whole records.
 
-ghost use Rattle.std.specs.Prelude.{◌≡◌, ℕ, ◌<◌, ◌≤◌, [], None, All, length, slice_get};
-ghost use Rattle.std.specs.Prelude.{IfOk, IfErr, IfSome};
-ghost use Rattle.pawk_input.specs.Limits.{most_chunks};
+ghost use Rattle.std.specs.Prelude.{◌≡◌, ℕ, ◌+◌, ◌<◌, ◌≤◌, [], None, All, drop, flat_map, length};
+ghost use Rattle.std.specs.Prelude.{slice_get, IfOk, IfErr, IfSome, MatchOption};
+ghost use Rattle.pawk_input.specs.Limits.{most_bytes, most_chunks};
 ghost use Rattle.pawk_input.specs.Input.{IsReady, files_of};
 ghost use Rattle.pawk_input.specs.Walk.{items_left};
 ghost use Rattle.pawk_input.specs.Counts.{block_counts};
-ghost use Rattle.pawk_input.specs.Plan.{IsPlanOf, RefusesCuts, RefusesMany, chunk_items};
+ghost use Rattle.pawk_input.specs.Plan.{AreChunksOf, AreConsecutive, ArePlaced, CannotFollow};
+ghost use Rattle.pawk_input.specs.Plan.{IsPlanOf, RefusesCuts, RefusesMany, chunk_items, plan_after};
 ghost use Rattle.pawk_input.specs.Plan.{cut_at, cut_fault, sized, stepped};
 
 use crate::counts::block_number;
 use crate::cuts::{check_cuts, cuts_in};
 use crate::cutting::{Chunk, CutRefusal, MOST_CHUNKS};
 use crate::draft::{Draft, begin_or_end};
-use crate::files::Input;
+use crate::files::{Input, LIMIT};
 use crate::steps::{FileSteps, SizeStep};
 use crate::walk::Records;
 use pawk_records::Separator;
@@ -28,11 +29,25 @@ pub struct Plan {
 
 impl Model for Plan {
     ghost use Rattle.std.specs.Prelude.{List};
+    ghost use Rattle.pawk_input.specs.Plan.{AreAdjoining};
     ghost use Rattle.pawk_input.specs.declared.cutting.Chunk.{Chunk};
 
     ghost Value = { List Chunk };
 
     ghost view = { λ plan. plan.chunks.items };
+
+    ghost invariant = { λ plan. AreAdjoining plan.chunks.items };
+}
+
+/// Counts so many records more before each chunk, `fnr` of them in its file.
+fn count_on(chunks: &mut [Chunk], nr: u64, fnr: u64)
+    requires { All (λ c. (nr + c.nr ≤ most_bytes) × (fnr + c.fnr ≤ most_bytes)) chunks.old }
+    ensures { chunks.new ≡ plan_after nr fnr chunks.old }
+{
+    for chunk in chunks.iter_mut() {
+        chunk.nr += nr;
+        chunk.fnr += fnr;
+    }
 }
 
 impl Plan {
@@ -229,15 +244,17 @@ impl Plan {
     }
 
     /// The records of the chunk at a place counted from 0, with their numbers among all records.
-    /// Takes no memory and copies nothing. `input` and `rs` are those that the plan was made of.
+    /// Takes no memory and copies nothing. `input` and `rs` are those that the plan was made of; each
+    /// chunk may come after records of a larger input (`after`).
     pub fn walk<'a>(&self, input: &'a Input, rs: &[u8], i: usize) -> Records<'a>
         requires chunk { i < length self.now }
-        requires plan { IsPlanOf rs.now (files_of input.now) self.now }
+        requires plan { AreChunksOf rs.now (files_of input.now) self.now }
         requires one_byte { length rs.now ≤ 1 }
         requires ready { IsReady rs.now input.now }
         ensures { IfSome (slice_get self.now i)
             (λ c. items_left result ≡ chunk_items rs.now (files_of input.now) c) }
     {
+        self.placed_law(input, rs);
         let chunk = self.chunk(i);
         let blocks = input.blocks(chunk.file);
         Records::of_part(
@@ -248,5 +265,64 @@ impl Plan {
             chunk.nr,
             chunk.fnr,
         )
+    }
+
+    /// The records of the chunk at a place counted from 0 and of all chunks after it, as one walk, where
+    /// each chunk but the first comes next after the one before it: the chunks are then of one file
+    /// (`after`). Takes no memory and copies nothing. `input` and `rs` are those that the plan was made of.
+    pub fn walk_from<'a>(&self, input: &'a Input, rs: &[u8], i: usize) -> Records<'a>
+        requires chunk { i < length self.now }
+        requires plan { ArePlaced rs.now (files_of input.now) self.now }
+        requires consecutive { AreConsecutive rs.now (files_of input.now) self.now }
+        requires one_byte { length rs.now ≤ 1 }
+        requires ready { IsReady rs.now input.now }
+        ensures { items_left result
+            ≡ flat_map (chunk_items rs.now (files_of input.now)) (drop i self.now) }
+    {
+        let first = self.chunk(i);
+        let end = self.chunk(self.len() - 1).range.end;
+        let blocks = input.blocks(first.file);
+        Records::of_part(
+            Separator::of(rs),
+            first.file,
+            input.name(first.file),
+            blocks.pieces(first.range.start, end - first.range.start),
+            first.nr,
+            first.fnr,
+        )
+    }
+
+    /// Each chunk of a plan of `input` by `rs` has its place there, after the records before it. A law, which
+    /// takes and leaves nothing.
+    pub fn placed_law(&self, input: &Input, rs: &[u8])
+        requires { AreChunksOf rs.now (files_of input.now) self.now }
+        ensures { ArePlaced rs.now (files_of input.now) self.now }
+    {
+        let _files = input.files();
+    }
+
+    /// The same chunks after `nr` records more, `fnr` of them in the file that goes on: the plan of a
+    /// part of a larger input, where so many records come before it. Takes no memory. `input` and `rs`
+    /// are those that the plan was made of.
+    ///
+    /// Gives `None`, and the plan up, exactly where `fnr` is more than `nr`, or `nr` and the bytes of
+    /// the input are more than [`LIMIT`] together.
+    ///
+    /// POSIX.1-2017, awk, "Variables and Special Variables" (`NR`, `FNR`).
+    pub fn after(self, input: &Input, rs: &[u8], nr: u64, fnr: u64) -> Option<Plan>
+        requires { IsPlanOf rs.now (files_of input.now) self }
+        ensures value { IfSome result (λ plan. plan ≡ plan_after nr fnr self) }
+        ensures placed { IfSome result (λ plan. ArePlaced rs.now (files_of input.now) plan) }
+        ensures consecutive { length (files_of input.now) ≡ 1 →
+            IfSome result (λ plan. AreConsecutive rs.now (files_of input.now) plan) }
+        ensures refused { MatchOption result (CannotFollow (files_of input.now) nr fnr)
+            (λ _. ¬ CannotFollow (files_of input.now) nr fnr) }
+    {
+        if nr < fnr || LIMIT - input.total_size() < nr {
+            return None;
+        }
+        let mut chunks = self.chunks;
+        count_on(&mut chunks, nr, fnr);
+        Some(Plan { chunks })
     }
 }

@@ -1,5 +1,5 @@
 -- Elements that are joined to what was noted of them.
-use Rattle.std.proofs.Common.{◌≡◌, ℕ, suc, length, Bool, true, false, cond, List, [], ◌∷◌, Option, Some, None, refl, sym, ◌∙◌, ap}
+use Rattle.std.proofs.Common.{◌≡◌, ◌<◌, ℕ, suc, length, arith, Bool, true, false, cond, List, [], ◌∷◌, Option, Some, None, refl, sym, ◌∙◌, ap}
 use Rattle.std.specs.Prelude.{◌&&◌, ◌||◌, is_some}
 use Rattle.std.specs.List.{list_all, list_any}
 use Rattle.std.specs.Ordering.{eq_by_cmp, is_eq}
@@ -212,6 +212,37 @@ module _ (k : List ℕ) (m : Mark) (marks : Marks) (es : Entries) (none : find o
         let all = element_takes-array_takes marks after parts.1 in
         array_takes-element_takes (put_mark k m marks) es (λ q. at_marks q ∙ takes_each q (same_key q k) refl parts.0 (sym (at_values q) ∙ all q))
 
+-- ---- looking, which changes nothing
+
+module _ (k : List ℕ) (m : Mark) (marks : Marks) (es : Entries) (none : find order k marks ≡ None) where
+  looks_at : (q : List ℕ) → element_takes (put_mark k m marks) es q ≡ takes (cond (same_key q k) m (mark_found q marks)) (value_of (found q es))
+  looks_at q = ap (λ n. takes n (value_of (found q es))) (mark_found-put q k m marks)
+
+  takes_both : (q : List ℕ) (b : Bool) → same_key q k ≡ b → takes m (value_of (found k es)) ≡ true → element_takes marks es q ≡ true →
+      takes (cond b m (mark_found q marks)) (value_of (found q es)) ≡ true
+  takes_both q true e h g = let same = same_is q k e in rw same h
+  takes_both q false e h g = g
+
+  takes_rest : (q : List ℕ) (b : Bool) → same_key q k ≡ b → takes (cond b m (mark_found q marks)) (value_of (found q es)) ≡ true → element_takes marks es q ≡ true
+  takes_rest q true e g = let same = same_is q k e in let blank_there : mark_found k marks ≡ blank = ap mark_or_blank none in rw (same, blank_there) refl
+  takes_rest q false e g = g
+
+  -- whether one key takes what was noted of it, then the others
+  pub looks-put : array_takes (put_mark k m marks) es ≡ (takes m (value_of (found k es)) && array_takes marks es)
+  looks-put = same_bool _ _ forth back where
+    forth : array_takes (put_mark k m marks) es ≡ true → (takes m (value_of (found k es)) && array_takes marks es) ≡ true
+    forth h =
+        let all = element_takes-array_takes (put_mark k m marks) es h in
+        and_true _ _
+        (ap (λ b. takes (cond b m (mark_found k marks)) (value_of (found k es))) (sym (ap is_eq (tied_itself total k))) ∙ sym (looks_at k) ∙ all k)
+        (array_takes-element_takes marks es (λ q. takes_rest q (same_key q k) refl (sym (looks_at q) ∙ all q)))
+
+    back : (takes m (value_of (found k es)) && array_takes marks es) ≡ true → array_takes (put_mark k m marks) es ≡ true
+    back h =
+        let parts = both_true _ _ h in
+        let all = element_takes-array_takes marks es parts.1 in
+        array_takes-element_takes (put_mark k m marks) es (λ q. looks_at q ∙ takes_both q (same_key q k) refl parts.0 (all q))
+
 -- ---- for the loops
 
 put_found : (k : List ℕ) (v : Val) (es : Entries) → Rise es → found k es ≡ Some v → es ≡ put k v es
@@ -250,3 +281,16 @@ pub one_refused : (k : List ℕ) (m : Mark) (before rest : Marks) (es : Entries)
     takes m (value_of (found k es)) ≡ false → array_takes before es ≡ false
 one_refused k m before rest es is none t =
     ap (λ ms. array_takes ms es) is ∙ array_takes-put k m rest es none ∙ ap (λ b. b && array_takes rest (after k m rest es none)) t
+
+-- a key is looked at whose element takes what was noted of it
+pub look_taken : (k : List ℕ) (m : Mark) (before rest : Marks) (es : Entries) → before ≡ put_mark k m rest → find order k rest ≡ None →
+    takes m (value_of (found k es)) ≡ true → array_takes rest es ≡ array_takes before es
+look_taken k m before rest es is none t =
+    sym (ap (λ ms. array_takes ms es) is ∙ looks-put k m rest es none ∙ ap (λ b. b && array_takes rest es) t)
+
+-- fewer marks are left
+pub fewer_marks : (k : List ℕ) (m : Mark) (before rest : Marks) → before ≡ put_mark k m rest → find order k rest ≡ None → length rest < length before
+fewer_marks k m before rest is none =
+    let same = ap length is in
+    let one = length-put_mark k m rest none in
+    omega (arith, same, one)

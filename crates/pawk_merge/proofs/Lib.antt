@@ -3,3 +3,4 @@ pub mod StopLemmas
 pub mod SlotLemmas
 pub mod LawLemmas
 pub mod MergeLemmas
+pub mod ExtentLemmas

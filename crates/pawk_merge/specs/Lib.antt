@@ -4,3 +4,5 @@ pub mod JoinLaws
 pub mod Stops
 pub mod Merges
 pub mod MergeViews
+pub mod Extents
+pub mod ExtentViews

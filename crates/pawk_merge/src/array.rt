@@ -2,16 +2,48 @@
 
 ghost use Rattle.std.specs.Prelude.{◌≡◌};
 ghost use Rattle.pawk_array.specs.Entries.{found, value_of};
+ghost use Rattle.pawk_store.specs.Globals.{array_at};
 ghost use Rattle.pawk_frozen.specs.MarkViews.{mark_view};
 ghost use Rattle.pawk_merge.specs.Joins.{joined_element, takes};
 ghost use Rattle.pawk_merge.specs.Tables.{array_takes, with_element};
 ghost use Rattle.pawk_merge.specs.Tables as spec;
 ghost use Rattle.pawk_merge.specs.Stops.{Joins};
 
-use crate::cell::join_cell;
+use crate::cell::{join_cell, takes_sums};
 use crate::stop::JoinStop;
 use pawk_array::AssociativeArray;
 use pawk_frozen::{CellMark, ElementMarks};
+use pawk_store::Globals;
+use pawk_value::ValueRef;
+
+/// Whether an element takes what was noted of it; only where amounts were it is looked up. It changes
+/// nothing.
+#[inline]
+fn takes_element(globals: &Globals, array: usize, key: &[u8], mark: &CellMark) -> bool
+    ensures { result ≡ takes (mark_view mark.now)
+        (value_of (found key.now (array_at globals.now array))) }
+{
+    match mark {
+        CellMark::Blank | CellMark::Put(_) | CellMark::Created => true,
+        CellMark::Summed(sums) => match globals.get(array, key) {
+            Some(value) => takes_sums(value, sums),
+            None => takes_sums(ValueRef::Uninit, sums),
+        },
+    }
+}
+
+/// Whether each element of an array takes what was noted of it. It changes nothing.
+pub(crate) fn takes_array(globals: &Globals, array: usize, marks: &ElementMarks) -> bool
+    ensures { result ≡ array_takes marks.now (array_at globals.now array) }
+{
+    let mut pairs = marks.pairs();
+    while let Some((key, mark)) = pairs.next() {
+        if !takes_element(globals, array, key.text(), mark) {
+            return false;
+        }
+    }
+    true
+}
 
 /// Joins an element to what was noted of it; one that is missing is made first, unless nothing was.
 #[inline]

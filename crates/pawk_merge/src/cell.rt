@@ -2,14 +2,14 @@
 
 ghost use Rattle.std.specs.Prelude.{◌≡◌, ◌+ℤ◌, false, IfNone, IfSome, true};
 ghost use Rattle.pawk_value.specs.Range.{in_range};
-ghost use Rattle.pawk_value.specs.Value.{shown};
-ghost use Rattle.pawk_frozen.specs.MarkViews.{mark_view};
+ghost use Rattle.pawk_value.specs.Value.{lent_value, shown};
+ghost use Rattle.pawk_frozen.specs.MarkViews.{mark_view, sums_view};
 ghost use Rattle.pawk_merge.specs.Joins.{fits, joined_value, takes};
 ghost use Rattle.pawk_merge.specs.Stops.{Joins};
 
 use crate::stop::JoinStop;
 use pawk_frozen::{CellMark, Sums};
-use pawk_value::{Value, to_num, whole_number};
+use pawk_value::{Value, ValueRef, to_num, to_num_lent, whole_number};
 
 /// The number that is so much greater, if it is one of the language.
 #[inline]
@@ -33,6 +33,18 @@ fn sum_from(number: i64, sums: &Sums) -> Option<i64>
     shifted(number, sums.least)?;
     shifted(number, sums.greatest)?;
     Some(sum)
+}
+
+/// Whether a cell that has this value takes amounts: it has a number, from which the sum of all and all
+/// sums on the way are numbers of the language.
+#[inline]
+pub(crate) fn takes_sums(value: ValueRef<'_>, sums: &Sums) -> bool
+    ensures { result ≡ takes (sums_view sums.now) (lent_value value.entry) }
+{
+    match to_num_lent(value) {
+        Ok(number) => sum_from(number, sums).is_some(),
+        Err(_) => false,
+    }
 }
 
 /// Joins a cell to what was noted of it: amounts are added to its number, a value that was set is moved

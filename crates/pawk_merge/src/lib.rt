@@ -6,12 +6,14 @@
 mod array;
 mod cell;
 mod chunk_result;
+mod extent;
 pub mod laws;
 mod merging;
 mod stop;
 mod table;
 
 pub use chunk_result::ChunkResult;
+pub use extent::{Extent, merge_far};
 pub use merging::{Merged, merge};
-pub use stop::JoinStop;
-pub use table::join_table;
+pub use stop::{JoinStop, MergeStop};
+pub use table::{join_table, takes_table};

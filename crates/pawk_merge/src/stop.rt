@@ -22,6 +22,17 @@ pub enum JoinStop {
     Memory,
 }
 
+/// Why a chunk is not merged.
+#[derive(Clone, Copy, Debug, PartialEq, Eq)]
+pub enum MergeStop {
+    /// A cell does not take what the chunk noted of it.
+    Cell,
+    /// The chunk ended in a fault.
+    Fault,
+    /// The chunk did what its world does not allow, or left the rest of a file unread.
+    Clash,
+}
+
 impl From<AllocError> for JoinStop {
     ghost use Rattle.pawk_merge.specs.declared.stop.JoinStop.TheVariants.{Memory};
 

@@ -1,16 +1,65 @@
 //! All globals.
 
 ghost use Rattle.std.specs.Prelude.{◌≡◌, map};
+ghost use Rattle.pawk_world.specs.Worlds.{scalar};
+ghost use Rattle.pawk_store.specs.Globals.{value_at};
 ghost use Rattle.pawk_frozen.specs.MarkViews.{mark_view};
+ghost use Rattle.pawk_merge.specs.Joins.{takes};
 ghost use Rattle.pawk_merge.specs.Tables.{all_take, arrays_take, scalars_take};
 ghost use Rattle.pawk_merge.specs.Tables as spec;
 ghost use Rattle.pawk_merge.specs.Stops.{Joins};
 
-use crate::array::join_array;
-use crate::cell::join_cell;
+use crate::array::{join_array, takes_array};
+use crate::cell::{join_cell, takes_sums};
 use crate::stop::JoinStop;
 use pawk_frozen::{CellMark, ElementMarks, Table};
 use pawk_store::Globals;
+use pawk_world::World;
+
+/// Whether a scalar takes what was noted of it. It changes nothing.
+fn takes_scalar(globals: &Globals, slot: usize, mark: &CellMark) -> bool
+    ensures { result ≡ takes (mark_view mark.now) (value_at (scalar slot) globals.now) }
+{
+    match mark {
+        CellMark::Blank | CellMark::Put(_) | CellMark::Created => true,
+        CellMark::Summed(sums) => takes_sums(globals.scalar(slot), sums),
+    }
+}
+
+/// Whether each scalar takes what was noted of it. It changes nothing.
+fn takes_scalars(globals: &Globals, marks: &[CellMark]) -> bool
+    ensures { result ≡ scalars_take (map mark_view marks.now) globals.now }
+{
+    for slot in 0..marks.len() {
+        if !takes_scalar(globals, slot, &marks[slot]) {
+            return false;
+        }
+    }
+    true
+}
+
+/// Whether each element of each array takes what was noted of it. It changes nothing.
+fn takes_arrays(globals: &Globals, marks: &[ElementMarks]) -> bool
+    ensures { result ≡ arrays_take marks.now globals.now }
+{
+    for slot in 0..marks.len() {
+        if !takes_array(globals, slot, &marks[slot]) {
+            return false;
+        }
+    }
+    true
+}
+
+/// Whether each cell takes what a chunk noted of it: where amounts were added it has a number, and from
+/// that number on the sum of all and all sums on the way are numbers of the language. It changes
+/// nothing and takes no memory.
+///
+/// POSIX.1-2017, awk, "Expressions in awk".
+pub fn takes_table(globals: &Globals, table: &Table) -> bool
+    ensures { result ≡ all_take table.now globals.now }
+{
+    takes_scalars(globals, table.scalars()) && takes_arrays(globals, table.arrays())
+}
 
 /// Joins scalars to what was noted of them.
 fn join_scalars(globals: &mut Globals, marks: Vec<CellMark>) -> Result<(), JoinStop>

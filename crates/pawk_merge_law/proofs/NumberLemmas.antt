@@ -3,11 +3,7 @@ use Rattle.std.proofs.Common.{◌≡◌, ℕ, ◌+◌, ◌<◌, List, [], ◌∷
 use Rattle.pawk_records.specs.Records.{records_by}
 use Rattle.pawk_input.specs.Input.{File, Item, file_items, items_from}
 use Rattle.pawk_input.proofs.ItemsLemmas.{length-file_items}
-
--- each has the number after the one before it; before the first came nr records
-abbrev pub AreNumbered : ℕ → List Item → Type 0
-AreNumbered nr [] = Unit {0}
-AreNumbered nr (i ∷ is) = (i.nr ≡ nr + 1) × AreNumbered (nr + 1) is
+use Rattle.pawk_merge_law.specs.Gathered.{AreNumbered}
 
 AreNumbered-append : (nr : ℕ) (xs ys : List Item) → AreNumbered nr xs → AreNumbered (nr + length xs) ys → AreNumbered nr (xs ++ ys)
 AreNumbered-append nr [] ys h k = subst (λ n. AreNumbered n ys) (omega arith) k
@@ -17,7 +13,8 @@ pub AreNumbered-rest : (nr : ℕ) (xs ys : List Item) → AreNumbered nr (xs ++ 
 AreNumbered-rest nr [] ys h = subst (λ n. AreNumbered n ys) (omega arith) h
 AreNumbered-rest nr (x ∷ xs) ys h = subst (λ n. AreNumbered n ys) (omega arith) (AreNumbered-rest (nr + 1) xs ys h.1)
 
-file_numbered : (file : ℕ) (name : List ℕ) (nr fnr : ℕ) (rs : List (List ℕ)) → AreNumbered nr (file_items file name nr fnr rs)
+-- records of one file are
+pub file_numbered : (file : ℕ) (name : List ℕ) (nr fnr : ℕ) (rs : List (List ℕ)) → AreNumbered nr (file_items file name nr fnr rs)
 file_numbered file name nr fnr [] = tt
 file_numbered file name nr fnr (r ∷ rs) = (refl, file_numbered file name (nr + 1) (fnr + 1) rs)
 

@@ -10,8 +10,8 @@ use Rattle.pawk_merge.specs.declared.chunk_result.ChunkResult.{ChunkResult}
 use Rattle.pawk_chunks.specs.Chunks.{Opening, chunk_state, chunk_end, Leaves, AreResults}
 use Rattle.pawk_merge_law.specs.ChunkedRuns.{IsTold, Ran, HasRecord}
 use Rattle.pawk_merge.specs.MergeViews.{chunk_of}
-use Rattle.pawk_merge_law.specs.Gathered.{phase_of}
-use Rattle.pawk_merge_law.proofs.NumberLemmas.{AreNumbered, AreNumbered-rest, first_number}
+use Rattle.pawk_merge_law.specs.Gathered.{phase_of, AreNumbered}
+use Rattle.pawk_merge_law.proofs.NumberLemmas.{AreNumbered-rest, first_number}
 
 has_record : (is : List Item) → 0 < length is → HasRecord is
 has_record [] h = absurd (omega (arith, h))

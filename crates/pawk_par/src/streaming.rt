@@ -26,7 +26,8 @@ use std::thread::Threads;
 /// Refusals, in the order in which they are met: `Program` where the text is refused, with its cause and
 /// place; `Settings` where an assignment or the budget is refused, the first at fault; `Read` where a read
 /// failed, `Input` where the source has more than 4,611,686,018,427,387,904 bytes; `Cutting` where the
-/// records may be run in chunks and the cutting has no plan, `Thread` where a worker could not be started;
+/// records may be run in chunks and the cutting has no plan, `Thread` where a worker could not be started, which the
+/// gate did not allow;
 /// `Write` where a write failed or took nothing, after some bytes; and at any time `Memory` where memory
 /// was refused. Nothing was written, but with `Write`; nothing was read with `Program` and `Settings`.
 ///

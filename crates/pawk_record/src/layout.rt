@@ -241,6 +241,22 @@ impl Layout {
         Ok(true)
     }
 
+    /// Makes the line its own: copies one that is lent into the space that is there. The fields stay.
+    pub(crate) fn copy_line(&mut self, is_own: bool, lent: &[u8]) -> Result<(), AllocError>
+        ensures line { OnOk result
+            (self.new.text.items ≡ line_of is_own self.old.text.items lent.now) }
+        ensures own { is_own ≡ true → self.new ≡ self.old }
+        ensures ranges { self.new.ranges.items ≡ self.old.ranges.items }
+        ensures kinds { self.new.kinds.items ≡ self.old.kinds.items }
+        ensures mark { self.new.is_joined ≡ self.old.is_joined }
+    {
+        if is_own {
+            return Ok(());
+        }
+        self.text.clear();
+        self.text.extend_from_slice(lent)
+    }
+
     /// Adds a field at the end: some bytes, and then the text of its value. Fault `length` where the line would be
     /// longer than a text may be.
     fn push(&mut self, before: &[u8], value: ValueRef<'_>) -> Result<(), Stop>

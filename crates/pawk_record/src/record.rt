@@ -104,6 +104,36 @@ impl<'a> Record<'a> {
         Ok(())
     }
 
+    /// The same record, which lends nothing: a line that was lent is copied into the space that it has for one. What was
+    /// found of the fields stays.
+    ///
+    /// POSIX.1-2017, awk, "Variables and Special Variables" (`NF`: inside `END` the last record's).
+    pub fn keep<'b>(self) -> Result<Record<'b>, AllocError>
+        ensures { IfOk result (λ kept. kept ≡ self.entry) }
+    {
+        let Record {
+            alloc,
+            lent,
+            is_own,
+            mut here,
+            spare,
+            next,
+            counted,
+            splitter,
+        } = self;
+        here.copy_line(is_own, lent)?;
+        Ok(Record {
+            alloc,
+            lent: b"",
+            is_own: true,
+            here,
+            spare,
+            next,
+            counted,
+            splitter,
+        })
+    }
+
     /// The text of the record.
     #[inline]
     pub fn text(&self) -> &[u8]

@@ -2,6 +2,7 @@ pub mod Globals
 pub mod Openings
 pub mod RecordStates
 pub mod StateViews
+pub mod KeptViews
 pub mod Slots
 pub mod Listings
 pub mod ListingViews

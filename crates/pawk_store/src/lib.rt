@@ -6,6 +6,7 @@
 mod appending;
 mod copies;
 mod globals;
+mod kept;
 pub mod laws;
 mod listing;
 mod moving;
@@ -15,6 +16,7 @@ mod specials;
 mod state;
 
 pub use globals::Globals;
+pub use kept::KeptState;
 pub use listing::{Content, Named, Names};
 pub use pawk_array::Seed;
 pub use specials::Specials;

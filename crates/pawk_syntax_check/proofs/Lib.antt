@@ -6,6 +6,8 @@ pub mod KindLists
 pub mod Marking
 pub mod Agreement
 pub mod Finding
+pub mod Choice
 pub mod Arguments
 pub mod Parameters
 pub mod Mentions
+pub mod Plain

@@ -31,7 +31,7 @@ every_mention-and p q (x ∷ xs) =
     rw (list_all-and (p x) (q x) (of_part x), every_mention-and p q xs)
     (and-and (list_all (p x) (of_part x)) (list_all (q x) (of_part x)) (every_mention p xs) (every_mention q xs))
 
-fits-same : (fs gs : Text → Option (ℕ × List Text)) → ((x : Text) → fs x ≡ gs x) → fs ≡ gs
+pub fits-same : (fs gs : Text → Option (ℕ × List Text)) → ((x : Text) → fs x ≡ gs x) → fs ≡ gs
 fits-same fs gs h = λ i x. h x i
 
 items_fit-and : (fs : Text → Option (ℕ × List Text)) (n : ℕ) (ps : List Part) →
@@ -57,7 +57,7 @@ both_of true true e = (refl, refl)
 both_of true false e = cc
 both_of false b e = cc
 
-of_both : (a b : Bool) → a ≡ true → b ≡ true → (a && b) ≡ true
+pub of_both : (a b : Bool) → a ≡ true → b ≡ true → (a && b) ≡ true
 of_both a b e f = rw (e, f) refl
 
 -- all rules but that on kinds

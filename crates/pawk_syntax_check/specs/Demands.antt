@@ -76,3 +76,7 @@ pub record AreKindsOf (ps : List Part) (k : Kinds) : Type 0 where
 -- a program has one choice of kinds at most
 abbrev pub KindsAreUnique : Type 0
 KindsAreUnique = (ps : List Part) (k other : Kinds) → AreKindsOf ps k → AreKindsOf ps other → (v : Name) → k v ≡ other v
+
+-- where some kinds meet what a program asks, it has a choice of kinds
+abbrev pub KindsExist : Type 0
+KindsExist = (ps : List Part) → KindsFit ps → (k : Kinds) × AreKindsOf ps k

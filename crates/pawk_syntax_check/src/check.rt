@@ -10,7 +10,7 @@ ghost use Rattle.pawk_syntax_check.specs.Functions.{function_of};
 ghost use Rattle.pawk_syntax_check.specs.Views.{mention_view};
 ghost use Rattle.pawk_syntax_check.specs.FunctionViews.{function_under};
 ghost use Rattle.pawk_syntax_check.specs.Demands.{KindsFit};
-ghost use Rattle.pawk_syntax_check.specs.Fits.{fits, item_fits, items_fit, Fits};
+ghost use Rattle.pawk_syntax_check.specs.Fits.{fits, item_fits, items_fit, Fits, PlainProgramsFit};
 
 use crate::fault::{CheckFault, first_of};
 use crate::functions::Functions;
@@ -133,3 +133,10 @@ pub fn check(alloc: Global, items: &[ProgramItem]) -> Result<(), SyntaxRefusal>
         Some(fault) => Err(first_fault(alloc, &functions, items, fault)?),
     }
 }
+
+/// A program without functions fits where its names are arrays or scalars, with the variables of the
+/// language among the scalars, no variable that the run sets is assigned, the calls of built-in
+/// functions fit them, and each word that leaves is where it may be.
+pub fn plain_programs_fit()
+    ensures { PlainProgramsFit }
+{}

@@ -8,7 +8,7 @@ ghost use Rattle.pawk_syntax_tree.specs.Item.{part};
 ghost use Rattle.pawk_syntax_check.specs.Functions.{function_of};
 ghost use Rattle.pawk_syntax_check.specs.FunctionViews.{function_under};
 ghost use Rattle.pawk_syntax_check.specs.Tables.{key_view};
-ghost use Rattle.pawk_syntax_check.specs.Demands.{KindsFit, AreKindsOf, KindsAreUnique};
+ghost use Rattle.pawk_syntax_check.specs.Demands.{KindsFit, AreKindsOf, KindsAreUnique, KindsExist};
 ghost use Rattle.pawk_syntax_check.specs.DemandViews.{AreNumbered};
 ghost use Rattle.pawk_syntax_check.specs.KindViews.{kinds_in, AreFoundFor};
 ghost use Rattle.pawk_syntax_check.specs.Marks as marking;
@@ -69,6 +69,12 @@ impl<'t> Kinds<'t> {
 /// A program has one choice of kinds at most.
 pub fn kinds_are_unique()
     ensures { KindsAreUnique }
+{}
+
+/// A program has a choice of kinds where some kinds meet what it asks, as they do of each program
+/// that passes the check.
+pub fn kinds_exist()
+    ensures { KindsExist }
 {}
 
 /// Whether a name in a scope is a variable of the language.

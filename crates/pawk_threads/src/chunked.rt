@@ -4,6 +4,7 @@ ghost use Rattle.std.specs.Prelude.{◌≡◌, ◌≢◌, ◌≤◌, length, Err
 ghost use Rattle.pawk_board.specs.Limits.{most_chunks};
 ghost use Rattle.pawk_code.specs.ProgramViews.{code_view};
 ghost use Rattle.pawk_input.specs.Input.{files_of, items};
+ghost use Rattle.pawk_input.specs.Plan.{IsPlanOf};
 ghost use Rattle.pawk_store.specs.Globals.{calls};
 ghost use Rattle.pawk_semantics.specs.Runs.{records_by_rs};
 ghost use Rattle.pawk_admit.specs.Admission.{AreRoles, IsAdmissible};
@@ -41,6 +42,7 @@ fn merge_plan<'a, G: Gate + Sync, R: Threads + Wait>(
     gate: &G,
 ) -> Result<Option<Merged<'a>>, Refusal>
     requires chunked { IsChunked source }
+    requires planned { IsPlanOf source.rs.now (files_of source.input.now) source.plan.now }
     requires few { length source.plan.now ≤ most_chunks }
     requires workers { IsCrew workers }
     requires taken { IsTaken source.rs.now (end_of prologue.now) }
@@ -95,6 +97,7 @@ pub(crate) fn run_plan<'a, G: Gate + Sync, R: Threads + Wait>(
     gate: &G,
 ) -> Result<Option<Outcome>, Refusal>
     requires chunked { IsChunked source }
+    requires planned { IsPlanOf source.rs.now (files_of source.input.now) source.plan.now }
     requires few { length source.plan.now ≤ most_chunks }
     requires workers { IsCrew workers }
     requires taken { IsTaken source.rs.now (end_of prologue) }

@@ -129,8 +129,8 @@ fn run_once<G: Gate + Sync, R: Threads + Wait>(
 /// on this thread. The input's names and bytes stay as they are.
 ///
 /// `Cutting` comes only where the records may be run in chunks and the cutting has no plan, and where it
-/// has none nothing is run; `Thread` comes where a worker could not be started, `Memory` where memory was
-/// refused.
+/// has none nothing is run; `Thread` comes where a worker could not be started, which the gate did not allow,
+/// `Memory` where memory was refused.
 ///
 /// POSIX.1-2017, awk, "Overall Program Structure".
 pub fn run<G: Gate + Sync, R: Threads + Wait>(

@@ -1,7 +1,7 @@
 //! Values whose bytes lie in a buffer.
 
-ghost use Rattle.std.specs.Prelude.{◌≡◌, ◌++◌, length, drop, OnOk, IfOk};
-ghost use Rattle.pawk_scalar.specs.Value.{lent_value};
+ghost use Rattle.std.specs.Prelude.{◌≡◌, ◌++◌, ◌+◌, ◌<◌, length, vec_len, vec_capacity, drop, OnOk, OnErr, IfOk};
+ghost use Rattle.pawk_scalar.specs.Value.{bytes_of, lent_value};
 ghost use Rattle.pawk_value.specs.Held.{added, held_value};
 
 use pawk_scalar::ValueRef;
@@ -21,13 +21,18 @@ pub enum Held {
 }
 
 /// Stores a lent value: its bytes are appended to the buffer. Memory is refused only where it has
-/// bytes.
+/// bytes and the capacity of `out` is too small for them, and after a refusal the bytes of `out` are as
+/// they were.
 #[inline(always)]
 pub fn hold(value: ValueRef<'_>, out: &mut Vec<u8>) -> Result<Held, AllocError>
     ensures value { IfOk result
         (λ h. held_value h (added out.old.items out.new.items) ≡ lent_value value.entry) }
     ensures appended { OnOk result
         (out.new.items ≡ out.old.items ++ added out.old.items out.new.items) }
+    ensures same { OnErr result (out.new.items ≡ out.old.items) }
+    ensures some { OnErr result (0 < length (bytes_of (lent_value value.entry))) }
+    ensures full { OnErr result
+        (vec_capacity out.old < vec_len out.old + length (bytes_of (lent_value value.entry))) }
 {
     match value {
         ValueRef::Uninit => Ok(Held::Uninit),

@@ -4,11 +4,11 @@ use Rattle.std.specs.Prelude.{flat_map}
 use Rattle.std.proofs.lemmas.List.{append-nil, map-append}
 use Rattle.pawk_records.specs.Records.{records_by}
 use Rattle.pawk_input.specs.Input.{File, Item, file_items}
-use Rattle.pawk_input.specs.Plan.{chunk_items, chunk_bytes}
+use Rattle.pawk_input.specs.Plan.{chunk_after, chunk_items, chunk_bytes}
 use Rattle.pawk_input.specs.Input.{file_at}
 use Rattle.pawk_input.specs.declared.cutting.Chunk.{Chunk}
 use Rattle.pawk_input.proofs.PlanLemmas.{file_items-append}
-use Rattle.pawk_windows.specs.Numbers.{chunk_after, AfterLaw, WindowItemsLaw}
+use Rattle.pawk_windows.specs.Numbers.{AfterLaw, WindowItemsLaw}
 
 module _ (a b : ℕ) where
   abbrev number_on : Item → Item

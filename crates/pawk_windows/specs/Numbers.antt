@@ -3,12 +3,8 @@
 use Rattle.std.specs.Prelude.{◌≡◌, ℕ, ◌+◌, List, [], ◌∷◌, ◌++◌, length, map, flat_map}
 use Rattle.pawk_records.specs.Records.{records_by}
 use Rattle.pawk_input.specs.Input.{File, Item, file_items}
-use Rattle.pawk_input.specs.Plan.{chunk_items, IsPlanOf}
+use Rattle.pawk_input.specs.Plan.{chunk_after, chunk_items, IsPlanOf}
 use Rattle.pawk_input.specs.declared.cutting.Chunk.{Chunk}
-
--- the same chunk, with so many records before it in all, and so many of them in its file
-abbrev pub chunk_after : ℕ → ℕ → Chunk → Chunk
-chunk_after nr fnr c = record c { nr = nr + c.nr; fnr = fnr + c.fnr }
 
 -- A plan of a window, taken as an input of its own: with the records counted that came before, its chunks are the window's
 -- records in the whole input.

@@ -1,7 +1,8 @@
 // The laws.
 
+ghost use Rattle.pawk_merge.specs.Extents.{FarLaw};
 ghost use Rattle.pawk_windows.specs.Cuts.{CutLaw};
-ghost use Rattle.pawk_windows.specs.Extents.{FarLaw, FirstLaw};
+ghost use Rattle.pawk_windows.specs.Extents.{FirstLaw};
 ghost use Rattle.pawk_windows.specs.Files.{FilesLaw};
 ghost use Rattle.pawk_windows.specs.Numbers.{AfterLaw, WindowItemsLaw};
 ghost use Rattle.pawk_windows.specs.Pieces.{NoSkipLaw, PiecesLaw};

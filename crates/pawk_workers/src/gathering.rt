@@ -61,7 +61,7 @@ fn gather(
 ///
 /// `rs` holds the byte at which records end, or none for paragraphs. There are at most 1,048,576 blocks, and 1 to 64 workers.
 ///
-/// `Memory` comes where memory was refused, and `Thread` where a worker could not be started.
+/// `Memory` comes where memory was refused, and `Thread` where a worker could not be started, which the gate did not allow.
 pub fn count_records<G: Gate + Sync, R: Threads + Wait>(
     rt: &R,
     alloc: Global,

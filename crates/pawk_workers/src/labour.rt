@@ -56,7 +56,8 @@ fn stack_of(bytes: Option<usize>) -> Stack {
     }
 }
 
-/// Starts a thread of the scope for each seat but the last, which has its labour on this thread, and joins them all.
+/// Starts a thread of the scope for each seat but the last, which has its labour on this thread, and joins them all. A seat whose
+/// thread cannot be started has its labour on this thread too, where the gate allows it.
 fn in_scope<'s, E, S: Send + Drop + 's, L: Labour<S> + Copy + Sync, G: Gate + Sync, R: Threads>(
     scope: &Scope<'s, E>,
     rt: &R,
@@ -82,7 +83,12 @@ fn in_scope<'s, E, S: Send + Drop + 's, L: Labour<S> + Copy + Sync, G: Gate + Sy
         let started = stack.spawn_scoped_with(scope, *task, move || task.labour(alloc, seat, gate));
         match started {
             Ok(handle) => handles.push_reserved(handle),
-            Err(_) => break,
+            Err(error) => {
+                if !gate.may_lack_thread() {
+                    break;
+                }
+                shifts.push_reserved((error.value)());
+            }
         }
     }
     shifts.push_reserved(task.labour(alloc, own, gate));
@@ -96,8 +102,8 @@ fn in_scope<'s, E, S: Send + Drop + 's, L: Labour<S> + Copy + Sync, G: Gate + Sy
 }
 
 /// A worker for each seat, the last one on this thread, with the stack that it has, and each other in a thread of its own.
-/// Each has ended when this returns, also where one could not be started, which is reported as `Thread`. `Memory` comes
-/// where memory was refused before a thread was started.
+/// Where a thread cannot be started the gate is asked whether its worker works on this thread; if not, that is reported as
+/// `Thread`. Each has ended when this returns. `Memory` comes where memory was refused before a thread was started.
 pub fn all_labour<S: Send + Drop, L: Labour<S> + Copy + Sync, G: Gate + Sync, R: Threads + Wait>(
     rt: &R,
     alloc: Global,

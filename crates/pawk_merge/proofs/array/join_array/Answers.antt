@@ -1,30 +1,22 @@
-use Rattle.std.proofs.Common.{◌≡◌, ℕ, ◌<◌, List, None, sym, ◌∙◌, ap, arith, length}
-use Rattle.std.specs.FinMap.Entries.{find}
-use Rattle.pawk_array.specs.Entries.{order, found, value_of}
+use Rattle.std.proofs.Common.{◌≡◌, sym, ◌∙◌}
+use Rattle.pawk_array.specs.Entries.{found, value_of}
 use Rattle.pawk_array.specs.Keys.{text_of}
-use Rattle.pawk_frozen.specs.Marks.{Mark, Marks, put_mark}
 use Rattle.pawk_frozen.specs.MarkViews.{mark_view}
 use Rattle.pawk_merge.specs.Joins.{takes, joined_element}
 use Rattle.pawk_merge.specs.Tables.{array_takes, with_element}
 use Rattle.pawk_merge.specs.Tables as spec
-use Rattle.pawk_merge.proofs.ArrayLemmas.{length-put_mark, one_taken, one_refused}
+use Rattle.pawk_merge.proofs.ArrayLemmas.{fewer_marks, one_taken, one_refused}
 use Rattle.pawk_merge.proofs.StopLemmas.{stops_too}
 use Rattle.pawk_merge.proofs.array.join_array.Goals as goal
-
-less : (k : List ℕ) (m : Mark) (before rest : Marks) → before ≡ put_mark k m rest → find order k rest ≡ None → length rest < length before
-less k m before rest is none =
-    let same = ap length is in
-    let one = length-put_mark k m rest none in
-    omega (arith, same, one)
 
 -- the same of a short key, and of a long one, whose memory is freed
 pub loop-key-smaller : goal.loop-key-smaller
 loop-key-smaller c =
-    less (text_of c.in-Some.key) (mark_view c.in-Some.mark) c.loop-key.pairs c.next.new.self c.in-Some.ensures.0 c.in-Some.ensures.1
+    fewer_marks (text_of c.in-Some.key) (mark_view c.in-Some.mark) c.loop-key.pairs c.next.new.self c.in-Some.ensures.0 c.in-Some.ensures.1
 
 pub loop-key-smaller-in_ok-join_element : goal.loop-key-smaller-in_ok-join_element
 loop-key-smaller-in_ok-join_element c =
-    less (text_of c.in-Some.key) (mark_view c.in-Some.mark) c.loop-key.pairs c.next.new.self c.in-Some.ensures.0 c.in-Some.ensures.1
+    fewer_marks (text_of c.in-Some.key) (mark_view c.in-Some.mark) c.loop-key.pairs c.next.new.self c.in-Some.ensures.0 c.in-Some.ensures.1
 
 pub loop-key-preserved : goal.loop-key-preserved
 loop-key-preserved c =

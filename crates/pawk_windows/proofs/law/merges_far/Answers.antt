@@ -1,4 +1,5 @@
-use Rattle.pawk_windows.proofs.ExtentLemmas.{extent, first}
+use Rattle.pawk_merge.proofs.ExtentLemmas.{extent}
+use Rattle.pawk_windows.proofs.ExtentLemmas.{first}
 use Rattle.pawk_windows.proofs.law.merges_far.Goals as goal
 
 pub returns-clause-far : goal.returns-clause-far

@@ -11,6 +11,7 @@ use Rattle.pawk_records.proofs.BeginsLemmas.{length-records_by}
 use Rattle.pawk_input.proofs.PlanLemmas.{planned_next, planned_turn, total_size_next, plan_at_end}
 use Rattle.pawk_input.proofs.DraftLemmas.{RefusesMany-longer}
 use Rattle.pawk_input.proofs.CutPlanLemmas.{is_here, FilesRise-from_start, FilesRise-later, offsets_first, offsets_here, offsets_later, cut_places-same, rises_at_cuts, picked_at_cuts}
+use Rattle.pawk_input.proofs.PlacedLemmas.{adjoining_at_end}
 use Rattle.pawk_input.proofs.plan.Plan.at.Goals as goal
 
 pub loop-file-init : goal.loop-file-init
@@ -90,3 +91,7 @@ returns-clause-plan c =
     let files = files_of c.args.input.now in
     let cuts = c.args.cuts.now in
     plan_at_end rs files (cut_places cuts) (picked_at_cuts rs files cuts c.in_ok-check_cuts.ensures) c.loop-file.file c.loop-file.draft.nr c.loop-file.draft.chunks.items (omega arith) c.loop-file.invariant.chunks
+
+pub invariant_of-result : goal.invariant_of-result
+invariant_of-result c =
+    adjoining_at_end c.args.rs.now (cut_places c.args.cuts.now) (files_of c.args.input.now) c.loop-file.file c.loop-file.draft.nr c.loop-file.draft.chunks.items (omega arith) c.loop-file.invariant.chunks

@@ -7,6 +7,7 @@ use Rattle.std.proofs.lemmas.Result.{err_from_is_err_and}
 use Rattle.pawk_input.specs.Limits.{most_chunks}
 use Rattle.pawk_input.proofs.DraftLemmas.{RefusesMany-longer}
 use Rattle.pawk_input.proofs.PlanLemmas.{planned_fits, planned_turn, total_size_next, plan_at_end, picked_by_size}
+use Rattle.pawk_input.proofs.PlacedLemmas.{adjoining_at_end}
 use Rattle.pawk_input.proofs.plan.Plan.by_size.Goals as goal
 
 pub loop-file-preserved : goal.loop-file-preserved
@@ -39,3 +40,7 @@ returns-clause-plan c =
     let size = c.args.bytes in
     let picked = λ (j : ℕ). picked_by_size rs (λ _. size) (file_at files j).bytes in
     plan_at_end rs files (λ _ places. places_by_size (λ _. size) places) picked c.loop-file.file c.loop-file.draft.nr c.loop-file.draft.chunks.items (omega arith) c.loop-file.invariant.chunks
+
+pub invariant_of-result : goal.invariant_of-result
+invariant_of-result c =
+    adjoining_at_end c.args.rs.now (λ _ places. places_by_size (λ _. c.args.bytes) places) (files_of c.args.input.now) c.loop-file.file c.loop-file.draft.nr c.loop-file.draft.chunks.items (omega arith) c.loop-file.invariant.chunks

@@ -10,6 +10,7 @@ use Rattle.pawk_input.proofs.DraftLemmas.{RefusesMany-longer}
 use Rattle.pawk_input.proofs.PlanLemmas.{planned_fits, planned_turn, total_size_next, plan_at_end, picked_by_size}
 use Rattle.pawk_input.proofs.StepLemmas.{bytes_before_next}
 use Rattle.pawk_input.proofs.CountLemmas.{enough_left, counts_here, counts_later}
+use Rattle.pawk_input.proofs.PlacedLemmas.{adjoining_at_end}
 use Rattle.pawk_input.proofs.plan.Plan.by_steps.Goals as goal
 
 pub split_at-requires : goal.split_at-requires
@@ -63,3 +64,8 @@ returns-clause-plan c =
     let steps = c.args.steps.now in
     let picked = λ (j : ℕ). picked_by_size rs (size_in_file c.args.bytes steps (bytes_before files j)) (file_at files j).bytes in
     plan_at_end rs files (λ k. places_by_size (size_in_file c.args.bytes steps (bytes_before files k))) picked c.loop-file.file c.loop-file.draft.nr c.loop-file.draft.chunks.items (omega arith) c.loop-file.invariant.chunks
+
+pub invariant_of-result : goal.invariant_of-result
+invariant_of-result c =
+    let files = files_of c.args.input.now in
+    adjoining_at_end c.args.rs.now (λ k. places_by_size (size_in_file c.args.bytes c.args.steps.now (bytes_before files k))) files c.loop-file.file c.loop-file.draft.nr c.loop-file.draft.chunks.items (omega arith) c.loop-file.invariant.chunks

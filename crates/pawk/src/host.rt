@@ -1,9 +1,19 @@
-//! The seed of a run.
+//! What a run takes of its host.
 
+use crate::deep::Depth;
 use pawk_par::Seed;
 use std::process;
 use std::random::RandomSource;
 use std::time::SystemTime;
+
+/// What a run takes of its host.
+#[derive(Clone, Copy)]
+pub(crate) struct Host {
+    /// What the keys of elements are hashed by.
+    pub(crate) seed: Seed,
+    /// How deep the stack of the run's thread is.
+    pub(crate) depth: Depth,
+}
 
 /// A number that differs from run to run where the system has no random ones: the time in seconds and nanoseconds, and the
 /// number of the process.
