@@ -20,3 +20,4 @@ pub use preparing::prepare;
 pub use refusal::StreamRefusal;
 pub use request::Request;
 pub use streaming::run_streams;
+pub use writing::write_output;

@@ -40,8 +40,11 @@ fn write_parts<K: Sink>(sink: &mut K, parts: Vec<Vec<u8>>) -> Result<(), u64>
     Ok(())
 }
 
-/// Writes an output, part by part.
-pub(crate) fn write_output<K: Sink>(sink: &mut K, output: Output) -> Result<(), StreamRefusal>
+/// Writes an output to a sink, part by part, and frees each when it was written.
+///
+/// `Write` comes where a write failed or took nothing, with the count of bytes that went out before; `Memory` where the
+/// output has 2^64 bytes or more, and nothing was written then.
+pub fn write_output<K: Sink>(sink: &mut K, output: Output) -> Result<(), StreamRefusal>
     ensures all { OnOk result (Appends (K.taken sink.old) (K.taken sink.new) output) }
     ensures refused { IfErr result (WhyUnwritten output (K.taken sink.old) (K.taken sink.new)
         (K.failures sink.old) (K.failures sink.new)) }

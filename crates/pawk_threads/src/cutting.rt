@@ -261,8 +261,11 @@ fn plan_by_size<G: Gate + Sync, R: Threads + Wait>(
     }
 }
 
-/// The plan of a cutting, by the bytes of RS.
-pub(crate) fn plan_of<G: Gate + Sync, R: Threads + Wait>(
+/// The plan of a cutting, by the bytes of RS; records are counted by the workers where there are many.
+///
+/// `Cutting` comes where the cutting has no plan, `Memory` where memory was refused, and `Thread` where a worker
+/// could not be started, which the gate did not allow.
+pub fn plan_of<G: Gate + Sync, R: Threads + Wait>(
     rt: &R,
     alloc: Global,
     input: &Input,

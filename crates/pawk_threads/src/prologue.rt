@@ -21,16 +21,21 @@ use std::alloc::{AllocError, Global};
 
 /// What BEGIN leaves.
 #[derive(Drop)]
-pub(crate) struct Prologue<'a> {
+pub struct Prologue<'a> {
+    /// The globals.
     pub globals: Globals,
+    /// The record state, and the output.
     pub run: Run<'a>,
+    /// How BEGIN was left.
     pub left: Left,
 }
 
 impl<'a> Prologue<'a> {
     /// Takes RS as BEGIN left it and makes the input ready for it, and gives its bytes; nothing where they
-    /// are several. The input's names and bytes stay as they are.
-    pub(crate) fn make_ready(&mut self, input: &mut Input) -> Result<Option<Vec<u8>>, AllocError>
+    /// are several. The input's names and bytes stay as they are. An error where memory is refused.
+    ///
+    /// POSIX.1-2017, awk, "Variables and Special Variables" (`RS`).
+    pub fn make_ready(&mut self, input: &mut Input) -> Result<Option<Vec<u8>>, AllocError>
         ensures taken { IfOk result (λ _. spec.take_separator
             (separator_of (end_of self.old)) (end_of self.old) ≡ end_of self.new) }
         ensures ready { IfOk result (λ found. MatchOption found
@@ -44,8 +49,10 @@ impl<'a> Prologue<'a> {
     }
 }
 
-/// Runs BEGIN, with these assignments made before.
-pub(crate) fn begin<'a>(
+/// Runs BEGIN, with these assignments made before. An error where memory is refused.
+///
+/// POSIX.1-2017, awk, "Overall Program Structure".
+pub fn begin<'a>(
     alloc: Global,
     job: Job<'_>,
     assignments: &[Assignment],
@@ -63,7 +70,7 @@ pub(crate) fn begin<'a>(
 }
 
 /// Whether records are read after BEGIN that was left so.
-pub(crate) fn has_records(job: Job<'_>, prologue: &Prologue<'_>) -> bool
+pub fn has_records(job: Job<'_>, prologue: &Prologue<'_>) -> bool
     ensures { IsTrue result ↔ HasRecords (code_view job.entry.code.now) (end_of prologue.now) }
 {
     match prologue.left {
@@ -75,12 +82,11 @@ pub(crate) fn has_records(job: Job<'_>, prologue: &Prologue<'_>) -> bool
     }
 }
 
-/// Goes on after BEGIN on this thread.
-pub(crate) fn go_on(
-    job: Job<'_>,
-    prologue: Prologue<'_>,
-    input: &mut Input,
-) -> Result<Outcome, AllocError>
+/// Goes on after BEGIN on this thread, with all records and END, or with END where no record is read. The
+/// input's names and bytes stay as they are. An error where memory is refused.
+///
+/// POSIX.1-2017, awk, "Overall Program Structure".
+pub fn go_on(job: Job<'_>, prologue: Prologue<'_>, input: &mut Input) -> Result<Outcome, AllocError>
     ensures outcome { IfOk result (Answers (spec.after_begin calls
         (code_view job.entry.code.now).expressions (code_view job.entry.code.now)
         job.entry.budget (files_of input.old) (left_view prologue.entry.left)
