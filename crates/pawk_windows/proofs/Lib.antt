@@ -7,3 +7,5 @@ pub mod StreamLemmas
 pub mod CutLemmas
 pub mod NumberLemmas
 pub mod WayLemmas
+pub mod FlowLemmas
+pub mod RedoneLemmas

@@ -6,3 +6,5 @@ pub mod Streams
 pub mod Cuts
 pub mod Numbers
 pub mod Ways
+pub mod Flows
+pub mod Redone

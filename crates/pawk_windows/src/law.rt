@@ -4,16 +4,20 @@ ghost use Rattle.pawk_merge.specs.Extents.{FarLaw};
 ghost use Rattle.pawk_windows.specs.Cuts.{CutLaw};
 ghost use Rattle.pawk_windows.specs.Extents.{FirstLaw};
 ghost use Rattle.pawk_windows.specs.Files.{FilesLaw};
+ghost use Rattle.pawk_windows.specs.Flows.{FilesFollowLaw, FnrLaw, NumbersLaw};
+ghost use Rattle.pawk_windows.specs.Flows.{PieceFollowsLaw, RestOutputLaw};
 ghost use Rattle.pawk_windows.specs.Numbers.{AfterLaw, WindowItemsLaw};
 ghost use Rattle.pawk_windows.specs.Pieces.{NoSkipLaw, PiecesLaw};
 ghost use Rattle.pawk_windows.specs.Streams.{StreamedLaw};
+ghost use Rattle.pawk_windows.specs.Redone.{FaultNumbersLaw, FaultOutputLaw};
+ghost use Rattle.pawk_windows.specs.Redone.{FilesFaultLaw, PieceFaultsLaw};
 ghost use Rattle.pawk_windows.specs.Ways.{WaysLaw};
 ghost use Rattle.pawk_windows.specs.Windows.{MayRunOnLaw, OneMoreLaw, PartingLaw, StepLaw};
 ghost use Rattle.pawk_windows.specs.Windows.{WindowsLaw};
 
 use pawk_commute::law::{commutes, starts_again, trace_changes_nothing, trace_is_appended};
 use pawk_merge_law::law::{Store, chunks_merge};
-use pawk_semantics::law::{Policy, output_is_appended};
+use pawk_semantics::law::{Policy, output_is_appended, records_follow};
 
 /// The globals of a run.
 struct PlainStore;
@@ -129,3 +133,41 @@ pub fn paragraphs_part()
 pub fn files_alike<P: Policy>()
     ensures { (i : P.Setting) → FilesLaw (P.calls i) }
 {}
+
+/// A record's number among all is counted by the run, and the number of its file says only which records
+/// `nextfile` leaves unread; after records that were left through `FNR` is the number of the last. Of any
+/// program and over any world.
+///
+/// POSIX.1-2017, awk, "Variables and Special Variables" (`NR`, `FNR`).
+pub fn numbers_alike<P: Policy>()
+    ensures numbers { (i : P.Setting) → NumbersLaw (P.calls i) }
+    ensures fnr { (i : P.Setting) → FnrLaw (P.calls i) }
+{}
+
+/// The records of files in order are the rest of the run file by file; the records of a file in two pieces
+/// are the first, and the second where the first neither ends the run nor leaves the file; and what was
+/// written before stays in front. Of any program and over any world.
+///
+/// POSIX.1-2017, awk, "Overall Program Structure".
+pub fn files_follow<P: Policy>()
+    ensures files { (i : P.Setting) → FilesFollowLaw (P.calls i) }
+    ensures pieces { (i : P.Setting) → PieceFollowsLaw (P.calls i) }
+    ensures output { (i : P.Setting) → RestOutputLaw (P.calls i) }
+{
+    output_is_appended::<P>();
+}
+
+/// The records of files end in a fault, or create an element of an array that is no reader array, exactly
+/// where they do file by file, and those of a file exactly where one of its pieces does.
+pub fn faults_follow()
+    ensures numbers { FaultNumbersLaw }
+    ensures output { FaultOutputLaw }
+    ensures files { FilesFaultLaw }
+    ensures pieces { PieceFaultsLaw }
+{
+    records_follow::<Store>();
+    output_is_appended::<PlainStore>();
+    output_is_appended::<Store>();
+    trace_changes_nothing();
+    trace_is_appended();
+}

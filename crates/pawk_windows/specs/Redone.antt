@@ -1,0 +1,61 @@
+-- Whether the rest of a run faults or creates an element, file by file and piece by piece.
+use Rattle.std.specs.Prelude.{◌≡◌, ◌⊎◌, ◌↔◌, ℕ, ◌+◌, List, [], ◌∷◌, ◌++◌, length}
+use Rattle.pawk_records.specs.Records.{records_by}
+use Rattle.pawk_input.specs.Input.{File, file_items, items}
+use Rattle.pawk_store.specs.Globals.{Globals}
+use Rattle.pawk_semantics.specs.Records.{through, End}
+use Rattle.pawk_semantics.specs.Allows.{AllowsMain}
+use Rattle.pawk_semantics.specs.Outputs.{with_output_before}
+use Rattle.pawk_commute.specs.Settings.{PermitsFor}
+use Rattle.pawk_merge_law.specs.Phases.{Phase, opening, in_order, FaultsOrCreates}
+use Rattle.pawk_windows.specs.Windows.{phase_at}
+
+-- from this end on, records of a file, fnr of which came before them, end in a fault or create an element of an array that is no
+-- reader array; or what follows them does, where they were left through
+abbrev pub PieceFaultsOr : (End Globals → Type 0) → Phase → End Globals → List ℕ → ℕ → List (List ℕ) → Type 0
+PieceFaultsOr More p e name fnr records =
+    let is = file_items 0 name 0 fnr records in
+    FaultsOrCreates (phase_at p e) is
+    ⊎ (((in_order (phase_at p e) is).left ≡ through) × More (in_order (phase_at p e) is))
+
+-- the records of files do, each file's from where those of the file before it ended
+abbrev pub FilesFaultOrCreate : Phase → List ℕ → End Globals → List File → Type 0
+FilesFaultOrCreate p rs e [] = ⊥
+FilesFaultOrCreate p rs e (f ∷ fs) = PieceFaultsOr (λ x. FilesFaultOrCreate p rs x fs) p e f.name 0 (records_by rs f.bytes)
+
+-- the same from inside a file, of which these records are left
+abbrev pub FileFaultsOrCreates : Phase → List ℕ → End Globals → List ℕ → ℕ → List (List ℕ) → List File → Type 0
+FileFaultsOrCreates p rs e name fnr records fs = PieceFaultsOr (λ x. FilesFaultOrCreate p rs x fs) p e name fnr records
+
+-- the program does only what one that runs in chunks may do
+abbrev pub IsAllowed : Phase → Type 0
+IsAllowed p = AllowsMain (PermitsFor p.code p.roles) p.code.functions p.code.rules
+
+-- the numbers that records have among all, and those of their files, do not matter
+abbrev pub FaultNumbersLaw : Type 0
+FaultNumbersLaw =
+    (p : Phase) (file : ℕ) (name : List ℕ) (nr fnr : ℕ) (records : List (List ℕ)) →
+    FaultsOrCreates p (file_items file name nr fnr records) ↔ FaultsOrCreates p (file_items 0 name 0 fnr records)
+
+-- what was written before does not matter
+abbrev pub FaultOutputLaw : Type 0
+FaultOutputLaw =
+    (p : Phase) (rs : List ℕ) (e : End Globals) (out : List ℕ) (fs : List File) →
+    (FilesFaultOrCreate p rs (with_output_before out e) fs ↔ FilesFaultOrCreate p rs e fs)
+    × ((name : List ℕ) (fnr : ℕ) (records : List (List ℕ)) →
+    FileFaultsOrCreates p rs (with_output_before out e) name fnr records fs
+    ↔ FileFaultsOrCreates p rs e name fnr records fs)
+
+-- the records of files in order do, exactly where they do file by file
+abbrev pub FilesFaultLaw : Type 0
+FilesFaultLaw =
+    (p : Phase) (rs : List ℕ) (files : List File) → IsAllowed p →
+    FaultsOrCreates p (items rs files) ↔ FilesFaultOrCreate p rs (opening p) files
+
+-- the records of a file in two pieces do, exactly where the first does, or was left through and the second does
+abbrev pub PieceFaultsLaw : Type 0
+PieceFaultsLaw =
+    (p : Phase) (rs : List ℕ) (e : End Globals) (name : List ℕ) (fnr : ℕ) (records more : List (List ℕ)) (fs : List File) →
+    IsAllowed p →
+    FileFaultsOrCreates p rs e name fnr (records ++ more) fs
+    ↔ PieceFaultsOr (λ x. FileFaultsOrCreates p rs x name (fnr + length records) more fs) p e name fnr records
