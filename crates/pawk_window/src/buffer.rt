@@ -10,27 +10,31 @@ use std::alloc::AllocError;
 /// How many bytes a buffer has at first.
 const FIRST: usize = 65_536;
 
-/// How many bytes a buffer is to have before the next read, where it has `length` of which `filled` came of a source, the
-/// last `tail` of these belong to a record that goes on, and a window has `size`. It doubles where it was filled, until it
-/// has the window's size; a longer one it has only while that record is longer.
-pub(crate) fn next_length(length: usize, filled: usize, tail: usize, size: usize) -> usize
+/// How many bytes a buffer is to have before the next read, where `wanted` were thought enough after the last one, the last
+/// `tail` of those that came belong to a record that goes on, and a window has `size`. It has at most the window's size; a longer
+/// one it has only while that record is longer, and then at most twice the record's bytes.
+pub(crate) fn next_length(wanted: usize, tail: usize, size: usize) -> usize
     requires some { 0 < size }
-    requires order { tail ≤ filled }
-    requires within { filled ≤ length }
-    requires small { length < 2 ^ 63 }
+    requires small { tail < 2 ^ 63 }
     ensures room { tail < result }
     ensures bound { result ≤ max size (2 * tail) }
 {
-    if tail >= size {
-        if tail == length {
-            tail * 2
-        } else {
-            length.min(tail * 2)
-        }
-    } else if filled < length {
-        length.min(size)
+    if tail < size {
+        wanted.max(FIRST).min(size).max(tail + 1)
+    } else if wanted <= tail {
+        tail * 2
     } else {
-        size.min(FIRST.max(length * 2))
+        wanted.min(tail * 2)
+    }
+}
+
+/// How many bytes a buffer of `length` is to have, now that a read has filled its first `filled`: twice as many where it was
+/// filled to its end.
+pub(crate) fn wanted_length(length: usize, filled: usize) -> usize {
+    if filled < length {
+        length
+    } else {
+        length.saturating_mul(2)
     }
 }
 

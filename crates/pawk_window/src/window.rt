@@ -8,7 +8,9 @@ ghost use Rattle.pawk_device.specs.Device.{CountsFailure};
 ghost use Rattle.pawk_window.specs.Windows.{ComesNext, HasCome, HasEnded, HoldsRecords, empty_window, forgotten};
 ghost use Rattle.pawk_window.specs.declared.window.FillError.TheVariants as at;
 
-use crate::buffer::{copy_to_front, move_to_front, next_length, read_after, set_length};
+use crate::buffer::{
+    copy_to_front, move_to_front, next_length, read_after, set_length, wanted_length,
+};
 use crate::cut::whole_length;
 use pawk_device::{Failed, Source};
 use pawk_records::Separator;
@@ -53,6 +55,8 @@ impl From<Failed> for FillError {
 pub struct Window {
     separator: Separator,
     size: usize,
+    /// How many bytes the buffer is to have before the next read, by what came in the last one.
+    wanted: usize,
     buffer: Vec<u8>,
     filled: usize,
     whole: usize,
@@ -96,6 +100,7 @@ impl Window {
         Window {
             separator,
             size,
+            wanted: 0,
             buffer: Vec::new(alloc),
             filled: 0,
             whole: 0,
@@ -137,7 +142,7 @@ impl Window {
         Ok(buffer)
     }
 
-    /// Forgets all bytes, so that another source can be read. The buffer stays.
+    /// Forgets all bytes, so that another source can be read. The buffer stays, and how long it is to be.
     pub fn clear(&mut self)
         ensures { self.new ≡ empty_window self.old.rs self.old.size self.old.room }
     {
@@ -156,7 +161,7 @@ impl Window {
         ensures err { OnErr result (self.new ≡ forgotten self.old self.old.room) }
     {
         let tail = self.filled - self.whole;
-        let room = next_length(self.buffer.len(), self.filled, tail, self.size);
+        let room = next_length(self.wanted, tail, self.size);
         self.filled = move_to_front(&mut self.buffer, self.whole, self.filled);
         self.whole = 0;
         set_length(&mut self.buffer, room)
@@ -180,6 +185,7 @@ impl Window {
         let known = self.filled;
         let count = read_after(source, &mut self.buffer, known)?;
         self.filled = known + count;
+        self.wanted = wanted_length(self.buffer.len(), self.filled);
         self.whole = whole_after(&self.buffer[..self.filled], known, self.separator);
         self.is_ended = count == 0;
         Ok(())
