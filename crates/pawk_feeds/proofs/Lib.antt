@@ -1,0 +1,4 @@
+pub mod StreamLemmas
+pub mod FilesLemmas
+pub mod RunLemmas
+pub mod RouteLemmas

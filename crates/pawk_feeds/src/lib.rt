@@ -1,0 +1,15 @@
+//! Runs whose input flows: from a list of feeds to a sink, of every program, the records in threads where it allows it.
+#![tactic(auto)]
+
+mod feed;
+mod flowed;
+mod law;
+mod order;
+mod run;
+mod stream;
+mod write;
+
+pub use feed::Feed;
+pub use flowed::Flowed;
+pub use order::Order;
+pub use run::run_feeds;

@@ -1,0 +1,5 @@
+pub mod MergedLemmas
+pub mod PieceLemmas
+pub mod FarLemmas
+pub mod BeginLemmas
+pub mod FinishLemmas

@@ -1,0 +1,4 @@
+pub mod Pieces
+pub mod Begins
+pub mod Merged
+pub mod Stages

@@ -1,0 +1,20 @@
+//! A run piece by piece: BEGIN, pieces of the files in threads where the program allows it, END.
+#![tactic(auto)]
+
+mod begin;
+mod finish;
+mod flow;
+mod law;
+mod piece;
+mod plan;
+mod refusal;
+mod stage;
+mod window;
+
+pub use begin::{Begun, Start, begin_flow};
+pub use finish::finish_flow;
+pub use flow::Flow;
+pub use law::results_merge_far;
+pub use piece::{Piece, PieceEnd};
+pub use refusal::PieceRefusal;
+pub use window::{run_piece_in_chunks, run_piece_in_turn};
