@@ -1,6 +1,6 @@
 //! What records of programs do with their globals, by name, and budgets and assignments that settings refuse.
 
-use crate::fixtures::code_of;
+use crate::fixtures::{code_of, copies};
 use pawk_admit::{Role, admit};
 use pawk_settings::{Settings, SettingsRefusal};
 use pawk_syntax::parse;
@@ -186,21 +186,6 @@ const SETTINGS: [Row; 10] = [
     (1_000_000_000_001, &[(b"x", b"1")], 4),
     (18_446_744_073_709_551_615, &[], 4),
 ];
-
-/// Names and values of their own.
-fn copies(
-    alloc: Global,
-    assigned: &[(&[u8], &[u8])],
-) -> Result<Vec<(Vec<u8>, Vec<u8>)>, AllocError> {
-    let mut copies = Vec::new(alloc);
-    for (name, value) in assigned {
-        copies.push((
-            Vec::from_slice(alloc, *name)?,
-            Vec::from_slice(alloc, *value)?,
-        ))?;
-    }
-    Ok(copies)
-}
 
 /// The budget of settings, or the number for which they are refused.
 fn number_of(answer: Result<Settings, SettingsRefusal>) -> u64 {

@@ -19,7 +19,14 @@ fn is_cut<R: AllocGlobal + Threads + Wait>(
         cutting: &cutting,
         workers: 2,
     };
-    let shown = runs(rt, SUM, b"1\n2\n3\n", way, gate, chunks_show(b"6\n"))?;
+    let shown = runs(
+        rt,
+        SUM,
+        &[(b"", b"1\n2\n3\n")],
+        way,
+        gate,
+        chunks_show(b"6\n"),
+    )?;
     let (_, _, entered, _) = seen_by(gate);
     Ok(shown.map(|is_shown| is_shown && entered == chunks))
 }

@@ -10,7 +10,7 @@ use pawk_par::{Cutting, Ending, Gate, Job, Outcome, Place, Refusal, Route, Seed,
 use pawk_resolve_program::program::resolve;
 use pawk_syntax::parse;
 use pawk_value::Fault;
-use std::alloc::Global;
+use std::alloc::{AllocError, Global};
 use std::sync::Wait;
 use std::test::Fail;
 use std::thread::Threads;
@@ -18,11 +18,29 @@ use std::thread::Threads;
 /// The program that adds up the first field.
 pub(crate) const SUM: &[u8] = b"{ n += $1 } END { print n }";
 
+/// Names and their values, or files' names and bytes, of their own.
+pub(crate) fn copies(
+    alloc: Global,
+    pairs: &[(&[u8], &[u8])],
+) -> Result<Vec<(Vec<u8>, Vec<u8>)>, AllocError> {
+    let mut copies = Vec::new(alloc);
+    for (name, value) in pairs {
+        copies.push((
+            Vec::from_slice(alloc, *name)?,
+            Vec::from_slice(alloc, *value)?,
+        ))?;
+    }
+    Ok(copies)
+}
+
+/// An input of these files, a name and bytes each.
+fn input_of(alloc: Global, files: &[(&[u8], &[u8])]) -> Result<Input, Fail> {
+    Ok(Input::new(copies(alloc, files)?).map_err(|_| "too large")?)
+}
+
 /// An input of one file without a name.
 pub(crate) fn one_file(alloc: Global, bytes: &[u8]) -> Result<Input, Fail> {
-    let mut files = Vec::new(alloc);
-    files.push((Vec::new(alloc), Vec::from_slice(alloc, bytes)?))?;
-    Ok(Input::new(files).map_err(|_| "too large")?)
+    input_of(alloc, &[(b"", bytes)])
 }
 
 /// The code of a program's text.
@@ -43,20 +61,21 @@ fn are_text(parts: &[Vec<u8>], text: &[u8]) -> bool {
     rest.is_empty()
 }
 
-/// Whether a run ended with status 0, or with this fault at the record of this number.
-fn is_ending(ending: Ending, fault: Option<(Fault, u64)>) -> bool {
-    match (ending, fault) {
-        (Ending::Status(status), None) => status == 0,
-        (Ending::Fault(fault, Place::Record(number)), Some(wanted)) => (fault, number) == wanted,
+/// Whether a run ended with this status, or with this fault at the record of this number.
+pub(crate) fn is_ending(ending: Ending, wanted: Result<u8, (Fault, u64)>) -> bool {
+    match (ending, wanted) {
+        (Ending::Status(status), Ok(wanted)) => status == wanted,
+        (Ending::Fault(fault, Place::Record(number)), Err(wanted)) => (fault, number) == wanted,
         _ => false,
     }
 }
 
-/// What a run shows: its output, the fault in which it ends and the record of this number, if it does, and the way it went.
+/// What a run shows: its output, the status with which it ends, or else the fault and the number of its record, and the way it
+/// went.
 #[derive(Clone, Copy)]
 pub(crate) struct RunOutcome<'t> {
     pub(crate) output: &'t [u8],
-    pub(crate) fault: Option<(Fault, u64)>,
+    pub(crate) ending: Result<u8, (Fault, u64)>,
     pub(crate) route: Route,
 }
 
@@ -64,7 +83,7 @@ pub(crate) struct RunOutcome<'t> {
 pub(crate) fn chunks_show(output: &[u8]) -> RunOutcome<'_> {
     RunOutcome {
         output,
-        fault: None,
+        ending: Ok(0),
         route: Route::Parallel,
     }
 }
@@ -72,16 +91,16 @@ pub(crate) fn chunks_show(output: &[u8]) -> RunOutcome<'_> {
 /// Whether a run that went this way showed this.
 fn is_shown(outcome: &Outcome, route: Route, shown: RunOutcome<'_>) -> bool {
     are_text(outcome.output.parts(), shown.output)
-        && is_ending(outcome.ending, shown.fault)
+        && is_ending(outcome.ending, shown.ending)
         && route == shown.route
 }
 
-/// Whether a program's text shows this over these bytes, with 1,000 steps for each record: not where the cutting is refused.
+/// Whether a program's text shows this over these files, with 1,000 steps for each record: not where the cutting is refused.
 /// None where the run is refused for another reason.
 pub(crate) fn runs<R, G>(
     rt: &R,
     text: &[u8],
-    bytes: &[u8],
+    files: &[(&[u8], &[u8])],
     way: Way<'_>,
     gate: &G,
     shown: RunOutcome<'_>,
@@ -93,7 +112,7 @@ where
     requires workers { IsCrew way.workers }
 {
     let alloc = rt.alloc();
-    let mut input = one_file(alloc, bytes)?;
+    let mut input = input_of(alloc, files)?;
     let code = code_of(alloc, text)?;
     let job = Job {
         code: &code,
@@ -105,6 +124,28 @@ where
         Err(Refusal::Cutting) => Some(false),
         Err(_) => None,
     })
+}
+
+/// Whether a program's text shows this over these files, cut into chunks of one byte or more.
+pub(crate) fn shows_over<R, G>(
+    rt: &R,
+    text: &[u8],
+    files: &[(&[u8], &[u8])],
+    workers: usize,
+    gate: &G,
+    shown: RunOutcome<'_>,
+) -> Result<bool, Fail>
+where
+    R: AllocGlobal + Threads + Wait,
+    G: Gate + Sync,
+    requires { IsCrew workers }
+{
+    let cutting = Cutting::Size(1);
+    let way = Way {
+        cutting: &cutting,
+        workers,
+    };
+    Ok(runs(rt, text, files, way, gate, shown)? == Some(true))
 }
 
 /// Whether a program's text shows this over these bytes, cut into chunks of one byte or more.
@@ -121,10 +162,5 @@ where
     G: Gate + Sync,
     requires { IsCrew workers }
 {
-    let cutting = Cutting::Size(1);
-    let way = Way {
-        cutting: &cutting,
-        workers,
-    };
-    Ok(runs(rt, text, bytes, way, gate, shown)? == Some(true))
+    shows_over(rt, text, &[(b"", bytes)], workers, gate, shown)
 }

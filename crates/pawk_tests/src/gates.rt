@@ -186,7 +186,7 @@ const FAULTY: &[u8] = b"1\n2\n12.5\n4\n";
 /// What the sum of them shows.
 const FAULT_AT_THREE: RunOutcome<'static> = RunOutcome {
     output: b"",
-    fault: Some((Fault::Numeral, 3)),
+    ending: Err((Fault::Numeral, 3)),
     route: Route::Redo,
 };
 

@@ -1,4 +1,5 @@
-//! Tests of the program's crates that have to be written in Rattle: boards, gates, devices that fail, cuts by hand, roles of globals.
+//! Tests of the program's crates that have to be written in Rattle: boards, gates, devices that fail, runs from feeds, cuts by
+//! hand, roles of globals.
 //!
 //! What a run of the program shows is in `tests/rows` and `tests/programs` at the top of the repository.
 //!
@@ -17,11 +18,15 @@ mod cuts;
 #[cfg(test)]
 mod devices;
 #[cfg(test)]
+mod feeds;
+#[cfg(test)]
 mod fixtures;
 #[cfg(test)]
 mod gates;
 #[cfg(test)]
 mod matchers;
+#[cfg(test)]
+mod taps;
 
 fn main(rt: HostRuntime) -> io::Result<()> {
     println!(rt; "rt test, in this folder, runs the tests")
