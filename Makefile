@@ -56,13 +56,13 @@ demo:
 	@printf '1\n2\n3\n' | build/pawk -j 2 -c 1 '{ n += $$1 } END { print n }'
 
 test: program
-	@tests/run rows programs tables devices threads cookbook completions memory
+	@tests/run rows programs tables devices flows threads cookbook completions memory
 
 prove: toolchain
 	@release/gate always
 	@$(MAKE) fetch
 	@$(MAKE) test
-	@tests/run crates flood
+	@tests/run pieces crates flood
 	@tests/release
 	@release/compare
 

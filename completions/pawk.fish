@@ -5,6 +5,8 @@ complete -c pawk -s v -x -a 'FS= OFS= ORS= RS= SUBSEP=' -d 'A variable assigned 
 complete -c pawk -s f -r -F -d 'A file that has the program'
 complete -c pawk -s j -x -a '1 2 4 8 16 32 64' -d 'The number of workers, 1 to 64'
 complete -c pawk -s c -x -a '65536 1048576 16777216 1073741824' -d 'The size of a chunk in bytes'
+complete -c pawk -s w -x -a '65536 1048576 16777216 1073741824' -d 'The size of the window in bytes'
+complete -c pawk -l whole -d 'Read all input first, write the output last'
 complete -c pawk -s s -x -a '10000000 1000000000 1000000000000' -d 'The steps that BEGIN, each record and END have'
 complete -c pawk -l why -d 'Write which way the run went'
 complete -c pawk -l explain -f -a 'always never auto' -d 'Explain faults and refusals'

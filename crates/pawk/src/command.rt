@@ -13,24 +13,22 @@ use pawk_explain::Script;
 use std::alloc::{AllocError, Global};
 use std::io;
 use std::io::{IsTerminal, Read, Write};
-use std::os::unix::fs::FileExt;
 use std::rt::{Clock, Files};
 use std::sync::Wait;
 use std::thread::Threads;
 
 /// Does what was asked for with this program.
 fn run_script<'a, R, I, O>(
-    rt: &R,
-    line: &CommandLine<'a>,
+    rt: &'a R,
+    line: &'a CommandLine<'a>,
     script: &Script<'_>,
     explains: bool,
-    input: &mut I,
+    input: I,
     output: &mut Outlet<O>,
 ) -> Result<End, RunFailure<'a>>
 where
-    R: Files + AllocGlobal + Threads + Wait + Clock,
-    R::File: FileExt + Sync,
-    I: Read,
+    R: Files + AllocGlobal + Threads + Wait + Clock + Copy + Send + Drop + 'static,
+    I: Read + Copy + Send + Drop + 'static,
     O: Write,
 {
     let end = run_whole(rt, line, script.text(), explains, input, output)?;
@@ -76,14 +74,13 @@ fn do_script<R, I, O, E>(
     rt: &R,
     line: &CommandLine<'_>,
     script: &Script<'_>,
-    input: &mut I,
+    input: I,
     output: &mut Outlet<O>,
     errors: &mut E,
 ) -> io::Result<u8>
 where
-    R: Files + AllocGlobal + Threads + Wait + Clock,
-    R::File: FileExt + Sync,
-    I: Read,
+    R: Files + AllocGlobal + Threads + Wait + Clock + Copy + Send + Drop + 'static,
+    I: Read + Copy + Send + Drop + 'static,
     O: Write,
     E: Write + IsTerminal,
 {
@@ -98,18 +95,18 @@ where
 fn do_line<R, I, O, E>(
     rt: &R,
     line: &CommandLine<'_>,
-    input: &mut I,
+    input: I,
     output: &mut Outlet<O>,
     errors: &mut E,
 ) -> io::Result<u8>
 where
-    R: Files + AllocGlobal + Threads + Wait + Clock,
-    R::File: FileExt + Sync,
-    I: Read,
+    R: Files + AllocGlobal + Threads + Wait + Clock + Copy + Send + Drop + 'static,
+    I: Read + Copy + Send + Drop + 'static,
     O: Write,
     E: Write + IsTerminal,
 {
-    match read_script(rt, &line.program, input) {
+    let mut input = input;
+    match read_script(rt, &line.program, &mut input) {
         Ok(script) => do_script(rt, line, &script, input, output, errors),
         Err(stop) => {
             let none = Script::new(rt.alloc());
@@ -123,14 +120,13 @@ fn do_words<R, I, O, E>(
     rt: &R,
     words: &[String],
     host: Host,
-    input: &mut I,
+    input: I,
     output: &mut Outlet<O>,
     errors: &mut E,
 ) -> io::Result<u8>
 where
-    R: Files + AllocGlobal + Threads + Wait + Clock,
-    R::File: FileExt + Sync,
-    I: Read,
+    R: Files + AllocGlobal + Threads + Wait + Clock + Copy + Send + Drop + 'static,
+    I: Read + Copy + Send + Drop + 'static,
     O: Write,
     E: Write + IsTerminal,
 {
@@ -151,19 +147,18 @@ pub(crate) fn command<R, I, O, E>(
     rt: &R,
     words: &[String],
     host: Host,
-    mut input: I,
+    input: I,
     output: O,
     mut errors: E,
 ) -> u8
 where
-    R: Files + AllocGlobal + Threads + Wait + Clock,
-    R::File: FileExt + Sync,
-    I: Read + Drop,
+    R: Files + AllocGlobal + Threads + Wait + Clock + Copy + Send + Drop + 'static,
+    I: Read + Copy + Send + Drop + 'static,
     O: Write + Drop,
     E: Write + IsTerminal + Drop,
 {
     let mut output = Outlet::new(output);
-    match do_words(rt, words, host, &mut input, &mut output, &mut errors) {
+    match do_words(rt, words, host, input, &mut output, &mut errors) {
         Ok(status) => status,
         Err(_) => {
             let _ = errors.write_all(b"pawk: cannot write\n");

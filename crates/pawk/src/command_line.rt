@@ -9,7 +9,7 @@ use std::alloc::{AllocError, Global};
 use std::io::IsTerminal;
 
 /// The version that `--version` prints.
-const VERSION: &str = "1.0.1";
+const VERSION: &str = "1.1.0";
 
 /// What the program is, for `--help`.
 const ABOUT: &str = "awk in whole numbers, run over chunks of its input";
@@ -19,6 +19,9 @@ const WORKERS: u8 = 4;
 
 /// The size of a chunk in bytes where `-c` does not say.
 const CHUNK: u64 = 1_048_576;
+
+/// How many bytes of a file are run at once at most where `-w` does not say.
+const WINDOW: u64 = 16_777_216;
 
 /// How many steps BEGIN, each record and END may take where `-s` does not say.
 const STEPS: u64 = 10_000_000;
@@ -87,11 +90,16 @@ pub(crate) struct CommandLine<'a> {
     pub(crate) workers: u8,
     /// The size of a chunk in bytes.
     pub(crate) chunk: u64,
+    /// How many bytes of a file are run at once at most.
+    pub(crate) window: usize,
+    /// Up to how many bytes the input is read whole before it is run, and the output is held.
+    pub(crate) held: usize,
     pub(crate) host: Host,
     pub(crate) tools: Tools,
     ghost some: { 1 ≤ workers },
     ghost few: { workers ≤ 64 },
     ghost sized: { 0 < chunk },
+    ghost wide: { 0 < window },
 }
 
 fn workers<'a>(alloc: Global) -> Arg<'a> {
@@ -110,6 +118,17 @@ fn chunk<'a>(alloc: Global) -> Arg<'a> {
         .help("The size of a chunk in bytes, 1 to 1073741824")
         .value_parser(value_parser!(u64).range(1..=1_073_741_824))
         .default_value("1048576")
+}
+
+fn window<'a>(alloc: Global) -> Arg<'a> {
+    Arg::new(alloc, "window")
+        .short('w')
+        .value_name("bytes")
+        .help(
+            "The size in bytes of the window in which files are run piece by piece, 1 to 1073741824",
+        )
+        .value_parser(value_parser!(u64).range(1..=1_073_741_824))
+        .default_value("16777216")
 }
 
 fn steps<'a>(alloc: Global) -> Arg<'a> {
@@ -221,6 +240,12 @@ fn definition<'a>(alloc: Global) -> Result<Command<'a>, AllocError> {
         .arg(program_files(alloc))?
         .arg(workers(alloc))?
         .arg(chunk(alloc))?
+        .arg(window(alloc))?
+        .arg(flag(
+            alloc,
+            "whole",
+            "Read all of the input before it is run, and write no output before the run has ended",
+        ))?
         .arg(steps(alloc))?;
     with_tools(alloc, command)?
         .arg(program(alloc))?
@@ -262,7 +287,9 @@ fn file_names<'a>(
 
 /// Whether the values of all options that are numbers are written in digits alone.
 fn are_plain(matches: &ArgMatches<'_>) -> bool {
-    is_plain(matches, "workers") && is_plain(matches, "chunk") && is_plain(matches, "steps")
+    ["workers", "chunk", "window", "steps"]
+        .iter()
+        .all(|id| is_plain(matches, *id))
 }
 
 /// What is reported of words at fault, or that memory was refused.
@@ -303,6 +330,7 @@ fn line_of<'a>(
 ) -> Result<CommandLine<'a>, AllocError> {
     let files = file_names(alloc, matches, &program)?;
     let assignments = Vec::from_slice(alloc, matches.get_strs("assignment").unwrap_or(&[]))?;
+    let window = matches.get_one::<u64>("window").unwrap_or(WINDOW).max(1) as usize;
     Ok(CommandLine {
         program,
         assignments,
@@ -314,6 +342,12 @@ fn line_of<'a>(
             .unwrap_or(WORKERS)
             .clamp(1, 64),
         chunk: matches.get_one::<u64>("chunk").unwrap_or(CHUNK).max(1),
+        window,
+        held: if matches.get_flag("whole") {
+            usize::MAX
+        } else {
+            window
+        },
         host,
         tools: read_tools(matches),
     })

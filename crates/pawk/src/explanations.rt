@@ -7,15 +7,14 @@ use pawk_explain::{
     Origin, RecordPlace, Script, explain_fault, explain_no_main, explain_parallel, explain_program,
     explain_reason, explain_redo, explain_setting,
 };
-use pawk_input::Input;
-use pawk_lex::lexer::Lexer;
-use pawk_lex::token::{Mark, TokenValue as Token};
+use pawk_feeds::LastPiece;
+use pawk_input::{Blocks, Input, TooLarge};
 use pawk_par::StreamRefusal;
 use pawk_settings::{Settings, SettingsRefusal};
-use pawk_store::{Content, Named, Specials};
+use pawk_store::Specials;
 use pawk_syntax::{Program, parse};
 use pawk_threads::{Ending, Place, Route};
-use pawk_value::{Value, push_text_lent};
+use pawk_value::{Fault, Value};
 use std::alloc::{AllocError, Global};
 
 /// The value of `-v`, or of `-F`, that is the assignment of this number, counted from 0.
@@ -103,100 +102,59 @@ pub(crate) fn explain_stop(
     }
 }
 
-/// Where the walk over a program's tokens is.
-#[derive(Clone, Copy)]
-struct ProgramWalk {
-    /// How many braces are open.
-    depth: usize,
-    /// Whether the item is an action of BEGIN.
-    is_begin: bool,
-}
-
-impl ProgramWalk {
-    /// Where it is after a token.
-    fn after(self, token: &Token) -> ProgramWalk {
-        match token {
-            Token::Mark(Mark::Begin) => ProgramWalk {
-                depth: self.depth,
-                is_begin: true,
-            },
-            Token::Mark(Mark::LeftBrace) => ProgramWalk {
-                depth: self.depth.saturating_add(1),
-                is_begin: self.is_begin,
-            },
-            Token::Mark(Mark::RightBrace) => ProgramWalk {
-                depth: self.depth.saturating_sub(1),
-                is_begin: self.is_begin && self.depth > 1,
-            },
-            _ => self,
-        }
-    }
-}
-
-/// Whether a token is the name RS.
-fn is_separator(token: &Token) -> bool {
-    match token {
-        Token::Name(name) => name.as_slice() == b"RS".as_slice(),
-        _ => false,
-    }
-}
-
-/// Whether a program names RS elsewhere than in BEGIN. Where it does not, its records were read by the RS
-/// that it has at the end.
-fn names_separator_after_begin(alloc: Global, text: &[u8]) -> bool {
-    let mut lexer = Lexer::new(alloc, text);
-    let mut walk = ProgramWalk {
-        depth: 0,
-        is_begin: false,
-    };
-    for _ in 0..text.len() {
-        let Ok(Some(token)) = lexer.next() else {
-            return false;
-        };
-        if !walk.is_begin && is_separator(&token.value) {
-            return true;
-        }
-        walk = walk.after(&token.value);
-    }
-    false
-}
-
-/// The text of RS among the final variables.
-fn separator_among(alloc: Global, globals: &[Named<'_>]) -> Result<Vec<u8>, AllocError> {
-    let mut text = Vec::new(alloc);
-    for global in globals {
-        if let Content::Value(value) = &global.content
-            && global.name.as_slice() == b"RS".as_slice()
-        {
-            push_text_lent(*value, &mut text)?;
-        }
-    }
-    Ok(text)
-}
-
 /// What a run left that is needed to explain its end.
 #[derive(Clone, Copy)]
 pub(crate) struct Remains<'a> {
     pub(crate) ending: Ending,
     pub(crate) route: Route,
-    pub(crate) globals: &'a [Named<'a>],
     pub(crate) specials: &'a Specials,
 }
 
-/// The bytes of the record of this number, where it is known by which RS it was read.
+impl<'a> Remains<'a> {
+    /// Whether the run ended at a record, the last one that it read.
+    fn are_at_record(self) -> bool {
+        match self.ending {
+            Ending::Fault(_, Place::Record(number)) => u64::try_from(self.specials.nr)
+                == Ok(number),
+            _ => false,
+        }
+    }
+
+    /// The number of the last record in its file.
+    fn fnr(self) -> u64 {
+        u64::try_from(self.specials.fnr).unwrap_or(0)
+    }
+
+    /// The name of the last record's file; none for standard input.
+    fn file(self) -> &'a [u8] {
+        match &self.specials.filename {
+            Value::Maybe(name) => name.as_slice(),
+            _ => b"",
+        }
+    }
+}
+
+/// Bytes of a file as an input of their own.
+fn input_of(alloc: Global, bytes: Vec<u8>) -> Result<Input, AllocError> {
+    let mut files = Vec::new(alloc);
+    files.push((Vec::new(alloc), Blocks::whole(alloc, bytes)?))?;
+    match Input::from_blocks(files) {
+        Ok(input) => Ok(input),
+        Err(TooLarge) => Err(AllocError),
+    }
+}
+
+/// The bytes of the record of this number, where records end as `rs` says.
 fn record_bytes<'a>(
-    alloc: Global,
-    text: &[u8],
-    number: u64,
-    globals: &[Named<'_>],
     input: &'a mut Input,
+    rs: &[u8],
+    number: u64,
 ) -> Result<Option<&'a [u8]>, AllocError> {
-    let rs = separator_among(alloc, globals)?;
-    if rs.len() > 1 || names_separator_after_begin(alloc, text) {
+    if rs.len() > 1 {
         return Ok(None);
     }
-    input.mend(rs.as_slice())?;
-    for item in input.records(rs.as_slice()) {
+    input.mend(rs)?;
+    for item in input.records(rs) {
         if item.nr == number {
             return Ok(Some(item.bytes));
         }
@@ -204,29 +162,28 @@ fn record_bytes<'a>(
     Ok(None)
 }
 
-/// Where the record at which a run ended is, if it ended at one that was read.
-fn record_place<'a>(
-    alloc: Global,
-    text: &[u8],
-    place: Place,
-    remains: Remains<'a>,
-    input: &'a mut Input,
-) -> Result<Option<RecordPlace<'a>>, AllocError> {
-    let Place::Record(number) = place else {
-        return Ok(None);
-    };
-    if u64::try_from(remains.specials.nr) != Ok(number) {
-        return Ok(None);
+/// Where the record is that was read last, which has these bytes.
+fn place_of<'a>(remains: Remains<'a>, bytes: Option<&'a [u8]>) -> RecordPlace<'a> {
+    RecordPlace {
+        file: remains.file(),
+        fnr: remains.fnr(),
+        bytes,
     }
-    let file = match &remains.specials.filename {
-        Value::Maybe(name) => name.as_slice(),
-        _ => b"",
-    };
-    Ok(Some(RecordPlace {
-        file,
-        fnr: u64::try_from(remains.specials.fnr).unwrap_or(0),
-        bytes: record_bytes(alloc, text, number, remains.globals, input)?,
-    }))
+}
+
+/// Appends the explanation of a fault at the record that was read last.
+fn explain_record(
+    alloc: Global,
+    lines: &mut Vec<u8>,
+    fault: Fault,
+    remains: Remains<'_>,
+    last: LastPiece,
+) -> Result<(), AllocError> {
+    let LastPiece { rs, fnr, bytes } = last;
+    let number = remains.fnr().saturating_sub(fnr);
+    let mut input = input_of(alloc, bytes)?;
+    let bytes = record_bytes(&mut input, rs.as_slice(), number)?;
+    explain_fault(lines, fault, Some(place_of(remains, bytes)))
 }
 
 /// Appends the explanation of which way a run went.
@@ -239,23 +196,22 @@ fn explain_route(lines: &mut Vec<u8>, route: Route) -> Result<(), AllocError> {
     }
 }
 
-/// Appends the explanation of how a run of the program of this text ended, and where `why` says so of which way it went.
+/// Appends the explanation of how a run ended, and where `why` says so of which way it went.
 pub(crate) fn explain_end(
     alloc: Global,
     lines: &mut Vec<u8>,
-    text: &[u8],
     why: bool,
     remains: Remains<'_>,
-    input: &mut Input,
+    last: Option<LastPiece>,
 ) -> Result<(), AllocError> {
     if why {
         explain_route(lines, remains.route)?;
     }
-    match remains.ending {
-        Ending::Fault(fault, place) => {
-            let record = record_place(alloc, text, place, remains, input)?;
-            explain_fault(lines, fault, record)
+    match (remains.ending, last) {
+        (Ending::Fault(fault, _), Some(last)) if remains.are_at_record() => {
+            explain_record(alloc, lines, fault, remains, last)
         }
+        (Ending::Fault(fault, _), _) => explain_fault(lines, fault, None),
         _ => Ok(()),
     }
 }

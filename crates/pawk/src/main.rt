@@ -1,11 +1,14 @@
 //! `pawk`: awk in whole numbers, whose main rules run over chunks of the input.
 #![tactic(auto)]
 
+mod ahead;
 mod command;
 mod command_line;
 mod deep;
 mod explanations;
+mod feeds;
 mod files;
+mod held;
 mod host;
 mod listing;
 mod messages;
@@ -13,7 +16,6 @@ mod outlet;
 mod reports;
 mod script;
 mod statistics;
-mod stripes;
 mod whole;
 mod words;
 

@@ -1,9 +1,11 @@
 //! Figures of a run.
 
+ghost use Rattle.std.specs.Prelude.{None};
+
 use crate::reports::write_route;
 use pawk_threads::{Gate, Route};
 use std::io;
-use std::io::Write;
+use std::io::{Read, Write};
 use std::rt::Clock;
 use std::sync::atomic::AtomicUsize;
 use std::sync::atomic::Ordering::SeqCst;
@@ -60,7 +62,7 @@ impl Moment {
     }
 
     /// How long after an earlier moment this one is.
-    fn since(self, earlier: Moment) -> Duration {
+    pub(crate) fn since(self, earlier: Moment) -> Duration {
         match (self.0, earlier.0) {
             (Some(end), Some(start)) => end.duration_since(start),
             _ => Duration::ZERO,
@@ -68,13 +70,94 @@ impl Moment {
     }
 }
 
-/// The moments at which the phases of a run ended.
+/// A device that notes how many bytes come and go, and how long that takes.
+#[derive(Drop)]
+pub(crate) struct Timed<'c, C, D> {
+    clock: &'c C,
+    device: D,
+    traffic: Traffic,
+}
+
+/// What came and went through a device.
 #[derive(Clone, Copy)]
-pub(crate) struct Moments {
-    pub(crate) start: Moment,
-    pub(crate) read: Moment,
-    pub(crate) ran: Moment,
-    pub(crate) written: Moment,
+pub(crate) struct Traffic {
+    pub(crate) bytes: u64,
+    pub(crate) time: Duration,
+}
+
+impl Traffic {
+    /// Nothing yet.
+    pub(crate) const NONE: Traffic = Traffic {
+        bytes: 0,
+        time: Duration::ZERO,
+    };
+
+    /// This and other traffic together.
+    pub(crate) fn and(self, other: Traffic) -> Traffic {
+        Traffic {
+            bytes: self.bytes.saturating_add(other.bytes),
+            time: self.time.saturating_add(other.time),
+        }
+    }
+}
+
+impl<'c, C: Clock, D> Timed<'c, C, D> {
+    /// A device through which nothing has come.
+    pub(crate) fn new(clock: &'c C, device: D) -> Timed<'c, C, D> {
+        Timed {
+            clock,
+            device,
+            traffic: Traffic::NONE,
+        }
+    }
+
+    pub(crate) fn device(&self) -> &D {
+        &self.device
+    }
+
+    pub(crate) fn device_mut(&mut self) -> &mut D {
+        &mut self.device
+    }
+
+    pub(crate) fn traffic(&self) -> Traffic {
+        self.traffic
+    }
+
+    /// Notes a call that began at this moment, and how many bytes it moved.
+    fn note(&mut self, start: Moment, count: usize) {
+        let time = Moment::now(self.clock).since(start);
+        let bytes = count as u64;
+        self.traffic = self.traffic.and(Traffic { bytes, time });
+    }
+}
+
+impl<'c, C: Clock, D: Read> Read for Timed<'c, C, D> {
+    ghost remaining = { λ _. None };
+
+    fn read(&mut self, buffer: &mut [u8]) -> io::Result<usize> {
+        let start = Moment::now(self.clock);
+        let count = self.device.read(buffer)?;
+        self.note(start, count);
+        Ok(count)
+    }
+}
+
+impl<'c, C: Clock, D: Write> Write for Timed<'c, C, D> {
+    ghost contents = { λ _. None };
+
+    fn write(&mut self, bytes: &[u8]) -> io::Result<usize> {
+        let start = Moment::now(self.clock);
+        let count = self.device.write(bytes)?;
+        self.note(start, count);
+        Ok(count)
+    }
+
+    fn flush(&mut self) -> io::Result<()> {
+        let start = Moment::now(self.clock);
+        self.device.flush()?;
+        self.note(start, 0);
+        Ok(())
+    }
 }
 
 /// Figures of a run.
@@ -88,9 +171,12 @@ pub(crate) struct Statistics {
     pub(crate) chunks: usize,
     /// How many records were read.
     pub(crate) records: i64,
-    /// How many bytes the input has.
-    pub(crate) bytes: u64,
-    pub(crate) moments: Moments,
+    /// What was read.
+    pub(crate) input: Traffic,
+    /// How long writing took.
+    pub(crate) writing: Duration,
+    /// How long the run took, with reading and writing.
+    pub(crate) time: Duration,
 }
 
 /// Writes how long a phase took.
@@ -110,8 +196,9 @@ impl Statistics {
             lacking_threads,
             chunks,
             records,
-            bytes,
-            moments,
+            input,
+            writing,
+            time,
             ..
         } = *self;
         writeln!(errors, "statistics workers {workers}")?;
@@ -120,9 +207,10 @@ impl Statistics {
         }
         writeln!(errors, "statistics chunks {chunks}")?;
         writeln!(errors, "statistics records {records}")?;
-        writeln!(errors, "statistics bytes {bytes}")?;
-        write_seconds(errors, "read", moments.read.since(moments.start))?;
-        write_seconds(errors, "run", moments.ran.since(moments.read))?;
-        write_seconds(errors, "write", moments.written.since(moments.ran))
+        writeln!(errors, "statistics bytes {}", input.bytes)?;
+        write_seconds(errors, "read", input.time)?;
+        let moving = input.time.saturating_add(writing);
+        write_seconds(errors, "run", time.saturating_sub(moving))?;
+        write_seconds(errors, "write", writing)
     }
 }

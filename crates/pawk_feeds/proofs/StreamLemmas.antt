@@ -14,7 +14,7 @@ use Rattle.pawk_semantics.specs.Outputs.{in_a_row, with_output_before, finish_wi
 use Rattle.pawk_semantics.specs.LeftViews.{left_view}
 use Rattle.pawk_semantics.specs.declared.left.Left.{Left as CodeLeft}
 use Rattle.pawk_semantics.specs.declared.left.Left.TheVariants as left
-use Rattle.pawk_window.specs.Windows.{Contents, HasCome, HoldsRecords, HasEnded}
+use Rattle.pawk_window.specs.Windows.{Contents, HaveCome, HoldsRecords, HasEnded}
 use Rattle.pawk_windows.specs.Flows.{after_piece, rest_in_file, rest_in_files, PieceFollowsLaw, RestOutputLaw}
 use Rattle.pawk_flow.specs.Pieces.{end_between, piece_end, piece_items, piece_records, RunsPiece}
 use Rattle.pawk_flow.specs.declared.flow.Flow.{Flow}
@@ -200,7 +200,7 @@ module _ (u : Course) (pieces : PieceFollowsLaw calls) (rest_output : RestOutput
 
   -- A piece that was read, run and written.
   pub piece_runs : (left now_left taken now_taken : Option (List ℕ)) (name : List ℕ) (old new : Stream) (fnr : ℕ) (a : Contents) (piece : Piece) (x : PieceEnd) (parts : List (Vec ℕ Global)) →
-      HasCome left now_left old.window a → HoldsRecords a → HasEnded now_left a → a.rs ≡ u.rs →
+      HaveCome left now_left old.window a → HoldsRecords a → HasEnded now_left a → a.rs ≡ u.rs →
       RunsPiece u.code u.budget piece old.flow new.flow x → piece.rs.now ≡ u.rs → piece.name.now ≡ name → piece.fnr ≡ fnr → piece.bytes.items ≡ a.whole →
       new.window.tail ≡ a.tail → new.window.ended ≡ a.ended → new.pending.items ≡ [] → parts ≡ old.pending.items ++ x.outputs.items → Appends taken now_taken (in_a_row parts) →
       PieceFaultsLaw → FaultOutputLaw → ((p : Phase) → RecordsKeepLaw (PermitsFor p.code p.roles) calls) → IfSome old.roles (λ r. MayRun (phase_of u old.flow r)) → Tells (λ r. FaultsOrCreates (phase_of u old.flow r) (piece_items piece)) (λ r. ⊥) old.roles new.roles →
@@ -242,7 +242,7 @@ module _ (u : Course) (pieces : PieceFollowsLaw calls) (rest_output : RestOutput
 
   -- A piece that was read and run, and written in part.
   pub piece_refuses : (left now_left taken now_taken : Option (List ℕ)) (name : List ℕ) (old new : Stream) (fnr : ℕ) (a : Contents) (piece : Piece) (x : PieceEnd) (parts : List (Vec ℕ Global)) →
-      HasCome left now_left old.window a → HoldsRecords a → HasEnded now_left a → a.rs ≡ u.rs →
+      HaveCome left now_left old.window a → HoldsRecords a → HasEnded now_left a → a.rs ≡ u.rs →
       RunsPiece u.code u.budget piece old.flow new.flow x → piece.rs.now ≡ u.rs → piece.name.now ≡ name → piece.fnr ≡ fnr → piece.bytes.items ≡ a.whole →
       new.window.tail ≡ a.tail → new.window.ended ≡ a.ended → new.pending.items ≡ [] → parts ≡ old.pending.items ++ x.outputs.items → WroteSome taken now_taken (in_a_row parts) →
       PieceFaultsLaw → FaultOutputLaw → ((p : Phase) → RecordsKeepLaw (PermitsFor p.code p.roles) calls) → IfSome old.roles (λ r. MayRun (phase_of u old.flow r)) → Tells (λ r. FaultsOrCreates (phase_of u old.flow r) (piece_items piece)) (λ r. ⊥) old.roles new.roles →

@@ -12,6 +12,7 @@ use Rattle.pawk_semantics.specs.Records.{Left, through, next_file, exit, fault, 
 use Rattle.pawk_semantics.specs.Runs.{Finish, after_records}
 use Rattle.pawk_semantics.specs.Outputs.{in_a_row, finish_with_output_before}
 use Rattle.pawk_merge_law.specs.Phases.{Phase, MayRun}
+use Rattle.pawk_window.specs.Windows.{Contents, HaveCome, HoldsRecords, HasEnded}
 use Rattle.pawk_windows.specs.Flows.{after_piece, rest_in_file, rest_in_files}
 use Rattle.pawk_windows.specs.Redone.{FileFaultsOrCreates, FilesFaultOrCreate}
 use Rattle.pawk_admit.specs.declared.reason.Reason.{Reason}
@@ -111,6 +112,17 @@ module _ (u : Course) where
 -- what is to be written, and then this
 abbrev pub after_pending : Stream → Finish Globals → Finish Globals
 after_pending s f = finish_with_output_before (in_a_row s.pending.items) f
+
+-- a window with these whole records
+abbrev pub with_records : Contents → List ℕ → Contents
+with_records w records = record { rs = w.rs; size = w.size; room = w.room; whole = records; tail = w.tail; ended = w.ended }
+
+-- The next records of a source, and what they leave in a window.
+pub record Comes (left now_left : Option (List ℕ)) (before after : Contents) (records : List ℕ) : Type 0 where
+  pub bytes : HaveCome left now_left before (with_records after records)
+  pub whole : HoldsRecords (with_records after records)
+  pub end : HasEnded now_left (with_records after records)
+  pub same : after.rs ≡ before.rs
 
 -- Part of a file was read, run and written, and how the run goes on was kept: whatever else of the file follows, which is nothing
 -- where its source has ended, and whatever files. Given are what the source has and the sink took, before and after.

@@ -4,6 +4,17 @@ use pawk_sequential::Ending;
 use pawk_store::{Globals, Specials};
 use pawk_threads::Route;
 
+/// The records that a run ran last: those of one piece of a file.
+#[derive(Drop)]
+pub struct LastPiece {
+    /// The bytes of the record separator that they were read by, at most one.
+    pub rs: Vec<u8>,
+    /// How many records of their file came before them.
+    pub fnr: u64,
+    /// Their bytes.
+    pub bytes: Vec<u8>,
+}
+
 /// What a run leaves beside its output.
 #[derive(Drop)]
 pub struct Flowed {
@@ -15,6 +26,6 @@ pub struct Flowed {
     pub ending: Ending,
     /// Which way it went.
     pub route: Route,
-    /// The records that were run last, by their bytes.
-    pub bytes: Vec<u8>,
+    /// The records that were run last; none where the run ended before it read.
+    pub last: Option<LastPiece>,
 }

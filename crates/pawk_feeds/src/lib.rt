@@ -5,11 +5,12 @@ mod feed;
 mod flowed;
 mod law;
 mod order;
+mod reading;
 mod run;
 mod stream;
 mod write;
 
 pub use feed::Feed;
-pub use flowed::Flowed;
+pub use flowed::{Flowed, LastPiece};
 pub use order::Order;
 pub use run::run_feeds;

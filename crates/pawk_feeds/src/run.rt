@@ -14,7 +14,7 @@ ghost use Rattle.pawk_feeds.specs.Feeds.{AreFilesOf, FlowsTo, WroteSome};
 ghost use Rattle.pawk_feeds.specs.Streams.{route_from};
 
 use crate::feed::Feed;
-use crate::flowed::Flowed;
+use crate::flowed::{Flowed, LastPiece};
 use crate::order::Order;
 use crate::stream::{Setting, Stream, run_all};
 use crate::write::write_on;
@@ -64,7 +64,7 @@ fn end_run<K: Sink>(
     pending: Vec<Vec<u8>>,
     outcome: Outcome,
     route: Route,
-    bytes: Vec<u8>,
+    last: Option<LastPiece>,
 ) -> Result<Flowed, StreamRefusal>
     ensures globals { IfOk result (λ r. r.globals ≡ outcome.globals) }
     ensures specials { IfOk result (λ r. r.specials ≡ outcome.specials) }
@@ -89,7 +89,7 @@ fn end_run<K: Sink>(
         specials,
         ending,
         route,
-        bytes,
+        last,
     })
 }
 
@@ -148,6 +148,7 @@ fn run_on<S: Source, K: Sink, G: Gate + Sync, R: Threads + Wait>(
         roles,
         window: Window::new(alloc, Separator::of(rs.as_slice()), order.window),
         spare: Vec::new(alloc),
+        before: 0,
         pending: one_part(alloc, output)?,
     };
     let (stream, left) = run_all(rt, setting, stream, feeds, sink, gate)?;
@@ -156,15 +157,21 @@ fn run_on<S: Source, K: Sink, G: Gate + Sync, R: Threads + Wait>(
         roles,
         window: _,
         spare,
+        before,
         pending,
     } = stream;
     let outcome = finish_flow(order.job, flow, left)?;
+    let last = LastPiece {
+        rs,
+        fnr: before,
+        bytes: spare,
+    };
     end_run(
         sink,
         pending,
         outcome,
         route_of(reason, roles.is_some()),
-        spare,
+        Some(last),
     )
 }
 
@@ -202,9 +209,7 @@ pub fn run_feeds<S: Source, K: Sink, G: Gate + Sync, R: Threads + Wait>(
         (pairs_of order.entry.assignments.now) files).output) }
 {
     match begin_flow(alloc, order.job, order.assignments) {
-        Ok(Begun::Ended(outcome, route)) => {
-            end_run(sink, Vec::new(alloc), outcome, route, Vec::new(alloc))
-        }
+        Ok(Begun::Ended(outcome, route)) => { end_run(sink, Vec::new(alloc), outcome, route, None) }
         Ok(Begun::Flows(start)) => run_on(rt, alloc, order, start, feeds, sink, gate),
         Err(PieceRefusal::Thread) => Err(StreamRefusal::Thread),
         Err(PieceRefusal::Memory) => Err(StreamRefusal::Memory),

@@ -14,6 +14,7 @@ ghost use Rattle.pawk_feeds.specs.Streams.{Tells, after_pending, course_of, is_o
 
 use crate::feed::Feed;
 use crate::law::{routes_go_on, runs_go_on};
+use crate::reading::next_records;
 use crate::write::write_on;
 use pawk_admit::Roles;
 use pawk_device::{Sink, Source};
@@ -21,7 +22,7 @@ use pawk_flow::{Flow, Piece, PieceEnd, PieceRefusal, run_piece_in_chunks, run_pi
 use pawk_par::StreamRefusal;
 use pawk_sequential::{Job, Left};
 use pawk_threads::{Cutting, Gate, Way};
-use pawk_window::{FillError, Window};
+use pawk_window::Window;
 use std::alloc::Global;
 use std::mem;
 use std::sync::Wait;
@@ -47,16 +48,10 @@ pub(crate) struct Stream {
     pub window: Window,
     /// The bytes of the piece that was run last.
     pub spare: Vec<u8>,
+    /// How many records of its file came before that piece.
+    pub before: u64,
     /// What is to be written before anything else.
     pub pending: Vec<Vec<u8>>,
-}
-
-/// The refusal of a run for a window that was not filled.
-fn refusal_of(error: FillError) -> StreamRefusal {
-    match error {
-        FillError::Memory => StreamRefusal::Memory,
-        FillError::Failed => StreamRefusal::Read,
-    }
 }
 
 /// The refusal of a run for a piece that was not run.
@@ -140,23 +135,21 @@ fn step<S: Source, K: Sink, G: Gate + Sync, R: Threads + Wait>(
         roles,
         window,
         spare,
+        before: _,
         pending,
     } = stream;
     let (mut window, mut parts) = (window, pending);
-    if let Err(error) = window.fill(&mut feed.source) {
-        return Err(refusal_of(error));
-    }
     let piece = Piece {
         rs: setting.rs,
         name: feed.name.as_slice(),
         fnr,
-        bytes: window.take_records(spare)?,
+        bytes: next_records(&mut window, spare, &mut feed.source)?,
     };
     let (flow, roles, end) = run_piece(rt, setting, flow, roles, piece, gate)?;
     let PieceEnd {
         outputs,
         left,
-        fnr,
+        fnr: now_fnr,
         bytes,
         is_stopped: _,
     } = end;
@@ -168,9 +161,10 @@ fn step<S: Source, K: Sink, G: Gate + Sync, R: Threads + Wait>(
         roles,
         window,
         spare: bytes,
+        before: fnr,
         pending: Vec::new(setting.alloc),
     };
-    Ok((stream, Progress { left, fnr }))
+    Ok((stream, Progress { left, fnr: now_fnr }))
 }
 
 /// Runs a feed to its end, or to where the run ends; `nextfile` leaves the rest of it unread.

@@ -48,6 +48,12 @@ pub record HasCome (old new : Option (List ℕ)) (before after : Contents) : Typ
   pub parts : before.tail ++ read ≡ after.whole ++ after.tail
   pub ended : after.ended ≡ (length read == 0)
 
+-- The same, by any number of reads.
+pub record HaveCome (old new : Option (List ℕ)) (before after : Contents) : Type 0 where
+  pub read : List ℕ
+  pub consumes : Consumes old new read
+  pub parts : before.tail ++ read ≡ after.whole ++ after.tail
+
 -- Until the source has ended: whatever follows, what is whole are whole records.
 abbrev pub HoldsRecords : Contents → Type 0
 HoldsRecords w =

@@ -8,7 +8,10 @@ use pawk_device::{Failed, Source};
 use std::alloc::AllocError;
 
 /// How many bytes a buffer has at first.
-const FIRST: usize = 65_536;
+const FIRST: usize = 262_144;
+
+/// How many times as long a buffer becomes that a read has filled.
+const GROWTH: usize = 4;
 
 /// How many bytes a buffer is to have before the next read, where `wanted` were thought enough after the last one, the last
 /// `tail` of those that came belong to a record that goes on, and a window has `size`. It has at most the window's size; a longer
@@ -28,13 +31,13 @@ pub(crate) fn next_length(wanted: usize, tail: usize, size: usize) -> usize
     }
 }
 
-/// How many bytes a buffer of `length` is to have, now that a read has filled its first `filled`: twice as many where it was
-/// filled to its end.
+/// How many bytes a buffer of `length` is to have, now that a read has filled its first `filled`: more where it was filled to
+/// its end.
 pub(crate) fn wanted_length(length: usize, filled: usize) -> usize {
     if filled < length {
         length
     } else {
-        length.saturating_mul(2)
+        length.saturating_mul(GROWTH)
     }
 }
 

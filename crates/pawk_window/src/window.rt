@@ -5,7 +5,7 @@ ghost use Rattle.std.specs.Io.KnownBytes.{Keeps};
 ghost use Rattle.pawk_records.specs.Separator.{rs_of};
 ghost use Rattle.pawk_window.specs.Cuts.{NoneEnds, MayCut};
 ghost use Rattle.pawk_device.specs.Device.{CountsFailure};
-ghost use Rattle.pawk_window.specs.Windows.{ComesNext, HasCome, HasEnded, HoldsRecords, empty_window, forgotten};
+ghost use Rattle.pawk_window.specs.Windows.{ComesNext, HasCome, HaveCome, HasEnded, HoldsRecords, empty_window, forgotten};
 ghost use Rattle.pawk_window.specs.declared.window.FillError.TheVariants as at;
 
 use crate::buffer::{
@@ -152,7 +152,7 @@ impl Window {
     }
 
     /// Forgets the whole records, moves the tail to the front and makes room for more behind it. A buffer that the last read
-    /// filled doubles until it has the window's size; a longer one it has only while the tail is longer.
+    /// filled grows until it has the window's size; a longer one it has only while the tail is longer.
     ///
     /// The error comes where memory for that was refused; the records are then forgotten, too.
     fn make_room(&mut self) -> Result<(), AllocError>
@@ -220,5 +220,26 @@ impl Window {
         self.make_room()?;
         self.read_on(source)?;
         Ok(())
+    }
+
+    /// Forgets the whole records and fills the window, as [`Window::fill`] does, until it has whole records or the source has ended.
+    ///
+    /// `Memory` comes where memory was refused, `Failed` where a read failed.
+    pub fn fill_records<S: Source>(&mut self, source: &mut S) -> Result<(), FillError>
+        ensures bytes { OnOk result
+            (HaveCome (S.left source.old) (S.left source.new) self.old self.new) }
+        ensures whole { OnOk result (HoldsRecords self.new) }
+        ensures end { OnOk result (HasEnded (S.left source.new) self.new) }
+        ensures some { OnOk result (self.new.ended ≡ false → self.new.whole ≢ []) }
+        ensures same { OnOk result
+            ((self.new.rs ≡ self.old.rs) × (self.new.size ≡ self.old.size)) }
+    {
+        for _ in 0..u64::MAX {
+            self.fill(source)?;
+            if self.is_ended() || !self.records().is_empty() {
+                return Ok(());
+            }
+        }
+        Err(FillError::Failed)
     }
 }
