@@ -3,10 +3,10 @@
 ghost use Rattle.std.specs.Prelude.{◌≤◌, None, length};
 ghost use Rattle.std.specs.Io.{ReadsAtMost};
 
-use crate::held::copy_from;
+use crate::held::{copy_from, read_part};
 use crossbeam_channel::{Receiver, Sender, bounded};
 use std::alloc::Global;
-use std::io::{ErrorKind, Read};
+use std::io::Read;
 use std::sync::Wait;
 use std::thread::Threads;
 use std::{io, thread};
@@ -18,26 +18,23 @@ const BLOCK: usize = 65_536;
 const BLOCKS: usize = 256;
 
 /// What a read of a block gave.
-type Answer = io::Result<Vec<u8>>;
+type BlockAnswer = io::Result<Vec<u8>>;
 
 /// Reads once, into a block of its own: an empty one at the end.
-fn read_block<I: Read>(alloc: Global, input: &mut I) -> Answer {
+fn read_block<I: Read>(alloc: Global, input: &mut I) -> BlockAnswer {
     let mut block = vec![in alloc; 0u8; BLOCK]?;
-    for _ in 0..u64::MAX {
-        match input.read(block.as_mut_slice()) {
-            Ok(count) => {
-                block.truncate(count);
-                return Ok(block);
-            }
-            Err(error) if error.kind() == ErrorKind::Interrupted => {}
-            Err(error) => return Err(error),
-        }
-    }
-    Err(io::Error::from(ErrorKind::Interrupted))
+    let count = read_part(input, block.as_mut_slice())?;
+    block.truncate(count);
+    Ok(block)
 }
 
 /// Reads blocks and hands them on, up to the end or a failure, which are handed on too.
-fn read_blocks<R: Wait, I: Read + Drop>(rt: &R, alloc: Global, input: I, blocks: Sender<Answer>) {
+fn read_blocks<R: Wait, I: Read + Drop>(
+    rt: &R,
+    alloc: Global,
+    input: I,
+    blocks: Sender<BlockAnswer>,
+) {
     let mut input = input;
     for _ in rt.forever() {
         let answer = read_block(alloc, &mut input);
@@ -53,17 +50,17 @@ fn read_blocks<R: Wait, I: Read + Drop>(rt: &R, alloc: Global, input: I, blocks:
 
 /// The blocks that a thread reads ahead. Where they are dropped, the thread ends when its read comes back, or with the process.
 #[derive(Drop)]
-struct Blocks {
-    answers: Receiver<Answer>,
+struct AheadBlocks {
+    answers: Receiver<BlockAnswer>,
     block: Vec<u8>,
     /// How many bytes of the block were given.
     given: usize,
     failure: Option<io::Error>,
 }
 
-impl Blocks {
+impl AheadBlocks {
     /// Starts a thread that reads this input; nothing comes where it cannot be started.
-    fn start<R, I>(rt: &R, alloc: Global, input: I) -> Option<Blocks>
+    fn start<R, I>(rt: &R, alloc: Global, input: I) -> Option<AheadBlocks>
     where
         R: Threads + Wait + Copy + Send + Drop + 'static,
         I: Read + Send + Drop + 'static,
@@ -71,7 +68,7 @@ impl Blocks {
         let (sender, answers) = bounded(alloc, BLOCKS).ok()?;
         let handle = *rt;
         thread::spawn(rt, move || read_blocks(&handle, alloc, input, sender)).ok()?;
-        Some(Blocks {
+        Some(AheadBlocks {
             answers,
             block: Vec::new(alloc),
             given: 0,
@@ -94,7 +91,7 @@ impl Blocks {
     }
 
     /// Takes what a read gave: a block, or why there is none.
-    fn take(&mut self, answer: Answer) {
+    fn take(&mut self, answer: BlockAnswer) {
         self.given = 0;
         match answer {
             Ok(block) => self.block = block,
@@ -136,16 +133,16 @@ impl Blocks {
 
 /// An input that a thread may read ahead.
 #[derive(Drop)]
-pub(crate) struct Stream<'d, R, I> {
+pub(crate) struct AheadInput<'d, R, I> {
     rt: &'d R,
     input: I,
-    blocks: Option<Blocks>,
+    blocks: Option<AheadBlocks>,
 }
 
-impl<'d, R, I> Stream<'d, R, I> {
+impl<'d, R, I> AheadInput<'d, R, I> {
     /// The stream of an input that no thread reads.
-    pub(crate) fn new(rt: &'d R, input: I) -> Stream<'d, R, I> {
-        Stream {
+    pub(crate) fn new(rt: &'d R, input: I) -> AheadInput<'d, R, I> {
+        AheadInput {
             rt,
             input,
             blocks: None,
@@ -153,18 +150,18 @@ impl<'d, R, I> Stream<'d, R, I> {
     }
 }
 
-impl<'d, R, I> Stream<'d, R, I>
+impl<'d, R, I> AheadInput<'d, R, I>
 where
     R: Threads + Wait + AllocGlobal + Copy + Send + Drop + 'static,
     I: Read + Copy + Send + Drop + 'static,
 {
     /// Starts a thread that reads ahead; where it cannot be started, nothing is changed.
     pub(crate) fn read_ahead(&mut self) {
-        self.blocks = Blocks::start(self.rt, self.rt.alloc(), self.input);
+        self.blocks = AheadBlocks::start(self.rt, self.rt.alloc(), self.input);
     }
 }
 
-impl<'d, R: Wait, I: Read> Read for Stream<'d, R, I> {
+impl<'d, R: Wait, I: Read> Read for AheadInput<'d, R, I> {
     ghost remaining = { λ _. None };
 
     fn read(&mut self, buffer: &mut [u8]) -> io::Result<usize> {

@@ -3,7 +3,7 @@
 ghost use Rattle.std.specs.Prelude.{None};
 ghost use Rattle.std.specs.Io.{ReadsAtMost};
 
-use crate::ahead::Stream;
+use crate::ahead::AheadInput;
 use crate::held::HeldInput;
 use crate::reports::RunFailure;
 use crate::script::STANDARD_INPUT;
@@ -27,9 +27,9 @@ const MANY: usize = 4_096;
 
 /// What can be read of a device.
 #[derive(Drop)]
-enum Bytes<'d, R: Files, I> {
+enum DeviceBytes<'d, R: Files, I> {
     /// What standard input gives.
-    Standard(Stream<'d, R, I>),
+    Standard(AheadInput<'d, R, I>),
     /// As many bytes of an open file.
     Open(R::File, u64),
     /// As many bytes of a file that the first read opens.
@@ -45,7 +45,7 @@ enum Bytes<'d, R: Files, I> {
 pub(crate) struct Device<'d, R: Files, I> {
     rt: &'d R,
     name: &'d str,
-    bytes: Bytes<'d, R, I>,
+    bytes: DeviceBytes<'d, R, I>,
 }
 
 /// Why a run failed where a read of the file of this name did.
@@ -60,8 +60,8 @@ fn failure_by(name: &str, kind: ErrorKind) -> RunFailure<'_> {
 impl<'d, R: Files + Wait, I: Read + Drop> Device<'d, R, I> {
     /// Opens a file that is not open yet.
     fn make_open(&mut self) -> io::Result<()> {
-        if let Bytes::Closed(limit) = self.bytes {
-            self.bytes = Bytes::Open(File::open(self.rt, self.name)?, limit);
+        if let DeviceBytes::Closed(limit) = self.bytes {
+            self.bytes = DeviceBytes::Open(File::open(self.rt, self.name)?, limit);
         }
         Ok(())
     }
@@ -72,8 +72,8 @@ impl<'d, R: Files + Wait, I: Read + Drop> Device<'d, R, I> {
     {
         self.make_open()?;
         match &mut self.bytes {
-            Bytes::Standard(input) => input.read(buffer),
-            Bytes::Open(file, limit) => {
+            DeviceBytes::Standard(input) => input.read(buffer),
+            DeviceBytes::Open(file, limit) => {
                 let most = usize::try_from(*limit)
                     .unwrap_or(usize::MAX)
                     .min(buffer.len());
@@ -81,7 +81,7 @@ impl<'d, R: Files + Wait, I: Read + Drop> Device<'d, R, I> {
                 *limit -= count as u64;
                 Ok(count)
             }
-            Bytes::Failed(kind) => Err(io::Error::from(*kind)),
+            DeviceBytes::Failed(kind) => Err(io::Error::from(*kind)),
             _ => Ok(0),
         }
     }
@@ -94,7 +94,7 @@ where
 {
     /// Starts a thread that reads standard input ahead; other devices stay as they are.
     fn read_ahead(&mut self) {
-        if let Bytes::Standard(stream) = &mut self.bytes {
+        if let DeviceBytes::Standard(stream) = &mut self.bytes {
             stream.read_ahead();
         }
     }
@@ -104,7 +104,7 @@ impl<'d, R: Files, I> Device<'d, R, I> {
     /// Whether it is a regular file, whose reads do not wait.
     fn is_regular(&self) -> bool {
         match self.bytes {
-            Bytes::Open(_, limit) | Bytes::Closed(limit) => limit < u64::MAX,
+            DeviceBytes::Open(_, limit) | DeviceBytes::Closed(limit) => limit < u64::MAX,
             _ => false,
         }
     }
@@ -112,7 +112,7 @@ impl<'d, R: Files, I> Device<'d, R, I> {
     /// Why the run failed, where a read of this device did.
     fn failure(&self) -> Option<RunFailure<'d>> {
         match self.bytes {
-            Bytes::Failed(kind) => Some(failure_by(self.name, kind)),
+            DeviceBytes::Failed(kind) => Some(failure_by(self.name, kind)),
             _ => None,
         }
     }
@@ -123,8 +123,12 @@ impl<'d, R: Files + Wait, I: Read + Drop> Read for Device<'d, R, I> {
 
     fn read(&mut self, buffer: &mut [u8]) -> io::Result<usize> {
         match self.read_once(buffer) {
+            Ok(0) if !buffer.is_empty() => {
+                self.bytes = DeviceBytes::Ended;
+                Ok(0)
+            }
             Err(error) if error.kind() != ErrorKind::Interrupted => {
-                self.bytes = Bytes::Failed(error.kind());
+                self.bytes = DeviceBytes::Failed(error.kind());
                 Err(error)
             }
             answer => answer,
@@ -137,7 +141,11 @@ pub(crate) type FeedSource<'d, R, I> = Reader<HeldInput<Timed<'d, R, Device<'d, 
 
 /// Looks at a file of this name, and opens it where that may be done before its turn: a pipe is opened by its first read,
 /// since that may wait.
-fn look<'d, R: Files, I>(rt: &'d R, name: &str, is_kept: bool) -> io::Result<Bytes<'d, R, I>> {
+fn look<'d, R: Files, I>(
+    rt: &'d R,
+    name: &str,
+    is_kept: bool,
+) -> io::Result<DeviceBytes<'d, R, I>> {
     let metadata = fs::metadata(rt, name)?;
     if metadata.is_dir() {
         return Err(io::Error::from(ErrorKind::IsADirectory));
@@ -147,13 +155,13 @@ fn look<'d, R: Files, I>(rt: &'d R, name: &str, is_kept: bool) -> io::Result<Byt
         _ => u64::MAX,
     };
     if metadata.file_type().is_fifo() {
-        return Ok(Bytes::Closed(limit));
+        return Ok(DeviceBytes::Closed(limit));
     }
     let file = File::open(rt, name)?;
     if is_kept {
-        Ok(Bytes::Open(file, limit))
+        Ok(DeviceBytes::Open(file, limit))
     } else {
-        Ok(Bytes::Closed(limit))
+        Ok(DeviceBytes::Closed(limit))
     }
 }
 
@@ -161,7 +169,7 @@ fn look<'d, R: Files, I>(rt: &'d R, name: &str, is_kept: bool) -> io::Result<Byt
 fn feed<'d, R: Files + Clock + AllocGlobal, I: Drop>(
     rt: &'d R,
     name: &'d str,
-    bytes: Bytes<'d, R, I>,
+    bytes: DeviceBytes<'d, R, I>,
 ) -> Result<Feed<FeedSource<'d, R, I>>, AllocError> {
     let shown = if name == STANDARD_INPUT { "" } else { name };
     Ok(Feed {
@@ -189,8 +197,8 @@ where
     for (number, name) in names.iter().enumerate() {
         let bytes = if *name == STANDARD_INPUT {
             match standard.take() {
-                Some(input) => Bytes::Standard(Stream::new(rt, input)),
-                None => Bytes::Ended,
+                Some(input) => DeviceBytes::Standard(AheadInput::new(rt, input)),
+                None => DeviceBytes::Ended,
             }
         } else {
             match look(rt, *name, number < OPEN) {
@@ -203,14 +211,9 @@ where
     Ok(feeds)
 }
 
-/// Why bytes could not be held of a device, by this error.
-fn unheld<'d, R: Files, I>(device: &Device<'d, R, I>, error: &io::Error) -> RunFailure<'d> {
-    failure_by(device.name, error.kind())
-}
-
 /// Reads of the feeds in order what is to be there before the run: regular files as far as they have no more than `most` bytes
 /// in all, and of the first other device what one read gives; or everything, where `most` is the greatest number. Where much comes
-/// of standard input, a thread reads it ahead, if that is asked for. Gives whether it was everything.
+/// of standard input, a thread reads it ahead, if that is asked for. Gives whether it was everything, of one feed or more.
 pub(crate) fn hold_feeds<'d, R, I>(
     alloc: Global,
     feeds: &mut [Feed<FeedSource<'d, R, I>>],
@@ -227,7 +230,7 @@ where
         let reads_on = most == usize::MAX || input.device().device().is_regular();
         let is_ended = match input.hold(alloc, room, reads_on) {
             Ok(is_ended) => is_ended,
-            Err(error) => return Err(unheld(input.device().device(), &error)),
+            Err(error) => return Err(failure_by(input.device().device().name, error.kind())),
         };
         let size = input.size();
         if !is_ended && size >= MANY && reads_ahead {
@@ -238,7 +241,7 @@ where
         }
         room -= size;
     }
-    Ok(true)
+    Ok(!feeds.is_empty())
 }
 
 /// Why a run over these feeds failed that was refused so: with the name of the file that could not be read.

@@ -30,7 +30,7 @@ pub(crate) fn copy_from(bytes: &[u8], place: usize, buffer: &mut [u8]) -> usize
 }
 
 /// Reads once, and again where a signal interrupted the call.
-fn read_part<D: Read>(device: &mut D, part: &mut [u8]) -> io::Result<usize>
+pub(crate) fn read_part<D: Read>(device: &mut D, part: &mut [u8]) -> io::Result<usize>
     ensures { ReadsAtMost result part.new }
 {
     for _ in 0..u64::MAX {

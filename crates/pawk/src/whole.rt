@@ -11,7 +11,7 @@ use crate::held::HeldOutput;
 use crate::listing::append_globals;
 use crate::reports::{End, RunFailure, UNWRITTEN};
 use crate::script::STANDARD_INPUT;
-use crate::statistics::{Moment, Statistics, Tally, Timed};
+use crate::statistics::{Moment, Statistics, Tally, Timed, Traffic};
 use pawk_feeds::{Feed, Flowed, Order, run_feeds};
 use pawk_par::{Request, StreamRefusal, Writer, prepare};
 use pawk_settings::Assignment;
@@ -23,6 +23,7 @@ use std::io::{Read, Write};
 use std::rt::{Clock, Files};
 use std::sync::Wait;
 use std::thread::Threads;
+use std::time::Duration;
 
 /// A name and a value: a text is cut at its first `=`, and without one its name is empty.
 fn assignment(alloc: Global, text: &str) -> Result<(Vec<u8>, Vec<u8>), AllocError> {
@@ -171,6 +172,28 @@ where
     }
 }
 
+/// Figures of a run that left this, which took this long, with so much of it for writing.
+fn statistics_of(
+    line: &CommandLine<'_>,
+    flowed: &Flowed,
+    gate: &Tally,
+    input: Traffic,
+    writing: Duration,
+    time: Duration,
+) -> Statistics {
+    let chunks = gate.chunks();
+    Statistics {
+        route: flowed.route,
+        workers: if chunks == 0 { 1 } else { line.workers },
+        lacking_threads: gate.lacking_threads(),
+        chunks,
+        records: flowed.specials.nr,
+        input,
+        writing,
+        time,
+    }
+}
+
 /// Runs what is ready over the files that are named, or over standard input, and writes its output.
 fn run_ready<'a, R, I, O>(
     rt: &'a R,
@@ -199,16 +222,9 @@ where
     let gate = Tally::new();
     let mut output = HeldOutput::new(Timed::new(rt, output));
     let flowed = run_order(rt, order, feeds, &mut output, &gate, is_held)?;
-    let statistics = Statistics {
-        route: flowed.route,
-        workers: if gate.chunks() == 0 { 1 } else { line.workers },
-        lacking_threads: gate.lacking_threads(),
-        chunks: gate.chunks(),
-        records: flowed.specials.nr,
-        input: traffic_of(feeds),
-        writing: output.writer().traffic().time,
-        time: Moment::now(rt).since(start),
-    };
+    let writing = output.writer().traffic().time;
+    let time = Moment::now(rt).since(start);
+    let statistics = statistics_of(line, &flowed, &gate, traffic_of(feeds), writing, time);
     let mut end = end_of(alloc, ready, flowed)?;
     if line.tools.statistics {
         end.statistics = Some(statistics);

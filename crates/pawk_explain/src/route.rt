@@ -43,7 +43,7 @@ pub fn explain_parallel(out: &mut Vec<u8>) -> Result<(), AllocError> {
 /// Appends the explanation of the route `redo`.
 pub fn explain_redo(out: &mut Vec<u8>) -> Result<(), AllocError> {
     let words =
-        "a record ended in a fault, or made an element of an array by reading it\nso the program was run again, one record after the other";
+        "a record ended in a fault, or made an element of an array by reading it\nso from there on records were run one after the other";
     append_lines(out, words, &[])
 }
 

@@ -1,5 +1,5 @@
 use Rattle.std.proofs.Common.{◌≤◌, length}
-use Rattle.pawk.proofs.ahead.Blocks.read.Given as goal
+use Rattle.pawk.proofs.ahead.AheadBlocks.read.Given as goal
 
 abbrev pub invariant-loop : goal.invariant-loop
 invariant-loop g l = record {
