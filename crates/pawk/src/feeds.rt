@@ -213,12 +213,11 @@ where
 
 /// Reads of the feeds in order what is to be there before the run: regular files as far as they have no more than `most` bytes
 /// in all, and of the first other device what one read gives; or everything, where `most` is the greatest number. Where much comes
-/// of standard input, a thread reads it ahead, if that is asked for. Gives whether it was everything, of one feed or more.
+/// of standard input, a thread reads it ahead. Gives whether it was everything, of one feed or more.
 pub(crate) fn hold_feeds<'d, R, I>(
     alloc: Global,
     feeds: &mut [Feed<FeedSource<'d, R, I>>],
     most: usize,
-    reads_ahead: bool,
 ) -> Result<bool, RunFailure<'d>>
 where
     R: Files + AllocGlobal + Threads + Wait + Clock + Copy + Send + Drop + 'static,
@@ -233,7 +232,7 @@ where
             Err(error) => return Err(failure_by(input.device().device().name, error.kind())),
         };
         let size = input.size();
-        if !is_ended && size >= MANY && reads_ahead {
+        if !is_ended && size >= MANY {
             input.device_mut().device_mut().read_ahead();
         }
         if !is_ended || size > room {

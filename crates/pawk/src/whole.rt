@@ -211,7 +211,7 @@ where
     let start = Moment::now(rt);
     let mut feeds = open_feeds(rt, names_of(line, ready.job), input)?;
     let feeds = feeds.as_mut_slice();
-    let is_held = hold_feeds(alloc, feeds, line.held, line.workers > 1)?;
+    let is_held = hold_feeds(alloc, feeds, line.held)?;
     let order = Order {
         job: ready.job,
         assignments: ready.assignments,
