@@ -101,11 +101,11 @@ where
 }
 
 impl<'d, R: Files, I> Device<'d, R, I> {
-    /// Whether it is a regular file, whose reads do not wait.
-    fn is_regular(&self) -> bool {
+    /// How many bytes it has at most: that of a regular file, and for others the greatest number.
+    fn limit(&self) -> u64 {
         match self.bytes {
-            DeviceBytes::Open(_, limit) | DeviceBytes::Closed(limit) => limit < u64::MAX,
-            _ => false,
+            DeviceBytes::Open(_, limit) | DeviceBytes::Closed(limit) => limit,
+            _ => u64::MAX,
         }
     }
 
@@ -211,9 +211,9 @@ where
     Ok(feeds)
 }
 
-/// Reads of the feeds in order what is to be there before the run: regular files as far as they have no more than `most` bytes
-/// in all, and of the first other device what one read gives; or everything, where `most` is the greatest number. Where much comes
-/// of standard input, a thread reads it ahead. Gives whether it was everything, of one feed or more.
+/// Reads of the feeds in order what is to be there before the run: regular files as long as they have no more than `most` bytes
+/// in all, and of the first other feed what one read gives; or everything, where `most` is the greatest number. Where much comes of
+/// standard input, a thread reads it ahead. Gives whether it was everything, of one feed or more.
 pub(crate) fn hold_feeds<'d, R, I>(
     alloc: Global,
     feeds: &mut [Feed<FeedSource<'d, R, I>>],
@@ -226,19 +226,18 @@ where
     let mut room = most;
     for feed in feeds.iter_mut() {
         let input = &mut feed.source.inner;
-        let reads_on = most == usize::MAX || input.device().device().is_regular();
-        let is_ended = match input.hold(alloc, room, reads_on) {
+        let reads_on = most == usize::MAX || input.device().device().limit() <= room as u64;
+        let is_ended = match input.hold(alloc, reads_on) {
             Ok(is_ended) => is_ended,
             Err(error) => return Err(failure_by(input.device().device().name, error.kind())),
         };
-        let size = input.size();
-        if !is_ended && size >= MANY {
-            input.device_mut().device_mut().read_ahead();
-        }
-        if !is_ended || size > room {
+        if !is_ended {
+            if input.size() >= MANY {
+                input.device_mut().device_mut().read_ahead();
+            }
             return Ok(false);
         }
-        room -= size;
+        room = room.saturating_sub(input.size());
     }
     Ok(!feeds.is_empty())
 }

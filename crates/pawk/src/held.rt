@@ -74,14 +74,14 @@ impl<D: Read> HeldInput<D> {
         Ok(count)
     }
 
-    /// Reads once, or `on` until the end or until more than `most` bytes are held. Gives whether the end has come.
-    pub(crate) fn hold(&mut self, alloc: Global, most: usize, on: bool) -> io::Result<bool> {
+    /// Reads once, or `on` to the end. Gives whether the end has come.
+    pub(crate) fn hold(&mut self, alloc: Global, on: bool) -> io::Result<bool> {
         let mut part = vec![in alloc; 0u8; PART]?;
         for _ in 0..u64::MAX {
             if self.hold_part(part.as_mut_slice())? == 0 {
                 return Ok(true);
             }
-            if !on || self.held.len() > most {
+            if !on {
                 return Ok(false);
             }
         }
