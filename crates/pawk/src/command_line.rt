@@ -17,11 +17,20 @@ const ABOUT: &str = "awk in whole numbers, run over chunks of its input";
 /// How many workers there are where `-j` does not say.
 const WORKERS: u8 = 4;
 
-/// The size of a chunk in bytes where `-c` does not say.
+/// The greatest size of a chunk in bytes where `-c` does not say.
 const CHUNK: u64 = 1_048_576;
+
+/// The least size of a chunk in bytes where `-c` does not say.
+const SMALL_CHUNK: u64 = 262_144;
 
 /// How many bytes of a file are run at once at most where `-w` does not say.
 const WINDOW: u64 = 16_777_216;
+
+/// How many bytes of an input of known size are run at once at least where `-w` does not say.
+const SMALL_WINDOW: u64 = 1_048_576;
+
+/// Up to how many bytes the input is read whole before it is run.
+const HELD: usize = 262_144;
 
 /// How many steps BEGIN, each record and END may take where `-s` does not say.
 const STEPS: u64 = 10_000_000;
@@ -88,18 +97,46 @@ pub(crate) struct CommandLine<'a> {
     pub(crate) files: Vec<&'a str>,
     /// How many workers there are.
     pub(crate) workers: u8,
-    /// The size of a chunk in bytes.
-    pub(crate) chunk: u64,
-    /// How many bytes of a file are run at once at most.
-    pub(crate) window: usize,
-    /// Up to how many bytes the input is read whole before it is run, and the output is held.
-    pub(crate) held: usize,
+    /// The size of a chunk in bytes, where `-c` says it.
+    chunk: Option<u64>,
+    /// How many bytes of a file are run at once at most, where `-w` says it.
+    window: Option<u64>,
+    /// Whether the input is read whole before it is run, and the output is held.
+    is_whole: bool,
     pub(crate) host: Host,
     pub(crate) tools: Tools,
     ghost some: { 1 ≤ workers },
     ghost few: { workers ≤ 64 },
-    ghost sized: { 0 < chunk },
-    ghost wide: { 0 < window },
+}
+
+impl<'a> CommandLine<'a> {
+    /// How many bytes of a file are run at once at most, of an input that has at most this size: a quarter of it, where `-w`
+    /// does not say.
+    pub(crate) fn window_for(&self, size: u64) -> usize
+        ensures { 0 < result }
+    {
+        match self.window {
+            Some(bytes) => bytes.clamp(1, 1_073_741_824) as usize,
+            None => (size / 4).clamp(SMALL_WINDOW, WINDOW) as usize,
+        }
+    }
+
+    /// The size of a chunk in bytes in windows of this size: the share of a worker, where `-c` does not say.
+    pub(crate) fn chunk_for(&self, window: usize) -> u64 {
+        match self.chunk {
+            Some(bytes) => bytes.max(1),
+            None => (window as u64 / u64::from(self.workers)).clamp(SMALL_CHUNK, CHUNK),
+        }
+    }
+
+    /// Up to how many bytes the input is read whole before it is run, and the output is held, in windows of this size.
+    pub(crate) fn held_for(&self, window: usize) -> usize {
+        if self.is_whole {
+            usize::MAX
+        } else {
+            window.min(HELD)
+        }
+    }
 }
 
 fn workers<'a>(alloc: Global) -> Arg<'a> {
@@ -115,9 +152,10 @@ fn chunk<'a>(alloc: Global) -> Arg<'a> {
     Arg::new(alloc, "chunk")
         .short('c')
         .value_name("bytes")
-        .help("The size of a chunk in bytes, 1 to 1073741824")
+        .help(
+            "The size of a chunk in bytes, 1 to 1073741824 [default: a worker's share of the window, 262144 to 1048576]",
+        )
         .value_parser(value_parser!(u64).range(1..=1_073_741_824))
-        .default_value("1048576")
 }
 
 fn window<'a>(alloc: Global) -> Arg<'a> {
@@ -125,10 +163,9 @@ fn window<'a>(alloc: Global) -> Arg<'a> {
         .short('w')
         .value_name("bytes")
         .help(
-            "The size in bytes of the window in which files are run piece by piece, 1 to 1073741824",
+            "The size in bytes of the window in which files are run piece by piece, 1 to 1073741824 [default: a quarter of the files, 1048576 to 16777216]",
         )
         .value_parser(value_parser!(u64).range(1..=1_073_741_824))
-        .default_value("16777216")
 }
 
 fn steps<'a>(alloc: Global) -> Arg<'a> {
@@ -330,7 +367,6 @@ fn line_of<'a>(
 ) -> Result<CommandLine<'a>, AllocError> {
     let files = file_names(alloc, matches, &program)?;
     let assignments = Vec::from_slice(alloc, matches.get_strs("assignment").unwrap_or(&[]))?;
-    let window = matches.get_one::<u64>("window").unwrap_or(WINDOW).max(1) as usize;
     Ok(CommandLine {
         program,
         assignments,
@@ -341,13 +377,9 @@ fn line_of<'a>(
             .get_one::<u8>("workers")
             .unwrap_or(WORKERS)
             .clamp(1, 64),
-        chunk: matches.get_one::<u64>("chunk").unwrap_or(CHUNK).max(1),
-        window,
-        held: if matches.get_flag("whole") {
-            usize::MAX
-        } else {
-            window
-        },
+        chunk: matches.get_one::<u64>("chunk"),
+        window: matches.get_one::<u64>("window"),
+        is_whole: matches.get_flag("whole"),
         host,
         tools: read_tools(matches),
     })

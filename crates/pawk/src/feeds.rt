@@ -257,6 +257,15 @@ pub(crate) fn failure_of<'d, R: Files + Clock, I>(
     RunFailure::Refused(refusal)
 }
 
+/// How many bytes these feeds have at most, in all.
+pub(crate) fn limit_of<R: Files + Clock, I>(feeds: &[Feed<FeedSource<'_, R, I>>]) -> u64 {
+    let mut sum: u64 = 0;
+    for feed in feeds {
+        sum = sum.saturating_add(feed.source.inner.device().device().limit());
+    }
+    sum
+}
+
 /// What came of these feeds, in all.
 pub(crate) fn traffic_of<R: Files + Clock, I>(feeds: &[Feed<FeedSource<'_, R, I>>]) -> Traffic {
     let mut sum = Traffic::NONE;

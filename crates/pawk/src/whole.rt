@@ -6,7 +6,7 @@ ghost use Rattle.pawk_threads.specs.Task.{IsCrew};
 use crate::command_line::{CommandLine, Tools};
 use crate::deep::Depth;
 use crate::explanations::{Remains, explain_end};
-use crate::feeds::{FeedSource, failure_of, hold_feeds, open_feeds, traffic_of};
+use crate::feeds::{FeedSource, failure_of, hold_feeds, limit_of, open_feeds, traffic_of};
 use crate::held::HeldOutput;
 use crate::listing::append_globals;
 use crate::reports::{End, RunFailure, UNWRITTEN};
@@ -211,13 +211,14 @@ where
     let start = Moment::now(rt);
     let mut feeds = open_feeds(rt, names_of(line, ready.job), input)?;
     let feeds = feeds.as_mut_slice();
-    let is_held = hold_feeds(alloc, feeds, line.held)?;
+    let window = line.window_for(limit_of(feeds));
+    let is_held = hold_feeds(alloc, feeds, line.held_for(window))?;
     let order = Order {
         job: ready.job,
         assignments: ready.assignments,
-        chunk: line.chunk,
+        chunk: line.chunk_for(window),
         workers: usize::from(line.workers),
-        window: line.window,
+        window,
     };
     let gate = Tally::new();
     let mut output = HeldOutput::new(Timed::new(rt, output));
@@ -313,7 +314,7 @@ where
     O: Write,
 {
     let assigns = assignments(rt.alloc(), line)?;
-    let cutting = Cutting::AtLeast(line.chunk);
+    let cutting = Cutting::AtLeast(line.chunk_for(1));
     let request = Request {
         text,
         assigns: assigns.as_slice(),
