@@ -365,11 +365,12 @@ const THREE: Files = &[(b"f", b"1\n"), (b"g", b"2\n3\n")];
 /// A program, how many reads of a byte succeed, the number of the refusal, and what is written.
 type ReadRow = (&'static [u8], u64, Option<u8>, &'static [u8]);
 
-/// The third read finds the end of the first file, and the eighth that of the second. A program without a main rule and END
+/// What BEGIN writes is written with the first records, which two reads give. The third read finds the end of the first file, and
+/// the eighth that of the second. A program without a main rule and END
 /// reads nothing, and neither does one that ends in BEGIN.
 const READS: [ReadRow; 25] = [
     (FIVE, 0, Some(6), b""),
-    (FIVE, 1, Some(6), b"0\n"),
+    (FIVE, 1, Some(6), b""),
     (FIVE, 2, Some(6), b"0\n1\n"),
     (FIVE, 3, Some(6), b"0\n1\n"),
     (FIVE, 4, Some(6), b"0\n1\n"),
@@ -378,7 +379,7 @@ const READS: [ReadRow; 25] = [
     (FIVE, 7, Some(6), b"0\n1\n2\n3\n"),
     (FIVE, 8, None, FIVE_LINES),
     (FIVE_IN_TURN, 0, Some(6), b""),
-    (FIVE_IN_TURN, 1, Some(6), b"0\n"),
+    (FIVE_IN_TURN, 1, Some(6), b""),
     (FIVE_IN_TURN, 2, Some(6), b"0\n1\n"),
     (FIVE_IN_TURN, 3, Some(6), b"0\n1\n"),
     (FIVE_IN_TURN, 4, Some(6), b"0\n1\n"),
