@@ -3,13 +3,14 @@
 ghost use Rattle.std.specs.Prelude.{◌<◌, ◌≤◌};
 
 use crate::host::Host;
+use crate::operands::Operands;
 use clap::error::ErrorKind;
 use clap::{Arg, ArgAction, ArgMatches, Command, Error, value_parser};
 use std::alloc::{AllocError, Global};
 use std::io::IsTerminal;
 
 /// The version that `--version` prints.
-const VERSION: &str = "1.1.0";
+const VERSION: &str = "1.2.0";
 
 /// What the program is, for `--help`.
 const ABOUT: &str = "awk in whole numbers, run over chunks of its input";
@@ -93,8 +94,8 @@ pub(crate) struct CommandLine<'a> {
     pub(crate) separator: Option<&'a str>,
     /// How many steps BEGIN, each record and END may take.
     pub(crate) steps: u64,
-    /// The names of the files, `-` for standard input; with none standard input is read.
-    pub(crate) files: Vec<&'a str>,
+    /// The files, and what is assigned before, between and after them.
+    pub(crate) operands: Operands<'a>,
     /// How many workers there are.
     pub(crate) workers: u8,
     /// The size of a chunk in bytes, where `-c` says it.
@@ -110,6 +111,18 @@ pub(crate) struct CommandLine<'a> {
 }
 
 impl<'a> CommandLine<'a> {
+    /// How many assignments are made by options.
+    pub(crate) fn option_count(&self) -> usize {
+        let separators = usize::from(self.separator.is_some());
+        self.assignments.len().saturating_add(separators)
+    }
+
+    /// The number of the first assignment to `RS` after the first file, counted from 0 among those of options and operands.
+    pub(crate) fn late_separator(&self) -> Option<usize> {
+        let number = self.operands.late_separator()?;
+        Some(self.option_count().saturating_add(number))
+    }
+
     /// How many bytes of a file are run at once at most, of an input that has at most this size: a quarter of it, where `-w`
     /// does not say.
     pub(crate) fn window_for(&self, size: u64) -> usize
@@ -197,7 +210,7 @@ fn program_files<'a>(alloc: Global) -> Arg<'a> {
         .short('f')
         .value_name("file")
         .help(
-            "A file that has the program's text, - for standard input; all operands are files then",
+            "A file that has the program's text, - for standard input; no operand is the program then",
         )
         .action(ArgAction::Append)
 }
@@ -228,10 +241,10 @@ fn program<'a>(alloc: Global) -> Arg<'a> {
     Arg::new(alloc, "program").help("The program's text")
 }
 
-fn files<'a>(alloc: Global) -> Arg<'a> {
-    Arg::new(alloc, "file")
+fn operands<'a>(alloc: Global) -> Arg<'a> {
+    Arg::new(alloc, "operand")
         .help(
-            "The files that are its input, - for standard input; without files it is standard input",
+            "The files that are its input, - for standard input, which is read where there is no file; name=value assigns once the files before it have been read",
         )
         .action(ArgAction::Append)
         .num_args(0..)
@@ -286,7 +299,7 @@ fn definition<'a>(alloc: Global) -> Result<Command<'a>, AllocError> {
         .arg(steps(alloc))?;
     with_tools(alloc, command)?
         .arg(program(alloc))?
-        .arg(files(alloc))
+        .arg(operands(alloc))
 }
 
 /// Whether an option's value is written in digits alone.
@@ -308,18 +321,18 @@ fn program_source<'a>(
     }
 }
 
-/// The files: all operands where the program's text is in files, else those after the text.
-fn file_names<'a>(
+/// The operands: all words that are no options where the program's text is in files, else those after the text.
+fn read_operands<'a>(
     alloc: Global,
     matches: &ArgMatches<'a>,
     program: &ProgramSource<'a>,
-) -> Result<Vec<&'a str>, AllocError> {
-    let mut names = Vec::new(alloc);
+) -> Result<Operands<'a>, AllocError> {
+    let mut words = Vec::new(alloc);
     if let (ProgramSource::Files(_), Some(first)) = (program, matches.get_str("program")) {
-        names.push(first)?;
+        words.push(first)?;
     }
-    names.extend_from_slice(matches.get_strs("file").unwrap_or(&[]))?;
-    Ok(names)
+    words.extend_from_slice(matches.get_strs("operand").unwrap_or(&[]))?;
+    Operands::new(alloc, words.as_slice())
 }
 
 /// Whether the values of all options that are numbers are written in digits alone.
@@ -365,14 +378,14 @@ fn line_of<'a>(
     program: ProgramSource<'a>,
     host: Host,
 ) -> Result<CommandLine<'a>, AllocError> {
-    let files = file_names(alloc, matches, &program)?;
+    let operands = read_operands(alloc, matches, &program)?;
     let assignments = Vec::from_slice(alloc, matches.get_strs("assignment").unwrap_or(&[]))?;
     Ok(CommandLine {
         program,
         assignments,
         separator: matches.get_str("separator"),
         steps: matches.get_one::<u64>("steps").unwrap_or(STEPS),
-        files,
+        operands,
         workers: matches
             .get_one::<u8>("workers")
             .unwrap_or(WORKERS)

@@ -2,7 +2,7 @@
 
 use crate::command_line::CommandLine;
 use crate::reports::{ReadCause, RunFailure};
-use crate::whole::assignments;
+use crate::whole::{Pair, assignments};
 use pawk_explain::{
     Origin, RecordPlace, Script, explain_fault, explain_no_main, explain_parallel, explain_program,
     explain_reason, explain_redo, explain_setting,
@@ -17,37 +17,50 @@ use pawk_threads::{Ending, Place, Route};
 use pawk_value::{Fault, Value};
 use std::alloc::{AllocError, Global};
 
-/// The value of `-v`, or of `-F`, that is the assignment of this number, counted from 0.
-fn origin<'a>(line: &CommandLine<'a>, number: usize) -> Option<Origin<'a>> {
-    match line.assignments.get(number) {
-        Some(text) => Some(Origin::Assignment(*text)),
-        None => Some(Origin::Separator(line.separator?)),
+/// A word of the command line that makes an assignment that is refused.
+#[derive(Clone, Copy)]
+enum RefusedWord<'a> {
+    /// The value of a `-v` or of `-F`.
+    Value(Origin<'a>),
+    /// An operand.
+    Operand(&'a str),
+    /// An operand that assigns `RS` after the first file.
+    LateSeparator,
+}
+
+/// The word that makes the assignment of this number, counted from 0.
+fn word_of<'a>(line: &CommandLine<'a>, number: usize) -> Option<RefusedWord<'a>> {
+    if line.late_separator() == Some(number) {
+        return Some(RefusedWord::LateSeparator);
+    }
+    if let Some(text) = line.assignments.get(number) {
+        return Some(RefusedWord::Value(Origin::Assignment(*text)));
+    }
+    match number.checked_sub(line.option_count()) {
+        Some(place) => Some(RefusedWord::Operand(*line.operands.assignments().get(place)?)),
+        None => Some(RefusedWord::Value(Origin::Separator(line.separator?))),
     }
 }
 
-/// The first value of `-v` and `-F` that is refused beside the program of this text.
-fn refused_value<'a>(
+/// The word that makes the first assignment that is refused beside the program of this text.
+fn refused_word<'a>(
     alloc: Global,
     line: &CommandLine<'a>,
     text: &[u8],
-) -> Result<Option<Origin<'a>>, AllocError> {
+) -> Result<Option<RefusedWord<'a>>, AllocError> {
     let pairs = assignments(alloc, line)?;
     let Ok(program) = parse(alloc, text) else {
         return Ok(None);
     };
-    match first_refused(alloc, &program, pairs.as_slice(), line.steps) {
-        Some(number) => Ok(origin(line, number)),
+    let first = first_refused(alloc, &program, pairs.as_slice(), line.steps);
+    match first.or(line.late_separator()) {
+        Some(number) => Ok(word_of(line, number)),
         None => Ok(None),
     }
 }
 
 /// The number of the first assignment that is refused beside a program, counted from 0.
-fn first_refused(
-    alloc: Global,
-    program: &Program,
-    pairs: &[(Vec<u8>, Vec<u8>)],
-    steps: u64,
-) -> Option<usize> {
+fn first_refused(alloc: Global, program: &Program, pairs: &[Pair], steps: u64) -> Option<usize> {
     for (number, pair) in pairs.chunks(1).enumerate() {
         if Settings::new(alloc, program.tree(), pair, steps).is_err() {
             return Some(number);
@@ -55,6 +68,26 @@ fn first_refused(
     }
     None
 }
+
+/// Appends the explanation of why an operand is refused: as of a `-v`, which is read as it is, but for how the line begins.
+fn explain_operand(
+    alloc: Global,
+    lines: &mut Vec<u8>,
+    refusal: SettingsRefusal,
+    operand: &str,
+) -> Result<(), AllocError> {
+    let mut option = Vec::new(alloc);
+    explain_setting(&mut option, refusal, Origin::Assignment(operand))?;
+    let option = option.as_slice();
+    let begin: &[u8] = b"  -v ";
+    lines.extend_from_slice(b"  operand ")?;
+    lines.extend_from_slice(option.strip_prefix(begin).unwrap_or(option))?;
+    lines.extend_from_slice(b"  the name of a file that begins so is written with ./ before it\n")
+}
+
+/// What is reported about `RS` after the first file.
+const LATE_SEPARATOR: &[u8] =
+    b"  operand RS=..: RS is taken once, before the first file is read\n  write it before that file, or as -v RS=..\n";
 
 /// Appends the explanation of why an assignment is refused.
 fn explain_settings(
@@ -64,8 +97,10 @@ fn explain_settings(
     text: &[u8],
     refusal: SettingsRefusal,
 ) -> Result<(), AllocError> {
-    match refused_value(alloc, line, text)? {
-        Some(origin) => explain_setting(lines, refusal, origin),
+    match refused_word(alloc, line, text)? {
+        Some(RefusedWord::Value(origin)) => explain_setting(lines, refusal, origin),
+        Some(RefusedWord::Operand(text)) => explain_operand(alloc, lines, refusal, text),
+        Some(RefusedWord::LateSeparator) => lines.extend_from_slice(LATE_SEPARATOR),
         None => Ok(()),
     }
 }
@@ -74,7 +109,7 @@ fn explain_settings(
 fn words_of(name: &str, cause: ReadCause) -> &'static str {
     match cause {
         ReadCause::Missing if name.contains('=') =>
-            "  there is no such file; an assignment is made by -v, before the program\n",
+            "  there is no such file, and an assignment begins with a name: a letter or _, and then letters, digits and _\n",
         ReadCause::Missing => "  there is no such file\n",
         ReadCause::Directory => "  it is a directory\n",
         ReadCause::Forbidden => "  you may not read it\n",

@@ -5,6 +5,7 @@ ghost use Rattle.std.specs.Io.{ReadsAtMost};
 
 use crate::ahead::AheadInput;
 use crate::held::HeldInput;
+use crate::operands::FileTurn;
 use crate::reports::RunFailure;
 use crate::script::STANDARD_INPUT;
 use crate::statistics::{Timed, Traffic};
@@ -165,48 +166,50 @@ fn look<'d, R: Files, I>(
     }
 }
 
-/// The feed of this name, that gives these bytes. In the program standard input has no name.
-fn feed<'d, R: Files + Clock + AllocGlobal, I: Drop>(
+/// The feed of a file that gives these bytes. In the program standard input has no name.
+fn feed<'d, 'p, R: Files + Clock + AllocGlobal, I: Drop>(
     rt: &'d R,
-    name: &'d str,
+    turn: FileTurn<'d, 'p>,
     bytes: DeviceBytes<'d, R, I>,
-) -> Result<Feed<FeedSource<'d, R, I>>, AllocError> {
+) -> Result<Feed<'p, FeedSource<'d, R, I>>, AllocError> {
+    let FileTurn { name, before } = turn;
     let shown = if name == STANDARD_INPUT { "" } else { name };
     Ok(Feed {
+        before,
         name: Vec::from_slice(rt.alloc(), shown.as_bytes())?,
         source: Reader::new(HeldInput::new(rt.alloc(), Timed::new(rt, Device { rt, name, bytes }))),
     })
 }
 
-/// The feeds of the files of these names, in order, of which `-` is standard input: where it comes again, it is at its end. Each
-/// file is looked at; the first that cannot be read is reported.
+/// The feeds of these files, in order, of which `-` is standard input: where it comes again, it is at its end. Each file is
+/// looked at; the first that cannot be read is reported.
 ///
 /// POSIX.1-2017, awk, "OPERANDS" and "STDIN".
-pub(crate) fn open_feeds<'d, R, I>(
+pub(crate) fn open_feeds<'d, 'p, R, I>(
     rt: &'d R,
-    names: &[&'d str],
+    turns: &[FileTurn<'d, 'p>],
     input: I,
-) -> Result<Vec<Feed<FeedSource<'d, R, I>>>, RunFailure<'d>>
+) -> Result<Vec<Feed<'p, FeedSource<'d, R, I>>>, RunFailure<'d>>
 where
     R: Files + AllocGlobal + Clock,
     I: Drop,
 {
     let alloc = rt.alloc();
-    let mut feeds = Vec::with_capacity(alloc, names.len())?;
+    let mut feeds = Vec::with_capacity(alloc, turns.len())?;
     let mut standard = Some(input);
-    for (number, name) in names.iter().enumerate() {
-        let bytes = if *name == STANDARD_INPUT {
+    for (number, turn) in turns.iter().enumerate() {
+        let bytes = if turn.name == STANDARD_INPUT {
             match standard.take() {
                 Some(input) => DeviceBytes::Standard(AheadInput::new(rt, input)),
                 None => DeviceBytes::Ended,
             }
         } else {
-            match look(rt, *name, number < OPEN) {
+            match look(rt, turn.name, number < OPEN) {
                 Ok(bytes) => bytes,
-                Err(error) => return Err(RunFailure::read(*name, &error)),
+                Err(error) => return Err(RunFailure::read(turn.name, &error)),
             }
         };
-        feeds.push(feed(rt, *name, bytes)?)?;
+        feeds.push(feed(rt, *turn, bytes)?)?;
     }
     Ok(feeds)
 }
@@ -216,7 +219,7 @@ where
 /// standard input, a thread reads it ahead. Gives whether it was everything, of one feed or more.
 pub(crate) fn hold_feeds<'d, R, I>(
     alloc: Global,
-    feeds: &mut [Feed<FeedSource<'d, R, I>>],
+    feeds: &mut [Feed<'_, FeedSource<'d, R, I>>],
     most: usize,
 ) -> Result<bool, RunFailure<'d>>
 where
@@ -244,7 +247,7 @@ where
 
 /// Why a run over these feeds failed that was refused so: with the name of the file that could not be read.
 pub(crate) fn failure_of<'d, R: Files + Clock, I>(
-    feeds: &[Feed<FeedSource<'d, R, I>>],
+    feeds: &[Feed<'_, FeedSource<'d, R, I>>],
     refusal: StreamRefusal,
 ) -> RunFailure<'d> {
     if let StreamRefusal::Read = refusal {
@@ -258,7 +261,7 @@ pub(crate) fn failure_of<'d, R: Files + Clock, I>(
 }
 
 /// How many bytes these feeds have at most, in all.
-pub(crate) fn limit_of<R: Files + Clock, I>(feeds: &[Feed<FeedSource<'_, R, I>>]) -> u64 {
+pub(crate) fn limit_of<R: Files + Clock, I>(feeds: &[Feed<'_, FeedSource<'_, R, I>>]) -> u64 {
     let mut sum: u64 = 0;
     for feed in feeds {
         sum = sum.saturating_add(feed.source.inner.device().device().limit());
@@ -267,7 +270,7 @@ pub(crate) fn limit_of<R: Files + Clock, I>(feeds: &[Feed<FeedSource<'_, R, I>>]
 }
 
 /// What came of these feeds, in all.
-pub(crate) fn traffic_of<R: Files + Clock, I>(feeds: &[Feed<FeedSource<'_, R, I>>]) -> Traffic {
+pub(crate) fn traffic_of<R: Files + Clock, I>(feeds: &[Feed<'_, FeedSource<'_, R, I>>]) -> Traffic {
     let mut sum = Traffic::NONE;
     for feed in feeds {
         sum = sum.and(feed.source.inner.device().traffic());

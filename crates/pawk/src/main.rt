@@ -12,6 +12,7 @@ mod held;
 mod host;
 mod listing;
 mod messages;
+mod operands;
 mod outlet;
 mod reports;
 mod script;

@@ -10,10 +10,9 @@ use crate::feeds::{FeedSource, failure_of, hold_feeds, limit_of, open_feeds, tra
 use crate::held::HeldOutput;
 use crate::listing::append_globals;
 use crate::reports::{End, RunFailure, UNWRITTEN};
-use crate::script::STANDARD_INPUT;
 use crate::statistics::{Moment, Statistics, Tally, Timed, Traffic};
 use pawk_feeds::{Feed, Flowed, Order, run_feeds};
-use pawk_par::{Request, StreamRefusal, Writer, prepare};
+use pawk_par::{Request, SettingsRefusal, StreamRefusal, Writer, prepare};
 use pawk_settings::Assignment;
 use pawk_store::Names;
 use pawk_syntax::{SyntaxRefusal, parse, show};
@@ -25,25 +24,42 @@ use std::sync::Wait;
 use std::thread::Threads;
 use std::time::Duration;
 
+/// A name, and the text that it is assigned.
+pub(crate) type Pair = (Vec<u8>, Vec<u8>);
+
 /// A name and a value: a text is cut at its first `=`, and without one its name is empty.
-fn assignment(alloc: Global, text: &str) -> Result<(Vec<u8>, Vec<u8>), AllocError> {
+fn assignment(alloc: Global, text: &str) -> Result<Pair, AllocError> {
     let (name, value) = text.split_once('=').unwrap_or(("", text));
     let name = Vec::from_slice(alloc, name.as_bytes())?;
     Ok((name, Vec::from_slice(alloc, value.as_bytes())?))
 }
 
-/// What is assigned before the program runs: the values of `-v` in order, and then FS.
-pub(crate) fn assignments(
-    alloc: Global,
-    line: &CommandLine<'_>,
-) -> Result<Vec<(Vec<u8>, Vec<u8>)>, AllocError> {
-    let mut pairs = Vec::new(alloc);
-    for text in &line.assignments {
+/// Appends the pairs of these texts.
+fn append_pairs(alloc: Global, pairs: &mut Vec<Pair>, texts: &[&str]) -> Result<(), AllocError> {
+    for text in texts {
         pairs.push(assignment(alloc, *text)?)?;
     }
+    Ok(())
+}
+
+/// What is assigned, in the order in which it is looked at: the values of `-v`, FS, and the assignments among the operands.
+fn all_assignments(alloc: Global, line: &CommandLine<'_>) -> Result<Vec<Pair>, AllocError> {
+    let mut pairs = Vec::new(alloc);
+    append_pairs(alloc, &mut pairs, line.assignments.as_slice())?;
     if let Some(text) = line.separator {
         let name = Vec::from_slice(alloc, b"FS")?;
         pairs.push((name, Vec::from_slice(alloc, text.as_bytes())?))?;
+    }
+    append_pairs(alloc, &mut pairs, line.operands.assignments())?;
+    Ok(pairs)
+}
+
+/// What is assigned, in the order in which it is looked at: all, or where `RS` is assigned after the first file, which is refused,
+/// what comes before it.
+pub(crate) fn assignments(alloc: Global, line: &CommandLine<'_>) -> Result<Vec<Pair>, AllocError> {
+    let mut pairs = all_assignments(alloc, line)?;
+    if let Some(number) = line.late_separator() {
+        pairs.truncate(number);
     }
     Ok(pairs)
 }
@@ -63,12 +79,15 @@ impl Wishes {
     }
 }
 
-/// A run that is ready: what is asked for, and what is assigned before it.
+/// A run that is ready: what is asked for, and what is assigned.
 #[derive(Clone, Copy)]
 struct Ready<'a> {
     wishes: Wishes,
     job: Job<'a>,
-    assignments: &'a [Assignment],
+    /// What options assign.
+    options: &'a [Assignment],
+    /// What operands assign.
+    operands: &'a [Assignment],
 }
 
 impl<'a> Ready<'a> {
@@ -77,7 +96,7 @@ impl<'a> Ready<'a> {
         Names {
             scalars: self.job.code.scalars.as_slice(),
             arrays: self.job.code.arrays.as_slice(),
-            assignments: self.assignments,
+            assignments: self.options,
         }
     }
 }
@@ -125,15 +144,22 @@ fn end_of(alloc: Global, ready: Ready<'_>, flowed: Flowed) -> Result<End, AllocE
     })
 }
 
-/// The names of the files that a program reads: those that are named, or that of standard input; none where it reads none.
-fn names_of<'n, 'a>(line: &'n CommandLine<'a>, job: Job<'_>) -> &'n [&'a str] {
-    if !job.reads_records() {
-        &[]
-    } else if line.files.is_empty() {
-        &[STANDARD_INPUT]
-    } else {
-        line.files.as_slice()
+/// The feeds of what a program reads: of the files among the operands, or of standard input; none where it reads none.
+fn open_input<'a, 'p, R, I>(
+    rt: &'a R,
+    line: &'a CommandLine<'a>,
+    ready: Ready<'p>,
+    input: I,
+) -> Result<Vec<Feed<'p, FeedSource<'a, R, I>>>, RunFailure<'a>>
+where
+    R: Files + AllocGlobal + Clock,
+    I: Drop,
+{
+    if !ready.job.reads_records() {
+        return Ok(Vec::new(rt.alloc()));
     }
+    let turns = line.operands.turns(rt.alloc(), ready.operands)?;
+    open_feeds(rt, turns.as_slice(), input)
 }
 
 /// Where the output of a run goes: a writer whose writes are timed, and whose bytes may be held.
@@ -143,7 +169,7 @@ type Outflow<'o, R, O> = HeldOutput<Timed<'o, R, &'o mut O>>;
 fn run_order<'d, R, I, O>(
     rt: &'d R,
     order: Order<'_>,
-    feeds: &mut [Feed<FeedSource<'d, R, I>>],
+    feeds: &mut [Feed<'_, FeedSource<'d, R, I>>],
     output: &mut Outflow<'_, R, O>,
     gate: &Tally,
     is_held: bool,
@@ -209,13 +235,15 @@ where
 {
     let alloc = rt.alloc();
     let start = Moment::now(rt);
-    let mut feeds = open_feeds(rt, names_of(line, ready.job), input)?;
+    let mut feeds = open_input(rt, line, ready, input)?;
     let feeds = feeds.as_mut_slice();
     let window = line.window_for(limit_of(feeds));
     let is_held = hold_feeds(alloc, feeds, line.held_for(window))?;
     let order = Order {
         job: ready.job,
-        assignments: ready.assignments,
+        assignments: ready.options,
+        first: line.operands.first(ready.operands),
+        last: line.operands.last(ready.operands),
         chunk: line.chunk_for(window),
         workers: usize::from(line.workers),
         window,
@@ -280,12 +308,17 @@ where
     O: Write,
 {
     let (code, settings) = prepare(rt.alloc(), &request)?;
+    if line.late_separator().is_some() {
+        return Err(RunFailure::from(StreamRefusal::Settings(SettingsRefusal::Target)));
+    }
     if wishes.run_nothing() {
         return Ok(check(rt.alloc(), wishes.tools, request.text, output)?);
     }
     if line.host.depth == Depth::Flat && !code.functions.is_empty() {
         return Err(RunFailure::from(StreamRefusal::Thread));
     }
+    let assigned = settings.assignments();
+    let (options, operands) = assigned.split_at(line.option_count().min(assigned.len()));
     let ready = Ready {
         wishes,
         job: Job {
@@ -293,7 +326,8 @@ where
             budget: request.budget,
             seed: request.seed,
         },
-        assignments: settings.assignments(),
+        options,
+        operands,
     };
     run_ready(rt, line, ready, input, output)
 }

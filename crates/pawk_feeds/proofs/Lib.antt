@@ -1,4 +1,4 @@
 pub mod StreamLemmas
-pub mod FilesLemmas
+pub mod TurnsLemmas
 pub mod RunLemmas
 pub mod RouteLemmas

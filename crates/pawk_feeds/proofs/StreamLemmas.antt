@@ -1,8 +1,6 @@
 -- How a run goes on after a piece of a file.
-use Rattle.std.proofs.Common.{◌≡◌, ℕ, ◌+◌, Bool, true, false, List, [], ◌∷◌, ◌++◌, length, take, drop, Option, Some, None, IfSome, Result, Ok, Err, IfErr, Vec, refl, ap, sym, ◌∙◌, subst, append_assoc, append-nil, take-append-drop}
-use Rattle.std.proofs.lemmas.Grind.{flat_map-append}
+use Rattle.std.proofs.Common.{◌≡◌, ℕ, ◌+◌, Bool, true, false, List, [], ◌++◌, length, take, drop, Option, Some, None, IfSome, Result, Ok, Err, IfErr, refl, ap, sym, ◌∙◌, subst, append_assoc, append-nil, take-append-drop}
 use Rattle.std.proofs.KnownBytes.{Appends-nil, Appends-trans, Consumes-nil, Consumes-trans, Keeps-refl}
-use Rattle.std.specs.declared.alloc.Global.{Global}
 use Rattle.std.specs.Io.KnownBytes.{Appends, Consumes, IsAtEnd, Keeps, append_known}
 use Rattle.pawk_records.specs.Records.{records_by}
 use Rattle.pawk_records.proofs.BlocksLemmas.{no_records}
@@ -15,7 +13,8 @@ use Rattle.pawk_semantics.specs.LeftViews.{left_view}
 use Rattle.pawk_semantics.specs.declared.left.Left.{Left as CodeLeft}
 use Rattle.pawk_semantics.specs.declared.left.Left.TheVariants as left
 use Rattle.pawk_window.specs.Windows.{Contents, HaveCome, HoldsRecords, HasEnded}
-use Rattle.pawk_windows.specs.Flows.{after_piece, rest_in_file, rest_in_files, PieceFollowsLaw, RestOutputLaw}
+use Rattle.pawk_windows.specs.Flows.{Turn, after_piece, rest_in_file, PieceFollowsLaw, RestOutputLaw}
+use Rattle.pawk_flow.specs.Operands.{assigned, rest_over}
 use Rattle.pawk_flow.specs.Pieces.{end_between, piece_end, piece_items, piece_records, RunsPiece}
 use Rattle.pawk_flow.specs.declared.flow.Flow.{Flow}
 use Rattle.pawk_flow.specs.declared.piece.Piece.{Piece}
@@ -26,7 +25,7 @@ use Rattle.pawk_par.specs.declared.refusal.StreamRefusal.TheVariants as refusal
 use Rattle.pawk_feeds.specs.Feeds.{IsFileOf, WroteSome}
 use Rattle.pawk_feeds.specs.declared.feed.Feed.{Feed}
 use Rattle.pawk_feeds.specs.declared.stream.Stream.{Stream}
-use Rattle.pawk_feeds.specs.Streams.{Course, RunsOn, RefusesIn, RunsFile, after_pending, with_bytes, with_files, as_left, file_left, Tells, phase_of, files_fault, bytes_fault, left_faults, file_left_faults}
+use Rattle.pawk_feeds.specs.Streams.{Course, RunsOn, RefusesIn, RunsFile, with_bytes, with_file, as_left, file_left, Tells, phase_of, file_fault, bytes_fault, left_faults, file_left_faults}
 use Rattle.pawk_semantics.specs.Steady.{RecordsKeepLaw}
 use Rattle.pawk_commute.specs.Settings.{PermitsFor}
 use Rattle.pawk_merge_law.specs.Phases.{Phase, MayRun, FaultsOrCreates}
@@ -138,7 +137,7 @@ pub refuses_unwritten : (u : Course) (left taken : Option (List ℕ)) (name : Li
 refuses_unwritten u left taken name s fnr = record {
   bytes = known left;
   all = known_is left;
-  wrote = λ fs. wrote_none taken taken _ (Keeps-refl taken);
+  wrote = λ ts. wrote_none taken taken _ (Keeps-refl taken);
 }
 
 -- A run was refused when some of the output was written.
@@ -147,7 +146,7 @@ pub refuses_written : (u : Course) (left now_left taken now_taken all_taken : Op
 refuses_written u left now_left taken now_taken all_taken name old fnr how new now_fnr r some = record {
   bytes = r.read ++ known now_left;
   all = read_all left now_left r.read r.consumes;
-  wrote = λ fs. subst (λ (f : Finish Globals). WroteSome taken now_taken f.output) (sym (r.is (known now_left) fs (λ e. known_end now_left (r.ended e).1)))
+  wrote = λ ts. subst (λ (f : Finish Globals). WroteSome taken now_taken f.output) (sym (r.is (known now_left) ts (λ e. known_end now_left (r.ended e).1)))
       (wrote_more taken now_taken r.wrote _ some);
 }
 
@@ -183,37 +182,37 @@ module _ (u : Course) (pieces : PieceFollowsLaw calls) (rest_output : RestOutput
   after_more more other later clash e h = refl
 
   -- A file goes on after a piece of it as it does from the flow that the piece leaves, with what the piece wrote in front.
-  piece_goes_on : (name : List ℕ) (fnr : ℕ) (records more : List (List ℕ)) (fs : List File) (flow now : Flow) (x : PieceEnd) →
+  piece_goes_on : (name : List ℕ) (fnr : ℕ) (records more : List (List ℕ)) (ts : List Turn) (flow now : Flow) (x : PieceEnd) →
       records_from calls u.code.expressions u.code u.budget None (end_between flow) (file_items 0 name 0 fnr records) ≡ piece_end now x → (left_view x.left ≡ through → x.fnr ≡ fnr + length records) →
-      rest_in_file calls u.code.expressions u.code u.budget u.rs (end_between flow) name fnr (records ++ more) fs
+      rest_in_file calls u.code.expressions u.code u.budget (assigned u.code.scalars) u.last u.rs (end_between flow) name fnr (records ++ more) ts
       ≡ finish_with_output_before (in_a_row x.outputs.items)
-      (after (λ y. rest_in_file calls u.code.expressions u.code u.budget u.rs y name x.fnr more fs) (λ y. rest_in_files calls u.code.expressions u.code u.budget u.rs y fs) (left_view x.left) (end_between now))
-  piece_goes_on name fnr records more fs flow now x ends counts =
+      (after (λ y. rest_in_file calls u.code.expressions u.code u.budget (assigned u.code.scalars) u.last u.rs y name x.fnr more ts) (λ y. rest_over u.code u.budget u.rs u.last y ts) (left_view x.left) (end_between now))
+  piece_goes_on name fnr records more ts flow now x ends counts =
+      let make = assigned u.code.scalars in
       let out = in_a_row x.outputs.items in
-      let next : End Globals → Finish Globals = λ y. rest_in_file calls u.code.expressions u.code u.budget u.rs y name (fnr + length records) more fs in
-      let same : End Globals → Finish Globals = λ y. rest_in_file calls u.code.expressions u.code u.budget u.rs y name x.fnr more fs in
-      let later : End Globals → Finish Globals = λ y. rest_in_files calls u.code.expressions u.code u.budget u.rs y fs in
-      pieces u.code.expressions u.code u.budget u.rs (end_between flow) name fnr records more fs refl
+      let next : End Globals → Finish Globals = λ y. rest_in_file calls u.code.expressions u.code u.budget make u.last u.rs y name (fnr + length records) more ts in
+      let same : End Globals → Finish Globals = λ y. rest_in_file calls u.code.expressions u.code u.budget make u.last u.rs y name x.fnr more ts in
+      let later : End Globals → Finish Globals = λ y. rest_over u.code u.budget u.rs u.last y ts in
+      pieces make u.last u.code.expressions u.code u.budget u.rs (end_between flow) name fnr records more ts refl
       ∙ ap (λ (r : End Globals). after next later r.left r) ends
-      ∙ after_front next later (λ o e. (rest_output u.code.expressions u.code u.budget u.rs e o fs).1 name (fnr + length records) more) (λ o e. (rest_output u.code.expressions u.code u.budget u.rs e o fs).0) now out (left_view x.left)
-      ∙ ap (finish_with_output_before out) (after_more next same later (left_view x.left) (end_between now) (λ on. ap (λ n. rest_in_file calls u.code.expressions u.code u.budget u.rs (end_between now) name n more fs) (sym (counts on))))
+      ∙ after_front next later (λ o e. (rest_output make u.last u.code.expressions u.code u.budget u.rs e o ts).1 name (fnr + length records) more) (λ o e. (rest_output make u.last u.code.expressions u.code u.budget u.rs e o ts).0) now out (left_view x.left)
+      ∙ ap (finish_with_output_before out) (after_more next same later (left_view x.left) (end_between now) (λ on. ap (λ n. rest_in_file calls u.code.expressions u.code u.budget make u.last u.rs (end_between now) name n more ts) (sym (counts on))))
 
   -- A piece that was read, run and written.
-  pub piece_runs : (left now_left taken now_taken : Option (List ℕ)) (name : List ℕ) (old new : Stream) (fnr : ℕ) (a : Contents) (piece : Piece) (x : PieceEnd) (parts : List (Vec ℕ Global)) →
+  pub piece_runs : (left now_left taken now_taken : Option (List ℕ)) (name : List ℕ) (old new : Stream) (fnr : ℕ) (a : Contents) (piece : Piece) (x : PieceEnd) →
       HaveCome left now_left old.window a → HoldsRecords a → HasEnded now_left a → a.rs ≡ u.rs →
       RunsPiece u.code u.budget piece old.flow new.flow x → piece.rs.now ≡ u.rs → piece.name.now ≡ name → piece.fnr ≡ fnr → piece.bytes.items ≡ a.whole →
-      new.window.tail ≡ a.tail → new.window.ended ≡ a.ended → new.pending.items ≡ [] → parts ≡ old.pending.items ++ x.outputs.items → Appends taken now_taken (in_a_row parts) →
+      new.window.tail ≡ a.tail → new.window.ended ≡ a.ended → Appends taken now_taken (in_a_row x.outputs.items) →
       PieceFaultsLaw → FaultOutputLaw → ((p : Phase) → RecordsKeepLaw (PermitsFor p.code p.roles) calls) → IfSome old.roles (λ r. MayRun (phase_of u old.flow r)) → Tells (λ r. FaultsOrCreates (phase_of u old.flow r) (piece_items piece)) (λ r. ⊥) old.roles new.roles →
       RunsOn u left now_left taken now_taken name old fnr (left_view x.left) new x.fnr
-  piece_runs left now_left taken now_taken name old new fnr a piece x parts come holds ends by_rs runs rs_is name_is fnr_is bytes_is tail_is ended_is none parts_is appends faults fault_out keep may told =
+  piece_runs left now_left taken now_taken name old new fnr a piece x come holds ends by_rs runs rs_is name_is fnr_is bytes_is tail_is ended_is appends faults fault_out keep may told =
+      let make = assigned u.code.scalars in
       let records = records_by u.rs a.whole in
-      let p = in_a_row old.pending.items in
       let o = in_a_row x.outputs.items in
       let same_records : piece_records piece ≡ records = λ j. records_by (rs_is j) (bytes_is j) in
       let run : records_from calls u.code.expressions u.code u.budget None (end_between old.flow) (file_items 0 name 0 fnr records) ≡ piece_end new.flow x =
       (λ j. records_from calls u.code.expressions u.code u.budget None (end_between old.flow) (file_items 0 ((sym name_is) j) 0 ((sym fnr_is) j) ((sym same_records) j))) ∙ runs.ends in
       let counts : left_view x.left ≡ through → x.fnr ≡ fnr + length records = λ on. runs.counts on ∙ (λ j. fnr_is j + length (same_records j)) in
-      let row : p ++ o ≡ in_a_row parts = sym (ap in_a_row parts_is ∙ flat_map-append (λ (v : Vec ℕ Global). v.items) old.pending.items x.outputs.items) in
       let come_at : (more : List ℕ) → (new.window.ended ≡ true → more ≡ []) → records_by u.rs (old.window.tail ++ (come.read ++ more)) ≡ records ++ records_by u.rs (a.tail ++ more) =
       λ more nothing. subst (λ (r : List ℕ). records_by r (old.window.tail ++ (come.read ++ more)) ≡ records_by r a.whole ++ records_by r (a.tail ++ more)) by_rs
       (records_come a old.window.tail come.read more come.parts holds (λ e. (ends e).0) (λ e. nothing (ended_is ∙ e))) in
@@ -221,37 +220,33 @@ module _ (u : Course) (pieces : PieceFollowsLaw calls) (rest_output : RestOutput
       subst (λ T. T) (λ j. Tells (λ r. FaultsOrCreates (phase_of u old.flow r) (file_items 0 (name_is j) 0 (fnr_is j) (same_records j))) (λ r. ⊥) old.roles new.roles) told in
       record {
         read = come.read;
-        tells = λ more fs nothing.
-            subst (λ (l : List (List ℕ)). Tells (λ r. FileFaultsOrCreates (phase_of u old.flow r) u.rs (end_between old.flow) name fnr l fs) (left_faults u (left_view x.left) new.flow name x.fnr (new.window.tail ++ more) fs) old.roles new.roles) (sym (come_at more nothing))
-            (subst (λ (t : List ℕ). Tells (λ r. FileFaultsOrCreates (phase_of u old.flow r) u.rs (end_between old.flow) name fnr (records ++ records_by u.rs (a.tail ++ more)) fs) (left_faults u (left_view x.left) new.flow name x.fnr (t ++ more) fs) old.roles new.roles) (sym tail_is)
-            (piece_tells u faults fault_out keep old.flow new.flow name fnr records x run counts old.roles new.roles may items_told (a.tail ++ more) fs));
+        tells = λ more ts nothing.
+            subst (λ (l : List (List ℕ)). Tells (λ r. FileFaultsOrCreates make (phase_of u old.flow r) u.rs (end_between old.flow) name fnr l ts) (left_faults u (left_view x.left) new.flow name x.fnr (new.window.tail ++ more) ts) old.roles new.roles) (sym (come_at more nothing))
+            (subst (λ (t : List ℕ). Tells (λ r. FileFaultsOrCreates make (phase_of u old.flow r) u.rs (end_between old.flow) name fnr (records ++ records_by u.rs (a.tail ++ more)) ts) (left_faults u (left_view x.left) new.flow name x.fnr (t ++ more) ts) old.roles new.roles) (sym tail_is)
+            (piece_tells u faults fault_out keep old.flow new.flow name fnr records x run counts old.roles new.roles may items_told (a.tail ++ more) ts));
         consumes = come.consumes;
-        wrote = in_a_row parts;
+        wrote = o;
         appends = appends;
         ended = λ e. let h = ends (sym ended_is ∙ e) in (tail_is ∙ h.0, h.1);
-        is = λ more fs nothing.
-            let come_records = come_at more nothing in
-            let f = as_left u (left_view x.left) new.flow name x.fnr (a.tail ++ more) fs in
-            ap (λ l. finish_with_output_before p (rest_in_file calls u.code.expressions u.code u.budget u.rs (end_between old.flow) name fnr l fs)) come_records
-            ∙ ap (finish_with_output_before p) (piece_goes_on name fnr records (records_by u.rs (a.tail ++ more)) fs old.flow new.flow x run counts)
-            ∙ both_front p o f
-            ∙ ap (λ w. finish_with_output_before w f) row
-            ∙ ap (λ t. finish_with_output_before (in_a_row parts) (as_left u (left_view x.left) new.flow name x.fnr (t ++ more) fs)) (sym tail_is)
-            ∙ ap (λ (l : List (Vec ℕ Global)). finish_with_output_before (in_a_row parts) (finish_with_output_before (in_a_row l) (as_left u (left_view x.left) new.flow name x.fnr (new.window.tail ++ more) fs))) (sym none);
+        is = λ more ts nothing.
+            ap (λ l. rest_in_file calls u.code.expressions u.code u.budget make u.last u.rs (end_between old.flow) name fnr l ts) (come_at more nothing)
+            ∙ piece_goes_on name fnr records (records_by u.rs (a.tail ++ more)) ts old.flow new.flow x run counts
+            ∙ ap (λ t. finish_with_output_before o (as_left u (left_view x.left) new.flow name x.fnr (t ++ more) ts)) (sym tail_is);
       }
 
   -- A piece that was read and run, and written in part.
-  pub piece_refuses : (left now_left taken now_taken : Option (List ℕ)) (name : List ℕ) (old new : Stream) (fnr : ℕ) (a : Contents) (piece : Piece) (x : PieceEnd) (parts : List (Vec ℕ Global)) →
+  pub piece_refuses : (left now_left taken now_taken : Option (List ℕ)) (name : List ℕ) (old new : Stream) (fnr : ℕ) (a : Contents) (piece : Piece) (x : PieceEnd) →
       HaveCome left now_left old.window a → HoldsRecords a → HasEnded now_left a → a.rs ≡ u.rs →
       RunsPiece u.code u.budget piece old.flow new.flow x → piece.rs.now ≡ u.rs → piece.name.now ≡ name → piece.fnr ≡ fnr → piece.bytes.items ≡ a.whole →
-      new.window.tail ≡ a.tail → new.window.ended ≡ a.ended → new.pending.items ≡ [] → parts ≡ old.pending.items ++ x.outputs.items → WroteSome taken now_taken (in_a_row parts) →
+      new.window.tail ≡ a.tail → new.window.ended ≡ a.ended → WroteSome taken now_taken (in_a_row x.outputs.items) →
       PieceFaultsLaw → FaultOutputLaw → ((p : Phase) → RecordsKeepLaw (PermitsFor p.code p.roles) calls) → IfSome old.roles (λ r. MayRun (phase_of u old.flow r)) → Tells (λ r. FaultsOrCreates (phase_of u old.flow r) (piece_items piece)) (λ r. ⊥) old.roles new.roles →
       RefusesIn u left taken now_taken name old fnr
   unfolding piece_runs
-  piece_refuses left now_left taken now_taken name old new fnr a piece x parts come holds ends by_rs runs rs_is name_is fnr_is bytes_is tail_is ended_is none parts_is some faults fault_out keep may told =
-      let all_taken = append_known taken (in_a_row parts) in
+  piece_refuses left now_left taken now_taken name old new fnr a piece x come holds ends by_rs runs rs_is name_is fnr_is bytes_is tail_is ended_is some faults fault_out keep may told =
+      let o = in_a_row x.outputs.items in
+      let all_taken = append_known taken o in
       refuses_written u left now_left taken now_taken all_taken name old fnr (left_view x.left) new x.fnr
-      (piece_runs left now_left taken all_taken name old new fnr a piece x parts come holds ends by_rs runs rs_is name_is fnr_is bytes_is tail_is ended_is none parts_is (appends_known taken (in_a_row parts)) faults fault_out keep may told) some
+      (piece_runs left now_left taken all_taken name old new fnr a piece x come holds ends by_rs runs rs_is name_is fnr_is bytes_is tail_is ended_is (appends_known taken o) faults fault_out keep may told) some
 
 -- ---- pieces of a file, one after the other
 
@@ -264,16 +259,16 @@ runs_then u left mid_left now_left taken mid_taken now_taken name old fnr mid mi
   consumes = Consumes-trans left mid_left now_left first.read second.read first.consumes second.consumes;
   wrote = first.wrote ++ second.wrote;
   appends = Appends-trans taken mid_taken now_taken first.wrote second.wrote first.appends second.appends;
-  tells = λ more fs nothing.
-      subst (λ (l : List ℕ). Tells (bytes_fault u old.flow name fnr (old.window.tail ++ l) fs) (left_faults u how new.flow name now_fnr (new.window.tail ++ more) fs) old.roles new.roles) (sym (append_assoc first.read second.read more))
-      (tells_then (bytes_fault u old.flow name fnr (old.window.tail ++ (first.read ++ (second.read ++ more))) fs) (bytes_fault u mid.flow name mid_fnr (mid.window.tail ++ (second.read ++ more)) fs) (left_faults u how new.flow name now_fnr (new.window.tail ++ more) fs) old.roles mid.roles new.roles
-      (first.tells (second.read ++ more) fs (λ e. let bad : true ≡ false = sym e ∙ goes in absurd cc)) (second.tells more fs nothing));
+  tells = λ more ts nothing.
+      subst (λ (l : List ℕ). Tells (bytes_fault u old.flow name fnr (old.window.tail ++ l) ts) (left_faults u how new.flow name now_fnr (new.window.tail ++ more) ts) old.roles new.roles) (sym (append_assoc first.read second.read more))
+      (tells_then (bytes_fault u old.flow name fnr (old.window.tail ++ (first.read ++ (second.read ++ more))) ts) (bytes_fault u mid.flow name mid_fnr (mid.window.tail ++ (second.read ++ more)) ts) (left_faults u how new.flow name now_fnr (new.window.tail ++ more) ts) old.roles mid.roles new.roles
+      (first.tells (second.read ++ more) ts (λ e. let bad : true ≡ false = sym e ∙ goes in absurd cc)) (second.tells more ts nothing));
   ended = second.ended;
-  is = λ more fs nothing.
-      ap (λ l. after_pending old (with_bytes u old.flow name fnr (old.window.tail ++ l) fs)) (append_assoc first.read second.read more)
-      ∙ first.is (second.read ++ more) fs (λ e. let bad : true ≡ false = sym e ∙ goes in absurd cc)
-      ∙ ap (finish_with_output_before first.wrote) (second.is more fs nothing)
-      ∙ both_front first.wrote second.wrote (after_pending new (as_left u how new.flow name now_fnr (new.window.tail ++ more) fs));
+  is = λ more ts nothing.
+      ap (λ l. with_bytes u old.flow name fnr (old.window.tail ++ l) ts) (append_assoc first.read second.read more)
+      ∙ first.is (second.read ++ more) ts (λ e. let bad : true ≡ false = sym e ∙ goes in absurd cc)
+      ∙ ap (finish_with_output_before first.wrote) (second.is more ts nothing)
+      ∙ both_front first.wrote second.wrote (as_left u how new.flow name now_fnr (new.window.tail ++ more) ts);
 }
 
 -- Nothing of a file.
@@ -284,8 +279,8 @@ runs_none u left taken name s fnr goes = record {
   wrote = [];
   appends = Appends-nil taken;
   ended = λ e. let bad : true ≡ false = sym e ∙ goes in absurd cc;
-  is = λ more fs nothing. refl;
-  tells = λ more fs nothing. tells_same (bytes_fault u s.flow name fnr (s.window.tail ++ more) fs) s.roles;
+  is = λ more ts nothing. refl;
+  tells = λ more ts nothing. tells_same (bytes_fault u s.flow name fnr (s.window.tail ++ more) ts) s.roles;
 }
 
 -- What follows a refusal in the second part of a file, of which the first is written.
@@ -295,8 +290,8 @@ pub refuses_then : (u : Course) (left mid_left taken mid_taken now_taken : Optio
 refuses_then u left mid_left taken mid_taken now_taken name old fnr mid mid_fnr first goes second = record {
   bytes = first.read ++ second.bytes;
   all = all_then left mid_left first.read second.bytes first.consumes second.all;
-  wrote = λ fs. subst (λ (f : Finish Globals). WroteSome taken now_taken f.output) (sym (first.is second.bytes fs (λ e. let bad : true ≡ false = sym e ∙ goes in absurd cc)))
-      (wrote_after taken mid_taken now_taken first.wrote _ first.appends (second.wrote fs));
+  wrote = λ ts. subst (λ (f : Finish Globals). WroteSome taken now_taken f.output) (sym (first.is second.bytes ts (λ e. let bad : true ≡ false = sym e ∙ goes in absurd cc)))
+      (wrote_after taken mid_taken now_taken first.wrote _ first.appends (second.wrote ts));
 }
   where
     -- What was read, and all that is left, are all.
@@ -308,22 +303,22 @@ refuses_then u left mid_left taken mid_taken now_taken name old fnr mid mid_fnr 
 -- ---- a file
 
 -- A file whose end has come goes on with the files after it.
-end_of_file : (u : Course) (how : Left) (flow : Flow) (name : List ℕ) (fnr : ℕ) (bytes : List ℕ) (fs : List File) → (how ≡ through → bytes ≡ []) → as_left u how flow name fnr bytes fs ≡ file_left u how flow fs
-end_of_file u through flow name fnr bytes fs none =
-    ap (λ l. rest_in_file calls u.code.expressions u.code u.budget u.rs (end_between flow) name fnr (records_by u.rs l) fs) (none refl)
-    ∙ ap (λ l. rest_in_file calls u.code.expressions u.code u.budget u.rs (end_between flow) name fnr l fs) (no_records u.rs)
-end_of_file u next_file flow name fnr bytes fs none = refl
-end_of_file u (exit n) flow name fnr bytes fs none = refl
-end_of_file u (fault f) flow name fnr bytes fs none = refl
-end_of_file u clash flow name fnr bytes fs none = refl
+end_of_file : (u : Course) (how : Left) (flow : Flow) (name : List ℕ) (fnr : ℕ) (bytes : List ℕ) (ts : List Turn) → (how ≡ through → bytes ≡ []) → as_left u how flow name fnr bytes ts ≡ file_left u how flow ts
+end_of_file u through flow name fnr bytes ts none =
+    ap (λ l. rest_in_file calls u.code.expressions u.code u.budget (assigned u.code.scalars) u.last u.rs (end_between flow) name fnr (records_by u.rs l) ts) (none refl)
+    ∙ ap (λ l. rest_in_file calls u.code.expressions u.code u.budget (assigned u.code.scalars) u.last u.rs (end_between flow) name fnr l ts) (no_records u.rs)
+end_of_file u next_file flow name fnr bytes ts none = refl
+end_of_file u (exit n) flow name fnr bytes ts none = refl
+end_of_file u (fault f) flow name fnr bytes ts none = refl
+end_of_file u clash flow name fnr bytes ts none = refl
 
 module _ {S : Type 0} (source_left : S → Option (List ℕ)) (u : Course) (feed : Feed S) (taken now_taken : Option (List ℕ)) (s : Stream) where
   -- All that was run of a file, to its end or to where it was left.
   pub file_runs : (now_left : Option (List ℕ)) (old : Stream) (how : Left) (new : Stream) (now_fnr : ℕ) →
-      old.flow ≡ s.flow → old.roles ≡ s.roles → old.pending.items ≡ s.pending.items → old.window.tail ≡ [] →
+      old.flow ≡ s.flow → old.roles ≡ s.roles → old.window.tail ≡ [] →
       RunsOn u (source_left feed.source) now_left taken now_taken feed.name.items old 0 how new now_fnr → (how ≡ through → new.window.ended ≡ true) →
       (file : File) × IsFileOf source_left feed file × RunsFile u taken now_taken file s how new
-  file_runs now_left old how new now_fnr flow_is roles_is pending_is none run all =
+  file_runs now_left old how new now_fnr flow_is roles_is none run all =
       let rest = known now_left in
       let file : File = record { name = feed.name.items; bytes = run.read ++ rest } in
       let no_more : new.window.ended ≡ true → rest ≡ [] = λ e. known_end now_left (run.ended e).1 in (
@@ -332,26 +327,26 @@ module _ {S : Type 0} (source_left : S → Option (List ℕ)) (u : Course) (feed
         record {
           wrote = run.wrote;
           appends = run.appends;
-          tells = λ fs.
-              tells_then (files_fault u s.flow (file ∷ fs)) (left_faults u how new.flow feed.name.items now_fnr (new.window.tail ++ rest) fs) (file_left_faults u how new.flow fs) s.roles new.roles new.roles
-              (subst (λ T. T) (λ j. Tells (bytes_fault u (flow_is j) feed.name.items 0 (none j ++ (run.read ++ rest)) fs) (left_faults u how new.flow feed.name.items now_fnr (new.window.tail ++ rest) fs) (roles_is j) new.roles) (run.tells rest fs no_more))
-              (tells_iff (left_faults u how new.flow feed.name.items now_fnr (new.window.tail ++ rest) fs) (file_left_faults u how new.flow fs) new.roles
-              (end_faults u how new.flow feed.name.items now_fnr (new.window.tail ++ rest) fs (λ on. let e = all on in (λ j. (run.ended e).0 j ++ no_more e j))));
-          is = λ fs.
-              (λ j. finish_with_output_before (in_a_row ((sym pending_is) j)) (with_bytes u ((sym flow_is) j) feed.name.items 0 ((sym none) j ++ (run.read ++ rest)) fs))
-              ∙ run.is rest fs no_more
-              ∙ ap (λ f. finish_with_output_before run.wrote (after_pending new f))
-              (end_of_file u how new.flow feed.name.items now_fnr (new.window.tail ++ rest) fs (λ on. let e = all on in (λ j. (run.ended e).0 j ++ no_more e j)));
+          tells = λ ts.
+              tells_then (file_fault u s.flow file ts) (left_faults u how new.flow feed.name.items now_fnr (new.window.tail ++ rest) ts) (file_left_faults u how new.flow ts) s.roles new.roles new.roles
+              (subst (λ T. T) (λ j. Tells (bytes_fault u (flow_is j) feed.name.items 0 (none j ++ (run.read ++ rest)) ts) (left_faults u how new.flow feed.name.items now_fnr (new.window.tail ++ rest) ts) (roles_is j) new.roles) (run.tells rest ts no_more))
+              (tells_iff (left_faults u how new.flow feed.name.items now_fnr (new.window.tail ++ rest) ts) (file_left_faults u how new.flow ts) new.roles
+              (end_faults u how new.flow feed.name.items now_fnr (new.window.tail ++ rest) ts (λ on. let e = all on in (λ j. (run.ended e).0 j ++ no_more e j))));
+          is = λ ts.
+              (λ j. with_bytes u ((sym flow_is) j) feed.name.items 0 ((sym none) j ++ (run.read ++ rest)) ts)
+              ∙ run.is rest ts no_more
+              ∙ ap (finish_with_output_before run.wrote)
+              (end_of_file u how new.flow feed.name.items now_fnr (new.window.tail ++ rest) ts (λ on. let e = all on in (λ j. (run.ended e).0 j ++ no_more e j)));
         },
       )
 
   -- A refusal in a file.
-  pub file_refuses : (old : Stream) → old.flow ≡ s.flow → old.pending.items ≡ s.pending.items → old.window.tail ≡ [] → RefusesIn u (source_left feed.source) taken now_taken feed.name.items old 0 →
-      (file : File) × IsFileOf source_left feed file × ((fs : List File) → WroteSome taken now_taken (after_pending s (with_files u s.flow (file ∷ fs))).output)
-  file_refuses old flow_is pending_is none refuses = (
+  pub file_refuses : (old : Stream) → old.flow ≡ s.flow → old.window.tail ≡ [] → RefusesIn u (source_left feed.source) taken now_taken feed.name.items old 0 →
+      (file : File) × IsFileOf source_left feed file × ((ts : List Turn) → WroteSome taken now_taken (with_file u s.flow file ts).output)
+  file_refuses old flow_is none refuses = (
     record { name = feed.name.items; bytes = refuses.bytes },
     record { name = refl; bytes = refuses.all },
-    λ fs. subst (λ (f : Finish Globals). WroteSome taken now_taken f.output)
-        (λ j. finish_with_output_before (in_a_row (pending_is j)) (with_bytes u (flow_is j) feed.name.items 0 (none j ++ refuses.bytes) fs))
-        (refuses.wrote fs),
+    λ ts. subst (λ (f : Finish Globals). WroteSome taken now_taken f.output)
+        (λ j. with_bytes u (flow_is j) feed.name.items 0 (none j ++ refuses.bytes) ts)
+        (refuses.wrote ts),
   )

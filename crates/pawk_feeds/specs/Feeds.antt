@@ -1,12 +1,15 @@
--- Runs from feeds to a sink. POSIX.1-2017, awk, "Overall Program Structure", "STDIN" and "STDOUT".
+-- Runs from feeds to a sink. POSIX.1-2017, awk, "Overall Program Structure", "STDIN", "OPERANDS" and "STDOUT".
 use Rattle.std.specs.Prelude.{◌≡◌, ℕ, List, [], ◌∷◌, ◌++◌, Option, IfSome}
 use Rattle.std.specs.Io.KnownBytes.{Appends}
 use Rattle.pawk_code.specs.Programs.{Code}
 use Rattle.pawk_input.specs.Input.{File}
+use Rattle.pawk_store.specs.Openings.{pairs_of}
 use Rattle.pawk_threads.specs.RunEnds.{AreSpecials, ending_view}
-use Rattle.pawk_threads.specs.Routes.{IsRoute, begin_end, whole_run}
+use Rattle.pawk_windows.specs.Flows.{Pairs, Turn}
+use Rattle.pawk_flow.specs.Operands.{Operands, run_over, IsRouteOver}
 use Rattle.pawk_feeds.specs.declared.feed.Feed.{Feed}
 use Rattle.pawk_feeds.specs.declared.flowed.Flowed.{Flowed}
+use Rattle.pawk_feeds.specs.declared.order.Order.{Order}
 
 module _ {S : Type 0} (left : S → Option (List ℕ)) where
   -- the file of a feed: its name, and the bytes that its source has, where it says which
@@ -14,12 +17,21 @@ module _ {S : Type 0} (left : S → Option (List ℕ)) where
     pub name : file.name ≡ feed.name.items
     pub bytes : IfSome (left feed.source) (λ all. file.bytes ≡ all)
 
-  -- the files of feeds, in order
-  abbrev pub AreFilesOf : List (Feed S) → List File → Type 0
-  AreFilesOf [] [] = Unit {0}
-  AreFilesOf [] (g ∷ gs) = ⊥
-  AreFilesOf (f ∷ fs) [] = ⊥
-  AreFilesOf (f ∷ fs) (g ∷ gs) = IsFileOf f g × AreFilesOf fs gs
+  -- the turn of a feed: its assignments, and its file
+  pub record IsTurnOf (feed : Feed S) (turn : Turn) : Type 0 where
+    pub before : turn.before ≡ pairs_of feed.before.now
+    pub file : IsFileOf feed turn.file
+
+  -- the turns of feeds, in order
+  abbrev pub AreTurnsOf : List (Feed S) → List Turn → Type 0
+  AreTurnsOf [] [] = Unit {0}
+  AreTurnsOf [] (t ∷ ts) = ⊥
+  AreTurnsOf (f ∷ fs) [] = ⊥
+  AreTurnsOf (f ∷ fs) (t ∷ ts) = IsTurnOf f t × AreTurnsOf fs ts
+
+-- the operands of an order, with these files and what is assigned before them
+abbrev pub operands_of : Order → List Turn → Operands
+operands_of o turns = record { first = pairs_of o.first.now; turns = turns; last = pairs_of o.last.now }
 
 -- the sink took a beginning of this output
 pub record WroteSome (old new : Option (List ℕ)) (output : List ℕ) : Type 0 where
@@ -28,12 +40,12 @@ pub record WroteSome (old new : Option (List ℕ)) (output : List ℕ) : Type 0 
   pub appends : Appends old new taken
   pub is : output ≡ taken ++ rest
 
--- Over these files a run is the one of the definition: its globals, the variables that it sets, its ending and its route; and the
--- sink took its output.
-pub record FlowsTo (code : Code) (budget : ℕ) (assignments : List (List ℕ × List ℕ)) (files : List File)
+-- Over these operands a run is the one of the definition: its globals, the variables that it sets, its ending and its route; and
+-- the sink took its output.
+pub record FlowsTo (code : Code) (budget : ℕ) (assignments : Pairs) (operands : Operands)
     (old new : Option (List ℕ)) (flowed : Flowed) : Type 0 where
-  pub globals : (whole_run code budget assignments files).world ≡ flowed.globals
-  pub specials : AreSpecials flowed.specials (whole_run code budget assignments files).state
-  pub ending : (whole_run code budget assignments files).ending ≡ ending_view flowed.ending
-  pub route : IsRoute code budget files (begin_end code budget assignments) flowed.route
-  pub wrote : Appends old new (whole_run code budget assignments files).output
+  pub globals : (run_over code budget assignments operands).world ≡ flowed.globals
+  pub specials : AreSpecials flowed.specials (run_over code budget assignments operands).state
+  pub ending : (run_over code budget assignments operands).ending ≡ ending_view flowed.ending
+  pub route : IsRouteOver code budget assignments operands flowed.route
+  pub wrote : Appends old new (run_over code budget assignments operands).output

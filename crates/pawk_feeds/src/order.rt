@@ -10,6 +10,10 @@ pub struct Order<'p> {
     pub job: Job<'p>,
     /// What is assigned before BEGIN.
     pub assignments: &'p [Assignment],
+    /// What is assigned after BEGIN, before RS is taken.
+    pub first: &'p [Assignment],
+    /// What is assigned after the last file, before END.
+    pub last: &'p [Assignment],
     /// How many bytes a chunk has at least, 1 or more.
     pub chunk: u64,
     /// How many workers there are at most, 1 to 64.

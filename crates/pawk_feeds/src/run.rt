@@ -1,16 +1,15 @@
 //! Runs from feeds to a sink.
 
-ghost use Rattle.std.specs.Prelude.{◌≡◌, ◌<◌, ◌++◌, ◌∷◌, [], List, Some, None};
+ghost use Rattle.std.specs.Prelude.{◌≡◌, ◌<◌, ◌∷◌, [], List, Some, None};
 ghost use Rattle.std.specs.Prelude.{IfErr, IfOk, MatchResult, OnOk};
 ghost use Rattle.std.specs.Io.KnownBytes.{Appends};
-ghost use Rattle.pawk_chunks.specs.Task.{IsCrew};
+ghost use Rattle.pawk_threads.specs.Task.{IsCrew};
 ghost use Rattle.pawk_code.specs.ProgramViews.{code_view};
-ghost use Rattle.pawk_input.specs.Input.{File};
 ghost use Rattle.pawk_store.specs.Openings.{pairs_of};
-ghost use Rattle.pawk_threads.specs.Routes.{whole_run};
-ghost use Rattle.pawk_semantics.specs.Outputs.{in_a_row};
+ghost use Rattle.pawk_windows.specs.Flows.{Turn};
 ghost use Rattle.pawk_flow.specs.Begins.{IsStart};
-ghost use Rattle.pawk_feeds.specs.Feeds.{AreFilesOf, FlowsTo, WroteSome};
+ghost use Rattle.pawk_flow.specs.Operands.{run_over};
+ghost use Rattle.pawk_feeds.specs.Feeds.{AreTurnsOf, FlowsTo, WroteSome, operands_of};
 ghost use Rattle.pawk_feeds.specs.Streams.{route_from};
 
 use crate::feed::Feed;
@@ -61,7 +60,6 @@ fn parted(roles: Result<Roles, Reason>) -> (Option<Roles>, Option<Reason>)
 /// Writes what a run has left to write, and gives the rest of what it leaves.
 fn end_run<K: Sink>(
     sink: &mut K,
-    pending: Vec<Vec<u8>>,
     outcome: Outcome,
     route: Route,
     last: Option<LastPiece>,
@@ -70,10 +68,9 @@ fn end_run<K: Sink>(
     ensures specials { IfOk result (λ r. r.specials ≡ outcome.specials) }
     ensures ending { IfOk result (λ r. r.ending ≡ outcome.ending) }
     ensures route { IfOk result (λ r. r.route ≡ route) }
-    ensures wrote { OnOk result (Appends (K.taken sink.old) (K.taken sink.new)
-        (in_a_row pending.items ++ outcome.output)) }
-    ensures refused { IfErr result (λ _. WroteSome (K.taken sink.old) (K.taken sink.new)
-        (in_a_row pending.items ++ outcome.output)) }
+    ensures wrote { OnOk result (Appends (K.taken sink.old) (K.taken sink.new) outcome.output) }
+    ensures refused { IfErr result (λ _.
+        WroteSome (K.taken sink.old) (K.taken sink.new) outcome.output) }
 {
     let Outcome {
         output,
@@ -81,9 +78,7 @@ fn end_run<K: Sink>(
         specials,
         ending,
     } = outcome;
-    let mut parts = pending;
-    parts.append(&mut output.into_parts())?;
-    write_on(sink, parts)?;
+    write_on(sink, output.into_parts())?;
     Ok(Flowed {
         globals,
         specials,
@@ -108,23 +103,24 @@ fn run_on<S: Source, K: Sink, G: Gate + Sync, R: Threads + Wait>(
     alloc: Global,
     order: Order<'_>,
     start: Start,
-    feeds: &mut [Feed<S>],
+    feeds: &mut [Feed<'_, S>],
     sink: &mut K,
     gate: &G,
 ) -> Result<Flowed, StreamRefusal>
     requires workers { IsCrew order.workers }
     requires window { 0 < order.window }
     requires begun { IsStart (code_view order.job.code.now) order.job.budget
-        (pairs_of order.assignments.now) start }
+        (pairs_of order.assignments.now) (pairs_of order.first.now) start }
     ensures answered { IfOk result (λ r.
-        (files : List File) × AreFilesOf S.left feeds.old files
+        (turns : List Turn) × AreTurnsOf S.left feeds.old turns
         × FlowsTo (code_view order.entry.job.code.now) order.entry.job.budget
-        (pairs_of order.entry.assignments.now) files (K.taken sink.old) (K.taken sink.new) r) }
+        (pairs_of order.entry.assignments.now) (operands_of order.entry turns)
+        (K.taken sink.old) (K.taken sink.new) r) }
     ensures refused { IfErr result (λ _.
-        (files : List File) × AreFilesOf S.left feeds.old files
+        (turns : List Turn) × AreTurnsOf S.left feeds.old turns
         × WroteSome (K.taken sink.old) (K.taken sink.new)
-        (whole_run (code_view order.entry.job.code.now) order.entry.job.budget
-        (pairs_of order.entry.assignments.now) files).output) }
+        (run_over (code_view order.entry.job.code.now) order.entry.job.budget
+        (pairs_of order.entry.assignments.now) (operands_of order.entry turns)).output) }
 {
     let Start {
         flow,
@@ -132,11 +128,13 @@ fn run_on<S: Source, K: Sink, G: Gate + Sync, R: Threads + Wait>(
         rs,
         roles,
     } = start;
+    write_on(sink, one_part(alloc, output)?)?;
     let cutting = Cutting::AtLeast(order.chunk);
     let setting = Setting {
         alloc,
         job: order.job,
         rs: rs.as_slice(),
+        last: order.last,
         way: Way {
             cutting: &cutting,
             workers: order.workers,
@@ -149,7 +147,6 @@ fn run_on<S: Source, K: Sink, G: Gate + Sync, R: Threads + Wait>(
         window: Window::new(alloc, Separator::of(rs.as_slice()), order.window),
         spare: Vec::new(alloc),
         before: 0,
-        pending: one_part(alloc, output)?,
     };
     let (stream, left) = run_all(rt, setting, stream, feeds, sink, gate)?;
     let Stream {
@@ -158,7 +155,6 @@ fn run_on<S: Source, K: Sink, G: Gate + Sync, R: Threads + Wait>(
         window: _,
         spare,
         before,
-        pending,
     } = stream;
     let outcome = finish_flow(order.job, flow, left)?;
     let last = LastPiece {
@@ -166,19 +162,17 @@ fn run_on<S: Source, K: Sink, G: Gate + Sync, R: Threads + Wait>(
         fnr: before,
         bytes: spare,
     };
-    end_run(
-        sink,
-        pending,
-        outcome,
-        route_of(reason, roles.is_some()),
-        Some(last),
-    )
+    end_run(sink, outcome, route_of(reason, roles.is_some()), Some(last))
 }
 
 /// Runs a program over what feeds give, each as a file, and writes the output to a sink: piece by piece, each of whole records
-/// of a file, at most as large as the window or one record; the output of a piece is written, and handed on, before more is
-/// read. What BEGIN wrote is written with that of the first piece. Records are run in chunks by workers where the program allows
-/// it. Gives what the run leaves beside its output. After `exit`, a fault or `nextfile` nothing more is read of a feed.
+/// of a file, at most as large as the window or one record. What BEGIN wrote, and the output of a piece, is written, and handed
+/// on, before more is read. Where there are several workers records are run in chunks, if the program allows it. Gives what the
+/// run leaves beside its output. After `exit`, a fault or `nextfile` nothing more is read of a feed.
+///
+/// The first assignments are made after BEGIN, where records are read; those of a feed before it is read; the last ones after
+/// the last feed, unless the run has ended. A name that the program does not have changes nothing. RS is taken once, after the
+/// first assignments.
 ///
 /// There are 1 to 64 workers; one is this thread, and all threads have ended when this returns. The gate is called round each
 /// chunk that is run, on its worker's thread.
@@ -187,29 +181,30 @@ fn run_on<S: Source, K: Sink, G: Gate + Sync, R: Threads + Wait>(
 /// where a read failed, `Write` where a write failed, and `Input` where more records came than can be counted. What was
 /// written then is a beginning of the output.
 ///
-/// POSIX.1-2017, awk, "STDIN", "INPUT FILES", "STDOUT" and "Overall Program Structure".
+/// POSIX.1-2017, awk, "OPERANDS", "STDIN", "INPUT FILES", "STDOUT" and "Overall Program Structure".
 pub fn run_feeds<S: Source, K: Sink, G: Gate + Sync, R: Threads + Wait>(
     rt: &R,
     alloc: Global,
     order: Order<'_>,
-    feeds: &mut [Feed<S>],
+    feeds: &mut [Feed<'_, S>],
     sink: &mut K,
     gate: &G,
 ) -> Result<Flowed, StreamRefusal>
     requires workers { IsCrew order.workers }
     requires window { 0 < order.window }
     ensures answered { IfOk result (λ r.
-        (files : List File) × AreFilesOf S.left feeds.old files
+        (turns : List Turn) × AreTurnsOf S.left feeds.old turns
         × FlowsTo (code_view order.entry.job.code.now) order.entry.job.budget
-        (pairs_of order.entry.assignments.now) files (K.taken sink.old) (K.taken sink.new) r) }
+        (pairs_of order.entry.assignments.now) (operands_of order.entry turns)
+        (K.taken sink.old) (K.taken sink.new) r) }
     ensures refused { IfErr result (λ _.
-        (files : List File) × AreFilesOf S.left feeds.old files
+        (turns : List Turn) × AreTurnsOf S.left feeds.old turns
         × WroteSome (K.taken sink.old) (K.taken sink.new)
-        (whole_run (code_view order.entry.job.code.now) order.entry.job.budget
-        (pairs_of order.entry.assignments.now) files).output) }
+        (run_over (code_view order.entry.job.code.now) order.entry.job.budget
+        (pairs_of order.entry.assignments.now) (operands_of order.entry turns)).output) }
 {
-    match begin_flow(alloc, order.job, order.assignments) {
-        Ok(Begun::Ended(outcome, route)) => { end_run(sink, Vec::new(alloc), outcome, route, None) }
+    match begin_flow(alloc, order.job, order.assignments, order.first) {
+        Ok(Begun::Ended(outcome, route)) => end_run(sink, outcome, route, None),
         Ok(Begun::Flows(start)) => run_on(rt, alloc, order, start, feeds, sink, gate),
         Err(PieceRefusal::Thread) => Err(StreamRefusal::Thread),
         Err(PieceRefusal::Memory) => Err(StreamRefusal::Memory),

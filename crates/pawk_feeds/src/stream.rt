@@ -1,16 +1,17 @@
 //! The run of the feeds of an order.
 
-ghost use Rattle.std.specs.Prelude.{◌≡◌, ◌∷◌, List, IfOk, IfErr, IfSome};
+ghost use Rattle.std.specs.Prelude.{◌≡◌, List, IfOk, IfErr, IfSome};
 ghost use Rattle.pawk_code.specs.ProgramViews.{code_view};
 ghost use Rattle.pawk_input.specs.Input.{File};
 ghost use Rattle.pawk_admit.specs.Roles.{roles_view};
 ghost use Rattle.pawk_semantics.specs.LeftViews.{left_view};
 ghost use Rattle.pawk_merge_law.specs.Phases.{FaultsOrCreates, MayRun};
-ghost use Rattle.pawk_flow.specs.Pieces.{RunsPiece, phase_between, piece_items};
-ghost use Rattle.pawk_feeds.specs.Feeds.{AreFilesOf, IsFileOf, WroteSome};
+ghost use Rattle.pawk_flow.specs.Pieces.{GoesInChunks, RunsPiece, phase_between, piece_items};
+ghost use Rattle.pawk_windows.specs.Flows.{Turn};
+ghost use Rattle.pawk_feeds.specs.Feeds.{AreTurnsOf, IsFileOf, WroteSome};
 ghost use Rattle.pawk_feeds.specs.Streams.{IsReady, IsUsable, RefusesIn, RunsFile, RunsFiles};
 ghost use Rattle.pawk_feeds.specs.Streams.{RunsOn};
-ghost use Rattle.pawk_feeds.specs.Streams.{Tells, after_pending, course_of, is_over, with_files};
+ghost use Rattle.pawk_feeds.specs.Streams.{Tells, course_of, is_over, with_file, with_turns};
 
 use crate::feed::Feed;
 use crate::law::{routes_go_on, runs_go_on};
@@ -18,13 +19,16 @@ use crate::reading::next_records;
 use crate::write::write_on;
 use pawk_admit::Roles;
 use pawk_device::{Sink, Source};
-use pawk_flow::{Flow, Piece, PieceEnd, PieceRefusal, run_piece_in_chunks, run_piece_in_turn};
+use pawk_flow::{
+    Flow, Piece, PieceEnd, PieceRefusal, assign, assignments_keep_ready, run_piece_in_chunks,
+    run_piece_in_turn, run_piece_noting,
+};
 use pawk_par::StreamRefusal;
 use pawk_sequential::{Job, Left};
+use pawk_settings::Assignment;
 use pawk_threads::{Cutting, Gate, Way};
 use pawk_window::Window;
 use std::alloc::Global;
-use std::mem;
 use std::sync::Wait;
 use std::thread::Threads;
 
@@ -35,6 +39,8 @@ pub(crate) struct Setting<'p> {
     pub job: Job<'p>,
     /// The bytes of `RS`, at most one.
     pub rs: &'p [u8],
+    /// What is assigned after the last file.
+    pub last: &'p [Assignment],
     /// How chunks are cut, and how many workers there are.
     pub way: Way<'p>,
 }
@@ -50,8 +56,6 @@ pub(crate) struct Stream {
     pub spare: Vec<u8>,
     /// How many records of its file came before that piece.
     pub before: u64,
-    /// What is to be written before anything else.
-    pub pending: Vec<Vec<u8>>,
 }
 
 /// The refusal of a run for a piece that was not run.
@@ -63,7 +67,34 @@ fn refusal_of_piece(refusal: PieceRefusal) -> StreamRefusal {
     }
 }
 
-/// Runs a piece: in chunks where there are roles, which then stay unless a chunk could not be merged.
+/// Runs a piece of a program that may run in chunks: by several workers in chunks, by one worker in turn, which finds out
+/// whether all chunks could be merged.
+fn run_admitted_piece<G: Gate + Sync, R: Threads + Wait>(
+    rt: &R,
+    setting: Setting<'_>,
+    flow: Flow,
+    roles: &Roles,
+    piece: Piece<'_>,
+    gate: &G,
+) -> Result<(Flow, PieceEnd), PieceRefusal>
+    requires usable { IsUsable setting }
+    requires by_rs { piece.rs.now ≡ setting.rs.now }
+    requires ready { MayRun (phase_between
+        (code_view setting.job.code.now) (roles_view roles.now) setting.job.budget flow) }
+    ensures runs { IfOk result (λ r. RunsPiece (code_view setting.entry.job.code.now)
+        setting.entry.job.budget piece.entry flow r.0 r.1) }
+    ensures goes { IfOk result (λ r. GoesInChunks (code_view setting.entry.job.code.now)
+        (roles_view roles.now) setting.entry.job.budget piece.entry flow r.0 r.1.is_stopped) }
+{
+    let Setting { job, way, .. } = setting;
+    if way.workers == 1 {
+        run_piece_noting(job, flow, roles, piece)
+    } else {
+        run_piece_in_chunks(rt, job, flow, roles, piece, way, gate)
+    }
+}
+
+/// Runs a piece: where there are roles as a program that may run in chunks; they then stay unless a chunk could not be merged.
 fn run_piece<G: Gate + Sync, R: Threads + Wait>(
     rt: &R,
     setting: Setting<'_>,
@@ -84,16 +115,15 @@ fn run_piece<G: Gate + Sync, R: Threads + Wait>(
         (code_view setting.entry.job.code.now) (roles_view roles) setting.entry.job.budget flow)
         (piece_items piece.entry)) (λ roles. ⊥) roles r.1) }
 {
-    let Setting { job, way, .. } = setting;
     match roles {
-        Some(roles) => match run_piece_in_chunks(rt, job, flow, &roles, piece, way, gate) {
+        Some(roles) => match run_admitted_piece(rt, setting, flow, &roles, piece, gate) {
             Ok((flow, end)) => {
                 let roles = if end.is_stopped { None } else { Some(roles) };
                 Ok((flow, roles, end))
             }
             Err(refusal) => Err(refusal_of_piece(refusal)),
         },
-        None => match run_piece_in_turn(job, flow, piece) {
+        None => match run_piece_in_turn(setting.job, flow, piece) {
             Ok((flow, end)) => Ok((flow, None, end)),
             Err(refusal) => Err(refusal_of_piece(refusal)),
         },
@@ -113,7 +143,7 @@ fn step<S: Source, K: Sink, G: Gate + Sync, R: Threads + Wait>(
     setting: Setting<'_>,
     stream: Stream,
     fnr: u64,
-    feed: &mut Feed<S>,
+    feed: &mut Feed<'_, S>,
     sink: &mut K,
     gate: &G,
 ) -> Result<(Stream, Progress), StreamRefusal>
@@ -136,9 +166,8 @@ fn step<S: Source, K: Sink, G: Gate + Sync, R: Threads + Wait>(
         window,
         spare,
         before: _,
-        pending,
     } = stream;
-    let (mut window, mut parts) = (window, pending);
+    let mut window = window;
     let piece = Piece {
         rs: setting.rs,
         name: feed.name.as_slice(),
@@ -153,16 +182,13 @@ fn step<S: Source, K: Sink, G: Gate + Sync, R: Threads + Wait>(
         bytes,
         is_stopped: _,
     } = end;
-    let mut outputs = outputs;
-    parts.append(&mut outputs)?;
-    write_on(sink, parts)?;
+    write_on(sink, outputs)?;
     let stream = Stream {
         flow,
         roles,
         window,
         spare: bytes,
         before: fnr,
-        pending: Vec::new(setting.alloc),
     };
     Ok((stream, Progress { left, fnr: now_fnr }))
 }
@@ -172,7 +198,7 @@ fn run_feed<S: Source, K: Sink, G: Gate + Sync, R: Threads + Wait>(
     rt: &R,
     setting: Setting<'_>,
     stream: Stream,
-    feed: &mut Feed<S>,
+    feed: &mut Feed<'_, S>,
     sink: &mut K,
     gate: &G,
 ) -> Result<(Stream, Left), StreamRefusal>
@@ -183,9 +209,8 @@ fn run_feed<S: Source, K: Sink, G: Gate + Sync, R: Threads + Wait>(
         file stream (left_view r.1) r.0) }
     ensures ready { IfOk result (λ r. IsReady (course_of setting.entry) r.0) }
     ensures refused { IfErr result (λ _. (file : File) × IsFileOf S.left feed.old file
-        × ((fs : List File) → WroteSome (K.taken sink.old) (K.taken sink.new)
-        (after_pending stream
-        (with_files (course_of setting.entry) stream.flow (file ∷ fs))).output)) }
+        × ((ts : List Turn) → WroteSome (K.taken sink.old) (K.taken sink.new)
+        (with_file (course_of setting.entry) stream.flow file ts).output)) }
 {
     let mut stream = stream;
     stream.window.clear();
@@ -216,31 +241,34 @@ fn is_end(left: Left) -> bool
     }
 }
 
-/// Runs all feeds in order, up to one in which the run ends.
+/// Runs all feeds in order, each after its assignments, up to one in which the run ends; else makes the last assignments.
 pub(crate) fn run_all<S: Source, K: Sink, G: Gate + Sync, R: Threads + Wait>(
     rt: &R,
     setting: Setting<'_>,
     stream: Stream,
-    feeds: &mut [Feed<S>],
+    feeds: &mut [Feed<'_, S>],
     sink: &mut K,
     gate: &G,
 ) -> Result<(Stream, Left), StreamRefusal>
     requires usable { IsUsable setting }
     requires ready { IsReady (course_of setting) stream }
-    ensures ran { IfOk result (λ r. (files : List File) × AreFilesOf S.left feeds.old files
+    ensures ran { IfOk result (λ r. (turns : List Turn) × AreTurnsOf S.left feeds.old turns
         × RunsFiles (course_of setting.entry) (K.taken sink.old) (K.taken sink.new)
-        files stream (left_view r.1) r.0) }
-    ensures refused { IfErr result (λ _. (files : List File) × AreFilesOf S.left feeds.old files
+        turns stream (left_view r.1) r.0) }
+    ensures refused { IfErr result (λ _. (turns : List Turn) × AreTurnsOf S.left feeds.old turns
         × WroteSome (K.taken sink.old) (K.taken sink.new)
-        (after_pending stream (with_files (course_of setting.entry) stream.flow files)).output) }
+        (with_turns (course_of setting.entry) stream.flow turns).output) }
 {
+    assignments_keep_ready();
     let mut stream = stream;
     for feed in feeds.iter_mut() {
+        assign(setting.job, &mut stream.flow.globals, feed.before)?;
         let (next, left) = run_feed(rt, setting, stream, feed, sink, gate)?;
         stream = next;
         if is_end(left) {
             return Ok((stream, left));
         }
     }
+    assign(setting.job, &mut stream.flow.globals, setting.last)?;
     Ok((stream, Left::Through))
 }

@@ -1,3 +1,4 @@
+pub mod Operands
 pub mod Pieces
 pub mod Begins
 pub mod Merged

@@ -4,6 +4,7 @@ use Rattle.pawk_records.specs.Records.{records_by}
 use Rattle.pawk_code.specs.Programs.{Code}
 use Rattle.pawk_input.specs.Input.{Item, file_items}
 use Rattle.pawk_store.specs.Globals.{Globals, calls}
+use Rattle.pawk_store.specs.RecordStates.{RecordState}
 use Rattle.pawk_admit.specs.Roles.{Roles}
 use Rattle.pawk_semantics.specs.Records.{through, End}
 use Rattle.pawk_semantics.specs.Runs.{records_from}
@@ -18,9 +19,13 @@ use Rattle.pawk_flow.specs.declared.piece.PieceEnd.{PieceEnd}
 abbrev pub end_between : Flow → End Globals
 end_between f = record { world = f.globals; state = f.state; output = []; left = through }
 
+-- how a piece ended, beside a world and the record state after it
+abbrev pub passed_end : {S : Type 0} → S → RecordState → PieceEnd → End S
+passed_end s state x = record { world = s; state = state; output = in_a_row x.outputs.items; left = left_view x.left }
+
 -- how a piece ended, beside the run after it
 abbrev pub piece_end : Flow → PieceEnd → End Globals
-piece_end f x = record { world = f.globals; state = f.state; output = in_a_row x.outputs.items; left = left_view x.left }
+piece_end f x = passed_end f.globals f.state x
 
 -- the records that follow, as a phase of their own
 abbrev pub phase_between : Code → Roles → ℕ → Flow → Phase

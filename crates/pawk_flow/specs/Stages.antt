@@ -48,8 +48,8 @@ abbrev pub phase_in : Job → CodeRoles → Prologue → Phase
 phase_in job roles b = phase_of (opening_at job roles b) []
 
 -- a run that goes on from these: nothing is written yet, and what came before was left through
-abbrev pub flow_end : Globals → RecordState → End Globals
-flow_end globals state = record { world = globals; state = state; output = []; left = through }
+abbrev pub flow_end : {S : Type 0} → S → RecordState → End S
+flow_end s state = record { world = s; state = state; output = []; left = through }
 
 -- chunks of a source were run from here, and what they left was merged as far as it can be, beside these globals
 pub record IsFarFrom (job : Job) (roles : CodeRoles) (source : Chunked) (b : Prologue) (globals : Globals) (x : Extent) : Type 0 where

@@ -13,6 +13,7 @@ ghost use Rattle.pawk_flow.specs.Begins.{Begins};
 
 use crate::flow::Flow;
 use crate::law::PlainStore;
+use crate::operands::assign;
 use crate::refusal::PieceRefusal;
 use pawk_admit::{Reason, Roles, admit};
 use pawk_input::Input;
@@ -130,19 +131,21 @@ fn route_of(roles: Result<Roles, Reason>) -> Route
     }
 }
 
-/// Runs BEGIN, with these assignments made before, and takes `RS` where records are read. The run has then ended, whatever
-/// its files are, or goes on with them; what BEGIN wrote is then given beside it.
+/// Runs BEGIN, with these assignments made before it, and where records are read makes the first assignments among the
+/// operands, those before the first file, and then takes `RS`. The run has then ended, whatever its files and the other
+/// assignments among them are, or goes on with them; what BEGIN wrote is then given beside it.
 ///
 /// `Memory` comes where memory was refused, and no other refusal.
 ///
-/// POSIX.1-2017, awk, "Overall Program Structure" and "Variables and Special Variables" (`RS`).
+/// POSIX.1-2017, awk, "Overall Program Structure", "OPERANDS" (assignment) and "Variables and Special Variables" (`RS`).
 pub fn begin_flow(
     alloc: Global,
     job: Job<'_>,
     assignments: &[Assignment],
+    first: &[Assignment],
 ) -> Result<Begun, PieceRefusal>
     ensures { IfOk result (Begins (code_view job.entry.code.now) job.entry.budget
-        (pairs_of assignments.now)) }
+        (pairs_of assignments.now) (pairs_of first.now)) }
 {
     files_follow::<PlainStore>();
     faults_follow();
@@ -152,8 +155,10 @@ pub fn begin_flow(
         let outcome = go_on(job, prologue, &mut input)?;
         return Ok(Begun::Ended(outcome, Route::NoMain));
     }
+    assign(job, &mut prologue.globals, first)?;
     let roles = roles_of(alloc, job, &prologue)?;
-    match prologue.make_ready(&mut input)? {
+    let separator = prologue.make_ready(&mut input)?;
+    match separator {
         Some(rs) => Ok(Begun::Flows(start_of(alloc, prologue, rs, roles)?)),
         None => {
             let outcome = go_on(job, prologue, &mut input)?;

@@ -8,6 +8,8 @@ ghost use Rattle.pawk_input.specs.Plan.{AreConsecutive, ArePlaced, chunk_items};
 ghost use Rattle.pawk_store.specs.Globals.{calls};
 ghost use Rattle.pawk_semantics.specs.Records.{through};
 ghost use Rattle.pawk_semantics.specs.Runs.{records_from};
+ghost use Rattle.pawk_semantics.specs.declared.left.Left.TheVariants.{Through};
+ghost use Rattle.pawk_sequential.specs.Ends.{end_view};
 ghost use Rattle.pawk_chunks.specs.Task.{IsChunked, IsCrew};
 ghost use Rattle.pawk_threads.specs.Prologue.{end_of};
 ghost use Rattle.pawk_flow.specs.Stages.{IsFarFrom, items_in};
@@ -16,9 +18,10 @@ use crate::refusal::PieceRefusal;
 use pawk_admit::Roles;
 use pawk_chunks::{Chunked, Gate, Opening, run_chunks};
 use pawk_merge::{Extent, merge_far};
-use pawk_sequential::{Job, run_records};
+use pawk_sequential::{Job, Left, Run, run_records};
 use pawk_store::RecordState;
 use pawk_threads::Prologue;
+use pawk_world::World;
 use std::alloc::AllocError;
 use std::mem;
 use std::sync::Wait;
@@ -49,27 +52,29 @@ pub(crate) fn run_from<'a>(
     Ok(())
 }
 
-/// Runs the records of all chunks, one after the other; the output is appended to what is there.
+/// Runs the records of all chunks, one after the other, over a world; the output is appended to what is there.
 ///
 /// The error comes where memory was refused.
-pub(crate) fn run_all<'a>(
+pub(crate) fn run_all<'a, W: World>(
     job: Job<'_>,
-    prologue: &mut Prologue<'a>,
+    world: &mut W,
+    run: &mut Run<'a>,
     source: Chunked<'_, 'a>,
-) -> Result<(), AllocError>
-    requires through { (end_of prologue.old).left ≡ through }
+) -> Result<Left, AllocError>
     requires chunked { IsChunked source }
     requires placed { ArePlaced source.rs.now (files_of source.input.now) source.plan.now }
     requires consecutive { AreConsecutive source.rs.now (files_of source.input.now)
         source.plan.now }
-    ensures { OnOk result (records_from calls (code_view job.entry.code.now).expressions
-        (code_view job.entry.code.now) job.entry.budget None (end_of prologue.old)
-        (items_in source.entry) ≡ end_of prologue.new) }
+    ensures { IfOk result (λ left. records_from W.calls (code_view job.entry.code.now).expressions
+        (code_view job.entry.code.now) job.entry.budget None
+        (end_view (W.state world.old) run.old Through) (items_in source.entry)
+        ≡ end_view (W.state world.new) run.new left) }
 {
     if source.plan.len() == 0 {
-        return Ok(());
+        return Ok(Left::Through);
     }
-    run_from(job, prologue, source, 0)
+    let records = source.plan.walk_from(source.input, source.rs, 0);
+    run_records(job, records, world, run)
 }
 
 /// Runs the chunks of a plan by workers, and merges what they leave as far as it can be. The output stays as it is.

@@ -1,15 +1,12 @@
-//! The run of a piece.
+//! Pieces that are run in chunks.
 
-ghost use Rattle.std.specs.Prelude.{◌≡◌, ◌<◌, ◌≤◌, [], length, false, IfOk, None};
+ghost use Rattle.std.specs.Prelude.{◌≡◌, ◌<◌, ◌≤◌, [], length, IfOk};
 ghost use Rattle.pawk_board.specs.Limits.{most_chunks};
 ghost use Rattle.pawk_code.specs.ProgramViews.{code_view};
 ghost use Rattle.pawk_input.specs.Input.{files_of};
 ghost use Rattle.pawk_input.specs.Plan.{AreConsecutive, ArePlaced};
 ghost use Rattle.pawk_admit.specs.Roles.{roles_view};
-ghost use Rattle.pawk_store.specs.Globals.{calls};
 ghost use Rattle.pawk_store.specs.StateViews.{state_of};
-ghost use Rattle.pawk_semantics.specs.Records.{through};
-ghost use Rattle.pawk_semantics.specs.Runs.{records_from};
 ghost use Rattle.pawk_merge_law.specs.Phases.{MayRun, in_order};
 ghost use Rattle.pawk_merge_law.specs.Gathered.{AreNumbered};
 ghost use Rattle.pawk_chunks.specs.Task.{IsChunked, IsCrew};
@@ -22,9 +19,9 @@ ghost use Rattle.pawk_flow.specs.Stages.{items_in, phase_in};
 use crate::flow::Flow;
 use crate::law::{PlainStore, results_merge_far};
 use crate::piece::{Piece, PieceEnd};
-use crate::plan::{bytes_of, input_of, plan_after, plan_of_one};
+use crate::plan::{bytes_of, input_of, plan_after};
 use crate::refusal::PieceRefusal;
-use crate::stage::{merge_chunks, run_all, run_from};
+use crate::stage::{merge_chunks, run_from};
 use pawk_admit::Roles;
 use pawk_chunks::{Chunked, Gate};
 use pawk_input::Input;
@@ -113,7 +110,7 @@ fn prologue_from<'a>(
 
 /// The end of a piece, which has the bytes of this input, and was cut into so many chunks: where there is none, no record
 /// came, after `fnr` of the file; else the end's `fnr` is that of the last.
-fn close(alloc: Global, end: PieceEnd, input: Input, chunks: usize, fnr: u64) -> PieceEnd
+pub(crate) fn close(alloc: Global, end: PieceEnd, input: Input, chunks: usize, fnr: u64) -> PieceEnd
     ensures same { EndsAs end result }
     ensures none { chunks ≡ 0 → result.fnr ≡ fnr }
     ensures some { 0 < chunks → result.fnr ≡ end.fnr }
@@ -225,85 +222,6 @@ pub fn run_piece_in_chunks<G: Gate + Sync, R: Threads + Wait>(
     };
     let prologue = prologue_from(alloc, job, globals, state)?;
     let (flow, end) = run_in_chunks(rt, job, prologue, roles, source, way.workers, gate)?;
-    let chunks = plan.len();
-    Ok((flow, close(alloc, end, input, chunks, fnr)))
-}
-
-/// Runs the chunks of a source one record after the other. The end's `fnr` is the record state's, and its bytes are not there
-/// yet.
-///
-/// The error comes where memory was refused.
-fn run_in_turn<'a>(
-    job: Job<'_>,
-    prologue: Prologue<'a>,
-    source: Chunked<'_, 'a>,
-) -> Result<(Flow, PieceEnd), AllocError>
-    requires through { (end_of prologue).left ≡ through }
-    requires chunked { IsChunked source }
-    requires placed { ArePlaced source.rs.now (files_of source.input.now) source.plan.now }
-    requires consecutive { AreConsecutive source.rs.now (files_of source.input.now)
-        source.plan.now }
-    ensures ends { IfOk result (λ r. records_from calls (code_view job.entry.code.now).expressions
-        (code_view job.entry.code.now) job.entry.budget None (end_of prologue.entry)
-        (items_in source.entry) ≡ piece_end r.0 r.1) }
-    ensures fnr { IfOk result (λ r. r.1.fnr ≡ r.0.state.fnr) }
-    ensures goes { IfOk result (λ r. r.1.is_stopped ≡ false) }
-{
-    let alloc = prologue.run.alloc;
-    let mut prologue = prologue;
-    run_all(job, &mut prologue, source)?;
-    let Prologue { globals, run, left } = prologue;
-    let mut outputs = Vec::new(alloc);
-    outputs.push(run.output)?;
-    let fnr = run.state.fnr;
-    let flow = Flow {
-        alloc,
-        globals,
-        state: run.state.keep(alloc)?,
-    };
-    let end = PieceEnd {
-        outputs,
-        left,
-        fnr,
-        bytes: Vec::new(alloc),
-        is_stopped: false,
-    };
-    Ok((flow, end))
-}
-
-/// Runs the next piece of a file one record after the other.
-///
-/// `Memory` comes where memory was refused, and `Input` where the records cannot be counted on.
-///
-/// POSIX.1-2017, awk, "Overall Program Structure".
-pub fn run_piece_in_turn(
-    job: Job<'_>,
-    flow: Flow,
-    piece: Piece<'_>,
-) -> Result<(Flow, PieceEnd), PieceRefusal>
-    requires one_byte { length piece.rs.now ≤ 1 }
-    ensures runs { IfOk result (λ r. RunsPiece (code_view job.entry.code.now) job.entry.budget
-        piece.entry flow r.0 r.1) }
-    ensures goes { IfOk result (λ r. r.1.is_stopped ≡ false) }
-{
-    numbers_alike::<PlainStore>();
-    let Flow {
-        alloc,
-        globals,
-        state: kept,
-    } = flow;
-    let mut kept = kept;
-    let (rs, fnr) = (piece.rs, piece.fnr);
-    let input = input_of(alloc, piece.name, piece.bytes)?;
-    let plan = plan_of_one(alloc, &input, rs)?;
-    let plan = plan_after(plan, &input, rs, fnr, fnr)?;
-    let source = Chunked {
-        input: &input,
-        plan: &plan,
-        rs,
-    };
-    let prologue = prologue_from(alloc, job, globals, kept.lend())?;
-    let (flow, end) = run_in_turn(job, prologue, source)?;
     let chunks = plan.len();
     Ok((flow, close(alloc, end, input, chunks, fnr)))
 }

@@ -5,7 +5,9 @@ use crate::taps::{Basin, FREE, Files, Limits, Log, Tap, feeds_of, reads_of, sink
 use pawk_admit::Reason;
 use pawk_feeds::{Feed, Flowed, Order, run_feeds};
 use pawk_par::{Job, Open, Reader, Route, Seed, StreamRefusal, Writer};
+use pawk_settings::Assignment;
 use pawk_value::Fault;
+use std::alloc::{AllocError, Global};
 use std::sync::Wait;
 use std::sync::atomic::Ordering;
 use std::test::Fail;
@@ -46,12 +48,44 @@ const SIZES: [Size; 6] = [
     },
 ];
 
-/// Runs a text from feeds to a sink, each record a chunk, with 1,000 steps for each.
+/// Names, and the texts that they are assigned.
+type Pairs = &'static [(&'static [u8], &'static [u8])];
+
+/// What is assigned among the files: before the first, before each other one, and after the last.
+#[derive(Clone, Copy)]
+struct Assigned<T> {
+    first: T,
+    between: T,
+    last: T,
+}
+
+/// Nothing is assigned.
+const PLAIN: Assigned<Pairs> = Assigned {
+    first: &[],
+    between: &[],
+    last: &[],
+};
+
+/// The assignments of these pairs.
+fn assignments_of(alloc: Global, pairs: Pairs) -> Result<Vec<Assignment>, AllocError> {
+    let mut assignments = Vec::new(alloc);
+    for (name, value) in pairs {
+        assignments.push(Assignment {
+            name: Vec::from_slice(alloc, *name)?,
+            value: Vec::from_slice(alloc, *value)?,
+        })?;
+    }
+    Ok(assignments)
+}
+
+/// Runs a text from feeds to a sink, each record a chunk, with 1,000 steps for each, and with assignments before the first and
+/// after the last.
 fn run_text<R: AllocGlobal + Threads + Wait>(
     rt: &R,
     text: &[u8],
+    assigned: Assigned<Pairs>,
     size: Size,
-    feeds: &mut [Feed<Reader<Tap<'_>>>],
+    feeds: &mut [Feed<'_, Reader<Tap<'_>>>],
     sink: &mut Writer<Basin<'_>>,
 ) -> Result<Result<Flowed, StreamRefusal>, Fail> {
     let Size { window, workers } = size;
@@ -60,6 +94,8 @@ fn run_text<R: AllocGlobal + Threads + Wait>(
     }
     let alloc = rt.alloc();
     let code = code_of(alloc, text)?;
+    let first = assignments_of(alloc, assigned.first)?;
+    let last = assignments_of(alloc, assigned.last)?;
     let order = Order {
         job: Job {
             code: &code,
@@ -67,6 +103,8 @@ fn run_text<R: AllocGlobal + Threads + Wait>(
             seed: Seed::new(0),
         },
         assignments: &[],
+        first: first.as_slice(),
+        last: last.as_slice(),
         chunk: 1,
         workers,
         window,
@@ -74,12 +112,13 @@ fn run_text<R: AllocGlobal + Threads + Wait>(
     Ok(run_feeds(rt, alloc, order, feeds, sink, &Open))
 }
 
-/// What is tried: a text over files, of which none ends where `next` has bytes; how many bytes a read gives at most; how many
-/// reads succeed; and what the sink takes.
+/// What is tried: a text over files, of which none ends where `next` has bytes, and what is assigned among them; how many bytes
+/// a read gives at most; how many reads succeed; and what the sink takes.
 #[derive(Clone, Copy)]
 struct Trial<'t> {
     text: &'t [u8],
     files: Files,
+    assigned: Assigned<Pairs>,
     next: &'t [u8],
     step: usize,
     reads: u64,
@@ -105,9 +144,17 @@ fn trace_of<R: AllocGlobal + Threads + Wait>(
 ) -> Result<Trace, Fail> {
     let alloc = rt.alloc();
     let log = Log::new(trial.reads);
-    let mut feeds = feeds_of(alloc, trial.files, trial.next, trial.step, &log)?;
+    let between = assignments_of(alloc, trial.assigned.between)?;
+    let mut feeds = feeds_of(
+        alloc,
+        trial.files,
+        between.as_slice(),
+        trial.next,
+        trial.step,
+        &log,
+    )?;
     let mut sink = sink_of(alloc, trial.limits, &log);
-    let answer = run_text(rt, trial.text, size, &mut feeds, &mut sink)?;
+    let answer = run_text(rt, trial.text, trial.assigned, size, &mut feeds, &mut sink)?;
     Ok(Trace {
         answer,
         taken: sink.inner.taken,
@@ -333,8 +380,238 @@ fn feeds_show_what_files_show(rt: HostRuntime) -> Result<(), Fail> {
         let trial = Trial {
             text: *text,
             files: *files,
+            assigned: PLAIN,
             next: b"",
             step: usize::MAX,
+            reads: 1000,
+            limits: FREE,
+        };
+        for size in SIZES {
+            let trace = trace_of(&rt, trial, size)?;
+            assert!(rt;
+                is_shown(&trace, shown),
+                "row {place}: window {}",
+                size.window
+            );
+        }
+    }
+    Ok(())
+}
+
+/// A program, its files, what is assigned among them, and what it shows: its output, how it ends and which way it goes.
+type AssignedRow = (
+    &'static [u8],
+    Files,
+    Assigned<Pairs>,
+    &'static [u8],
+    Result<u8, (Fault, u64)>,
+    Route,
+);
+
+/// An assignment of `x` at each place.
+const EACH: Assigned<Pairs> = Assigned {
+    first: &[(b"x", b"1")],
+    between: &[(b"x", b"2")],
+    last: &[(b"x", b"3")],
+};
+
+/// An assignment of `n` between the files.
+const MORE: Assigned<Pairs> = Assigned {
+    first: &[],
+    between: &[(b"n", b"100")],
+    last: &[],
+};
+
+const ASSIGNED: [AssignedRow; 19] = [
+    (
+        b"{ print x \":\" $1 } END { print x }",
+        NUMBERS,
+        EACH,
+        b"1:1\n1:2\n1:3\n2:4\n2:5\n3\n",
+        Ok(0),
+        Route::Parallel,
+    ),
+    (
+        b"NR == 1, 0 { print x \":\" $1 } END { print x }",
+        NUMBERS,
+        EACH,
+        b"1:1\n1:2\n1:3\n2:4\n2:5\n3\n",
+        Ok(0),
+        Route::NotAdmitted(Reason::Range),
+    ),
+    (
+        b"BEGIN { print x \".\" } { print x }",
+        &[(b"f", b"a\n"), (b"e", b""), (b"g", b"b\n")],
+        EACH,
+        b".\n1\n2\n",
+        Ok(0),
+        Route::Parallel,
+    ),
+    (
+        b"END { print x, NR }",
+        &[],
+        EACH,
+        b"3 0\n",
+        Ok(0),
+        Route::Parallel,
+    ),
+    (
+        b"NR == 2 { exit } { print } END { print x }",
+        NUMBERS,
+        EACH,
+        b"1\n1\n",
+        Ok(0),
+        Route::Parallel,
+    ),
+    (
+        b"NR == 4 { exit 6 } END { print x }",
+        NUMBERS,
+        EACH,
+        b"2\n",
+        Ok(6),
+        Route::Parallel,
+    ),
+    (
+        b"NR == 2, 0 { exit } { print } END { print x }",
+        NUMBERS,
+        EACH,
+        b"1\n1\n",
+        Ok(0),
+        Route::NotAdmitted(Reason::Range),
+    ),
+    (
+        b"NR == 2 { y = 1 / 0 } { print x } END { print 7 }",
+        NUMBERS,
+        EACH,
+        b"1\n",
+        Err((Fault::Zero, 2)),
+        Route::Redo,
+    ),
+    (
+        b"BEGIN { exit } { print } END { print x \".\" }",
+        NUMBERS,
+        EACH,
+        b".\n",
+        Ok(0),
+        Route::NoMain,
+    ),
+    (
+        b"BEGIN { print x \".\" }",
+        NUMBERS,
+        EACH,
+        b".\n",
+        Ok(0),
+        Route::NoMain,
+    ),
+    (
+        b"FNR == 2 { nextfile } { print x \":\" $1 } END { print x }",
+        NUMBERS,
+        EACH,
+        b"1:1\n2:4\n3\n",
+        Ok(0),
+        Route::NotAdmitted(Reason::NextFile),
+    ),
+    (
+        b"{ n += $1 } END { print n }",
+        NUMBERS,
+        MORE,
+        b"109\n",
+        Ok(0),
+        Route::Parallel,
+    ),
+    (
+        b"{ n += $1 } END { print n }",
+        NUMBERS,
+        Assigned {
+            first: &[(b"n", b"10")],
+            between: &[],
+            last: &[],
+        },
+        b"25\n",
+        Ok(0),
+        Route::Parallel,
+    ),
+    (
+        b"{ print; n += $1 } END { print n }",
+        NUMBERS,
+        Assigned {
+            first: &[],
+            between: &[(b"n", b"9223372036854775804")],
+            last: &[],
+        },
+        b"1\n2\n3\n4\n",
+        Err((Fault::Overflow, 4)),
+        Route::Redo,
+    ),
+    (
+        b"{ print $1 }",
+        &[(b"f", b"a:b c\n"), (b"g", b"a:b c\n")],
+        Assigned {
+            first: &[(b"FS", b":")],
+            between: &[(b"FS", b" ")],
+            last: &[],
+        },
+        b"a\na:b\n",
+        Ok(0),
+        Route::Parallel,
+    ),
+    (
+        b"{ print $1, NR } END { print NR, OFS }",
+        &[(b"f", b"a\nb;c"), (b"g", b"d;e")],
+        Assigned {
+            first: &[(b"RS", b";")],
+            between: &[(b"OFS", b"-")],
+            last: &[(b"OFS", b"+")],
+        },
+        b"a 1\nc 2\nd-3\ne-4\n4++\n",
+        Ok(0),
+        Route::Parallel,
+    ),
+    (
+        b"{ print $1, (x == 10) (x == y) } END { print z \".\" }",
+        &[(b"f", b"a\n"), (b"g", b"b\n")],
+        Assigned {
+            first: &[(b"x", b"9"), (b"x", b"010"), (b"unused", b"1")],
+            between: &[(b"y", b"x"), (b"y", b"10")],
+            last: &[(b"unused", b"2")],
+        },
+        b"a 10\nb 11\n.\n",
+        Ok(0),
+        Route::Parallel,
+    ),
+    (
+        b"{ a[x] += $1 } END { for (k in a) print k, a[k] }",
+        NUMBERS,
+        EACH,
+        b"1 6\n2 9\n",
+        Ok(0),
+        Route::Parallel,
+    ),
+    (
+        b"$1 in b { print NR } { y = b[$1] } END { print x }",
+        &[(b"f", b"1\n1\n"), (b"g", b"3\n1\n")],
+        EACH,
+        b"2\n4\n3\n",
+        Ok(0),
+        Route::Redo,
+    ),
+];
+
+// What is assigned among the files is assigned in its turn, whatever the window and the crew are, and not where the run has ended.
+#[test]
+fn feeds_have_their_assignments(rt: HostRuntime) -> Result<(), Fail> {
+    for (place, (text, files, assigned, output, ending, route)) in ASSIGNED.iter().enumerate() {
+        let shown = RunOutcome {
+            output: *output,
+            ending: *ending,
+            route: *route,
+        };
+        let trial = Trial {
+            text: *text,
+            files: *files,
+            assigned: *assigned,
+            next: b"",
+            step: 3,
             reads: 1000,
             limits: FREE,
         };
@@ -365,12 +642,11 @@ const THREE: Files = &[(b"f", b"1\n"), (b"g", b"2\n3\n")];
 /// A program, how many reads of a byte succeed, the number of the refusal, and what is written.
 type ReadRow = (&'static [u8], u64, Option<u8>, &'static [u8]);
 
-/// What BEGIN writes is written with the first records, which two reads give. The third read finds the end of the first file, and
-/// the eighth that of the second. A program without a main rule and END
-/// reads nothing, and neither does one that ends in BEGIN.
+/// What BEGIN writes is written before the first read. The third read finds the end of the first file, and the eighth that of the
+/// second. A program without a main rule and END reads nothing, and neither does one that ends in BEGIN.
 const READS: [ReadRow; 25] = [
-    (FIVE, 0, Some(6), b""),
-    (FIVE, 1, Some(6), b""),
+    (FIVE, 0, Some(6), b"0\n"),
+    (FIVE, 1, Some(6), b"0\n"),
     (FIVE, 2, Some(6), b"0\n1\n"),
     (FIVE, 3, Some(6), b"0\n1\n"),
     (FIVE, 4, Some(6), b"0\n1\n"),
@@ -378,8 +654,8 @@ const READS: [ReadRow; 25] = [
     (FIVE, 6, Some(6), b"0\n1\n2\n"),
     (FIVE, 7, Some(6), b"0\n1\n2\n3\n"),
     (FIVE, 8, None, FIVE_LINES),
-    (FIVE_IN_TURN, 0, Some(6), b""),
-    (FIVE_IN_TURN, 1, Some(6), b""),
+    (FIVE_IN_TURN, 0, Some(6), b"0\n"),
+    (FIVE_IN_TURN, 1, Some(6), b"0\n"),
     (FIVE_IN_TURN, 2, Some(6), b"0\n1\n"),
     (FIVE_IN_TURN, 3, Some(6), b"0\n1\n"),
     (FIVE_IN_TURN, 4, Some(6), b"0\n1\n"),
@@ -393,7 +669,7 @@ const READS: [ReadRow; 25] = [
     (b"BEGIN { print 6 }", 0, None, b"6\n"),
     (b"BEGIN { print 6; exit } { print }", 0, None, b"6\n"),
     (b"BEGIN { exit } { print } END { print 7 }", 0, None, b"7\n"),
-    (b"BEGIN { print 6 } END { print NR }", 0, Some(6), b""),
+    (b"BEGIN { print 6 } END { print NR }", 0, Some(6), b"6\n"),
 ];
 
 // A read fails: all that was whole before it is written and handed on, and nothing else.
@@ -403,6 +679,7 @@ fn a_read_of_a_feed_fails(rt: HostRuntime) -> Result<(), Fail> {
         let trial = Trial {
             text: *text,
             files: THREE,
+            assigned: PLAIN,
             next: b"",
             step: 1,
             reads: *reads,
@@ -427,6 +704,7 @@ fn trace_within<R: AllocGlobal + Threads + Wait>(
     let trial = Trial {
         text,
         files: THREE,
+        assigned: PLAIN,
         next: b"",
         step: 1,
         reads: 1000,
@@ -468,7 +746,7 @@ fn a_write_of_a_piece_fails(rt: HostRuntime) -> Result<(), Fail> {
     Ok(())
 }
 
-// A flush fails: each record of three is handed on, so that three flushes are too few.
+// A flush fails: what BEGIN writes and each record of three is handed on, so that three flushes are too few.
 #[test]
 fn a_flush_of_a_piece_fails(rt: HostRuntime) -> Result<(), Fail> {
     for text in [FIVE, FIVE_IN_TURN] {
@@ -507,6 +785,7 @@ fn lines_are_handed_on_before_a_read(rt: HostRuntime) -> Result<(), Fail> {
             let trial = Trial {
                 text,
                 files: NUMBERS,
+                assigned: PLAIN,
                 next: b"",
                 step,
                 reads: 1000,
@@ -562,6 +841,7 @@ fn a_feed_is_left_at_its_third_record(rt: HostRuntime) -> Result<(), Fail> {
             let trial = Trial {
                 text: *text,
                 files: &[(b"f", b""), (b"g", b"")],
+                assigned: PLAIN,
                 next: b"1\n2\n3\n4\n",
                 step: *step,
                 reads: 1000,

@@ -2,6 +2,7 @@
 
 use pawk_feeds::Feed;
 use pawk_par::{Reader, Writer};
+use pawk_settings::Assignment;
 use std::alloc::{AllocError, Global};
 use std::io;
 use std::io::{ErrorKind, Read, Write};
@@ -123,17 +124,20 @@ impl Write for Basin<'_> {
 /// Files, a name and bytes each.
 pub(crate) type Files = &'static [(&'static [u8], &'static [u8])];
 
-/// Feeds of files, in which a read gives at most `step` bytes; none ends where `next` has bytes.
+/// Feeds of files, in which a read gives at most `step` bytes; none ends where `next` has bytes. Before each but the first
+/// this is assigned.
 pub(crate) fn feeds_of<'a>(
     alloc: Global,
     files: Files,
+    between: &'a [Assignment],
     next: &'a [u8],
     step: usize,
     log: &'a Log,
-) -> Result<Vec<Feed<Reader<Tap<'a>>>>, AllocError> {
+) -> Result<Vec<Feed<'a, Reader<Tap<'a>>>>, AllocError> {
     let mut feeds = Vec::new(alloc);
-    for (name, bytes) in files {
+    for (number, (name, bytes)) in files.iter().enumerate() {
         feeds.push(Feed {
+            before: if number > 0 { between } else { &[] },
             name: Vec::from_slice(alloc, *name)?,
             source: Reader::new(Tap {
                 rest: *bytes,
@@ -150,7 +154,7 @@ pub(crate) fn feeds_of<'a>(
 /// How many reads were made of each feed.
 pub(crate) fn reads_of(
     alloc: Global,
-    feeds: &[Feed<Reader<Tap<'_>>>],
+    feeds: &[Feed<'_, Reader<Tap<'_>>>],
 ) -> Result<Vec<u64>, AllocError> {
     let mut counts = Vec::new(alloc);
     for feed in feeds {

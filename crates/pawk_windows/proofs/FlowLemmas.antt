@@ -1,6 +1,6 @@
 -- Records by number, and the rest of a run, file by file and piece by piece.
 use Rattle.std.proofs.Common.{◌≡◌, ℕ, ◌+◌, ◌<◌, Bool, true, false, if◌then◌else◌, List, [], ◌∷◌, ◌++◌, length, Option, Some, None, refl, ap, sym, ◌∙◌, subst, inl, arith, rules, tests}
-use Rattle.std.specs.Prelude.{◌==◌}
+use Rattle.std.specs.Prelude.{◌==◌, map}
 use Rattle.pawk_records.specs.Records.{records_by}
 use Rattle.pawk_record.specs.Records.{read}
 use Rattle.pawk_world.specs.Halts.{Halt}
@@ -22,7 +22,13 @@ use Rattle.pawk_semantics.proofs.Later.{Order}
 use Rattle.pawk_semantics.proofs.Going.{Track, goes_bind}
 use Rattle.pawk_semantics.proofs.InRecords.{goes_after_read, goes_rules}
 use Rattle.pawk_semantics.proofs.Everything.{everything, any_code}
-use Rattle.pawk_windows.specs.Flows.{left_through, after_piece, piece_then, rest_in_files, rest_in_file}
+use Rattle.pawk_windows.specs.Flows.{Pairs, Turn, plain_turn, left_through, after_assignments, KeepsWithout, after_piece, piece_then, rest_in_turns, rest_in_file}
+
+-- ---- assignments
+
+-- An end before which nothing is assigned is itself.
+pub unassigned : {S : Type 0} (make : Pairs → S → S) → KeepsWithout make → (e : End S) → after_assignments make [] e ≡ e
+unassigned make keeps e = λ j. record e { world = keeps e.world j }
 
 -- ---- numbers of records
 
@@ -226,7 +232,7 @@ module _ {S : Type 0} (calls : Calls S) (eres : List (List ℕ)) (code : Code) (
   one_other file there name nr (r ∷ rs) more e h k =
       ap ended (when_false (there == file) (records (Some file) e (file_items there name (nr + 1) 1 rs ++ more)) _ (other_test there file h))
 
-  module _ (rs : List ℕ) where
+  module _ (make : Pairs → S → S) (rs : List ℕ) where
     -- The records of all files after one that was left by `nextfile`.
     other_files : (file there nr : ℕ) (fs : List File) (e : End S) → file < there → e.left ≡ next_file → OtherFiles file e (items_from rs there nr fs)
     other_files file there nr [] e h is = ap (λ l. after_records calls eres code budget l e) is
@@ -242,20 +248,23 @@ module _ {S : Type 0} (calls : Calls S) (eres : List (List ℕ)) (code : Code) (
     ends_after go more file (fault f) x is h k = ap (λ l. after_records calls eres code budget l x) is
     ends_after go more file clash x is h k = ap (λ l. after_records calls eres code budget l x) is
 
-    -- The records of files in order, and END, are the rest of the run file by file.
-    pub files_follow : (file nr : ℕ) (fs : List File) (e : End S) → e.left ≡ through → ended (records None e (items_from rs file nr fs)) ≡ rest_in_files calls eres code budget rs e fs
-    files_follow file nr [] e on = ap (λ l. after_records calls eres code budget l e) on
-    files_follow file nr (f ∷ fs) e on =
+    -- Without assignments the records of files in order, and END, are the rest of the run file by file.
+    pub files_follow : KeepsWithout make → (file nr : ℕ) (fs : List File) (e : End S) → e.left ≡ through → ended (records None e (items_from rs file nr fs)) ≡ rest_in_turns calls eres code budget make [] rs e (map plain_turn fs)
+    files_follow keeps file nr [] e on =
+        ap (λ l. after_records calls eres code budget l e) on
+        ∙ sym (ap (λ y. after_records calls eres code budget through y) (unassigned make keeps e))
+    files_follow keeps file nr (f ∷ fs) e on =
         let all = records_by rs f.bytes in
         let rest = items_from rs (file + 1) (nr + length all) fs in
         let go : Option ℕ → End S → End S = λ s y. records s y rest in
-        let more : End S → Finish S = λ y. rest_in_files calls eres code budget rs y fs in
+        let more : End S → Finish S = λ y. rest_in_turns calls eres code budget make [] rs y (map plain_turn fs) in
         let x = records None e (file_items file f.name nr 0 all) in
         ap ended (follow file f.name nr 0 all rest e on)
         ∙ ends_after go more file x.left x refl
-        (λ k. files_follow (file + 1) (nr + length all) fs x k)
-        (λ k. other_files file (file + 1) (nr + length all) fs x (omega arith) k ∙ files_follow (file + 1) (nr + length all) fs (left_through x) refl)
+        (λ k. files_follow keeps (file + 1) (nr + length all) fs x k)
+        (λ k. other_files file (file + 1) (nr + length all) fs x (omega arith) k ∙ files_follow keeps (file + 1) (nr + length all) fs (left_through x) refl)
         ∙ ap (λ (y : End S). after_piece calls eres code budget more more y.left y) (alike file 0 f.name nr 0 0 all e)
+        ∙ sym (ap (λ y. piece_then calls eres code budget more more y f.name 0 all) (unassigned make keeps e))
 
     -- How a run goes on after a piece of a file, by how it was left.
     pieces_after : (go : Option ℕ → End S → End S) (next later : End S → Finish S) (l : Left) (x : End S) → x.left ≡ l → let goes_on : End S → Finish S = λ y. after_piece calls eres code budget later later y.left y in goes_on (go None x) ≡ next x → go (Some 0) x ≡ x → goes_on (after_leaving go 0 l x) ≡ after_piece calls eres code budget next later l x
@@ -266,10 +275,10 @@ module _ {S : Type 0} (calls : Calls S) (eres : List (List ℕ)) (code : Code) (
     pieces_after go next later clash x is h skips = ap (λ l. after_piece calls eres code budget later later l x) is
 
     -- The second piece of a file follows the first, unless that ends the run or leaves the file.
-    pub piece_follows : (name : List ℕ) (fnr : ℕ) (first second : List (List ℕ)) (fs : List File) (e : End S) → e.left ≡ through → rest_in_file calls eres code budget rs e name fnr (first ++ second) fs ≡ piece_then calls eres code budget (λ x. rest_in_file calls eres code budget rs x name (fnr + length first) second fs) (λ x. rest_in_files calls eres code budget rs x fs) e name fnr first
-    piece_follows name fnr first second fs e on =
-        let later : End S → Finish S = λ y. rest_in_files calls eres code budget rs y fs in
-        let next : End S → Finish S = λ y. rest_in_file calls eres code budget rs y name (fnr + length first) second fs in
+    pub piece_follows : (last : Pairs) (name : List ℕ) (fnr : ℕ) (first second : List (List ℕ)) (ts : List Turn) (e : End S) → e.left ≡ through → rest_in_file calls eres code budget make last rs e name fnr (first ++ second) ts ≡ piece_then calls eres code budget (λ x. rest_in_file calls eres code budget make last rs x name (fnr + length first) second ts) (λ x. rest_in_turns calls eres code budget make last rs x ts) e name fnr first
+    piece_follows last name fnr first second ts e on =
+        let later : End S → Finish S = λ y. rest_in_turns calls eres code budget make last rs y ts in
+        let next : End S → Finish S = λ y. rest_in_file calls eres code budget make last rs y name (fnr + length first) second ts in
         let goes_on : End S → Finish S = λ y. after_piece calls eres code budget later later y.left y in
         let n = 0 + length first in
         let rest = file_items 0 name n (fnr + length first) second in
@@ -282,7 +291,7 @@ module _ {S : Type 0} (calls : Calls S) (eres : List (List ℕ)) (code : Code) (
 
     -- ---- what was written before
 
-    module _ (appended : OutputIsAppendedLaw calls) (stays : OutputStaysLaw calls) (out : List ℕ) where
+    module _ (last : Pairs) (appended : OutputIsAppendedLaw calls) (stays : OutputStaysLaw calls) (out : List ℕ) where
       -- What was written before stays in front of what follows a piece, however that was left.
       left_output : (more later : End S → Finish S) → ((x : End S) → more (with_output_before out x) ≡ finish_with_output_before out (more x)) → ((x : End S) → later (with_output_before out x) ≡ finish_with_output_before out (later x)) → (l : Left) (x : End S) → after_piece calls eres code budget more later l (with_output_before out x) ≡ finish_with_output_before out (after_piece calls eres code budget more later l x)
       left_output more later h k through x = h x
@@ -298,15 +307,15 @@ module _ {S : Type 0} (calls : Calls S) (eres : List (List ℕ)) (code : Code) (
           ap (λ (y : End S). after_piece calls eres code budget more later y.left y) (appended eres code budget None (file_items 0 name 0 fnr first) out e)
           ∙ left_output more later h k x.left x
 
-      -- It stays in front of what the rest of a run writes, file by file.
-      pub files_output : (fs : List File) (e : End S) → rest_in_files calls eres code budget rs (with_output_before out e) fs ≡ finish_with_output_before out (rest_in_files calls eres code budget rs e fs)
-      files_output [] e = stays eres code budget through out e
-      files_output (f ∷ fs) e =
-          let more : End S → Finish S = λ y. rest_in_files calls eres code budget rs y fs in
-          piece_output more more (λ x. files_output fs x) (λ x. files_output fs x) e f.name 0 (records_by rs f.bytes)
+      -- It stays in front of what the rest of a run writes, file by file, whatever is assigned between files.
+      pub turns_output : (ts : List Turn) (e : End S) → rest_in_turns calls eres code budget make last rs (with_output_before out e) ts ≡ finish_with_output_before out (rest_in_turns calls eres code budget make last rs e ts)
+      turns_output [] e = stays eres code budget through out (after_assignments make last e)
+      turns_output (t ∷ ts) e =
+          let more : End S → Finish S = λ y. rest_in_turns calls eres code budget make last rs y ts in
+          piece_output more more (λ x. turns_output ts x) (λ x. turns_output ts x) (after_assignments make t.before e) t.file.name 0 (records_by rs t.file.bytes)
 
       -- It stays in front of what the rest of a run writes from inside a file.
-      pub file_output : (fs : List File) (e : End S) (name : List ℕ) (fnr : ℕ) (first : List (List ℕ)) → rest_in_file calls eres code budget rs (with_output_before out e) name fnr first fs ≡ finish_with_output_before out (rest_in_file calls eres code budget rs e name fnr first fs)
-      file_output fs e name fnr first =
-          let more : End S → Finish S = λ y. rest_in_files calls eres code budget rs y fs in
-          piece_output more more (λ x. files_output fs x) (λ x. files_output fs x) e name fnr first
+      pub file_output : (ts : List Turn) (e : End S) (name : List ℕ) (fnr : ℕ) (first : List (List ℕ)) → rest_in_file calls eres code budget make last rs (with_output_before out e) name fnr first ts ≡ finish_with_output_before out (rest_in_file calls eres code budget make last rs e name fnr first ts)
+      file_output ts e name fnr first =
+          let more : End S → Finish S = λ y. rest_in_turns calls eres code budget make last rs y ts in
+          piece_output more more (λ x. turns_output ts x) (λ x. turns_output ts x) e name fnr first

@@ -1,6 +1,6 @@
 -- Which records of files fault or create an element, file by file and piece by piece.
 use Rattle.std.proofs.Common.{◌≡◌, ℕ, ◌+◌, List, [], ◌∷◌, ◌++◌, length, None, refl, ap, sym, ◌∙◌, subst, inl, inr, ⊎_elim, arith}
-use Rattle.std.specs.Prelude.{◌⊎◌, ◌↔◌}
+use Rattle.std.specs.Prelude.{◌⊎◌, ◌↔◌, map}
 use Rattle.pawk_records.specs.Records.{records_by}
 use Rattle.pawk_input.specs.Input.{File, Item, file_items, items_from}
 use Rattle.pawk_input.proofs.PlanLemmas.{file_items-append}
@@ -16,8 +16,9 @@ use Rattle.pawk_commute.proofs.OrderLemmas.{store_final}
 use Rattle.pawk_merge_law.specs.Phases.{Phase, opening, in_order, traced_opening, in_order_traced, IsFault, CreatesElement, FaultsOrCreates}
 use Rattle.pawk_merge_law.proofs.OpeningLemmas.{steady}
 use Rattle.pawk_windows.specs.Windows.{phase_at}
-use Rattle.pawk_windows.specs.Redone.{PieceFaultsOr, FilesFaultOrCreate, FileFaultsOrCreates, IsAllowed}
-use Rattle.pawk_windows.proofs.FlowLemmas.{alike}
+use Rattle.pawk_windows.specs.Flows.{Pairs, Turn, plain_turn, after_assignments, KeepsWithout}
+use Rattle.pawk_windows.specs.Redone.{PieceFaultsOr, TurnsFaultOrCreate, FileFaultsOrCreates, IsAllowed}
+use Rattle.pawk_windows.proofs.FlowLemmas.{unassigned, alike}
 use Rattle.pawk_windows.proofs.PartingLemmas.{parting}
 
 -- Types that are equal are equivalent.
@@ -84,7 +85,7 @@ fault_numbers p file name nr fnr records = same_iff (bad_alike p file 0 name nr 
 
 -- ---- what was written before
 
-module _ (p : Phase) (rs : List ℕ) (appended : OutputIsAppendedLaw calls) (appended_traced : OutputIsAppendedLaw (traced calls)) (out : List ℕ) where
+module _ (make : Pairs → Globals → Globals) (p : Phase) (rs : List ℕ) (appended : OutputIsAppendedLaw calls) (appended_traced : OutputIsAppendedLaw (traced calls)) (out : List ℕ) where
   module _ (e : End Globals) (items : List Item) where
     abbrev with_more : Phase
     with_more = phase_at p (with_output_before out e)
@@ -115,14 +116,14 @@ module _ (p : Phase) (rs : List ℕ) (appended : OutputIsAppendedLaw calls) (app
       λ k. ⊎_elim (λ b. inl (subst (λ T. T) (sym more_bad) b)) (λ b. inr (more_left ∙ b.0, subst M (sym more_plain) ((h (in_order without items)).1 b.1))) k,
     )
 
-  -- What was written before files does not matter.
-  pub files_output : (fs : List File) (e : End Globals) → FilesFaultOrCreate p rs (with_output_before out e) fs ↔ FilesFaultOrCreate p rs e fs
-  files_output [] e = (λ k. k, λ k. k)
-  files_output (f ∷ fs) e = more_piece e (file_items 0 f.name 0 0 (records_by rs f.bytes)) (λ x. FilesFaultOrCreate p rs x fs) (λ x. files_output fs x)
+  -- What was written before files does not matter, whatever is assigned between them.
+  pub turns_output : (ts : List Turn) (e : End Globals) → TurnsFaultOrCreate make p rs (with_output_before out e) ts ↔ TurnsFaultOrCreate make p rs e ts
+  turns_output [] e = (λ k. k, λ k. k)
+  turns_output (t ∷ ts) e = more_piece (after_assignments make t.before e) (file_items 0 t.file.name 0 0 (records_by rs t.file.bytes)) (λ x. TurnsFaultOrCreate make p rs x ts) (λ x. turns_output ts x)
 
   -- What was written before does not matter inside a file.
-  pub file_output : (fs : List File) (e : End Globals) (name : List ℕ) (fnr : ℕ) (records : List (List ℕ)) → FileFaultsOrCreates p rs (with_output_before out e) name fnr records fs ↔ FileFaultsOrCreates p rs e name fnr records fs
-  file_output fs e name fnr records = more_piece e (file_items 0 name 0 fnr records) (λ x. FilesFaultOrCreate p rs x fs) (λ x. files_output fs x)
+  pub file_output : (ts : List Turn) (e : End Globals) (name : List ℕ) (fnr : ℕ) (records : List (List ℕ)) → FileFaultsOrCreates make p rs (with_output_before out e) name fnr records ts ↔ FileFaultsOrCreates make p rs e name fnr records ts
+  file_output ts e name fnr records = more_piece e (file_items 0 name 0 fnr records) (λ x. TurnsFaultOrCreate make p rs x ts) (λ x. turns_output ts x)
 
 -- ---- records in two parts
 
@@ -206,24 +207,24 @@ module _ (law : Laws) where
         ))
         (through_or_not x.left)
 
-  module _ (p : Phase) (rs : List ℕ) (may : IsAllowed p) where
-    -- The records of files in order fault or create exactly where they do file by file.
-    pub files_bad : (fs : List File) (file nr : ℕ) (e : End Globals) → FaultsOrCreates (phase_at p e) (items_from rs file nr fs) ↔ FilesFaultOrCreate p rs e fs
-    files_bad [] file nr e = (λ k. none_bad (phase_at p e) k, λ k. absurd k)
-    files_bad (f ∷ fs) file nr e =
+  module _ (make : Pairs → Globals → Globals) (p : Phase) (rs : List ℕ) (may : IsAllowed p) where
+    -- Without assignments the records of files in order fault or create exactly where they do file by file.
+    pub files_bad : KeepsWithout make → (fs : List File) (file nr : ℕ) (e : End Globals) → FaultsOrCreates (phase_at p e) (items_from rs file nr fs) ↔ TurnsFaultOrCreate make p rs e (map plain_turn fs)
+    files_bad keeps [] file nr e = (λ k. none_bad (phase_at p e) k, λ k. absurd k)
+    files_bad keeps (f ∷ fs) file nr e =
         let q = phase_at p e in
         let all = records_by rs f.bytes in
-        let M : End Globals → Type 0 = λ x. FilesFaultOrCreate p rs x fs in
+        let M : End Globals → Type 0 = λ x. TurnsFaultOrCreate make p rs x (map plain_turn fs) in
         let items = file_items file f.name nr 0 all in
         then_iff
-        (parts_bad q may items (items_from rs (file + 1) (nr + length all) fs) M (λ on. files_bad fs (file + 1) (nr + length all) (in_order q items)))
-        (same_iff (piece_alike q file 0 f.name nr 0 0 all M))
+        (parts_bad q may items (items_from rs (file + 1) (nr + length all) fs) M (λ on. files_bad keeps fs (file + 1) (nr + length all) (in_order q items)))
+        (same_iff (piece_alike q file 0 f.name nr 0 0 all M ∙ sym (ap (λ y. PieceFaultsOr M p y f.name 0 all) (unassigned make keeps e))))
 
     -- The records of a file in two pieces do exactly where the first does, or was left through and the second does.
-    pub pieces_bad : (e : End Globals) (name : List ℕ) (fnr : ℕ) (records more : List (List ℕ)) (fs : List File) → FileFaultsOrCreates p rs e name fnr (records ++ more) fs ↔ PieceFaultsOr (λ x. FileFaultsOrCreates p rs x name (fnr + length records) more fs) p e name fnr records
-    pieces_bad e name fnr records more fs =
+    pub pieces_bad : (e : End Globals) (name : List ℕ) (fnr : ℕ) (records more : List (List ℕ)) (ts : List Turn) → FileFaultsOrCreates make p rs e name fnr (records ++ more) ts ↔ PieceFaultsOr (λ x. FileFaultsOrCreates make p rs x name (fnr + length records) more ts) p e name fnr records
+    pieces_bad e name fnr records more ts =
         let q = phase_at p e in
-        let M : End Globals → Type 0 = λ x. FilesFaultOrCreate p rs x fs in
+        let M : End Globals → Type 0 = λ x. TurnsFaultOrCreate make p rs x ts in
         let items = file_items 0 name 0 fnr records in
         let n = 0 + length records in
         let rest = file_items 0 name n (fnr + length records) more in

@@ -1,5 +1,5 @@
 -- Whether the rest of a run faults or creates an element, file by file and piece by piece.
-use Rattle.std.specs.Prelude.{◌≡◌, ◌⊎◌, ◌↔◌, ℕ, ◌+◌, List, [], ◌∷◌, ◌++◌, length}
+use Rattle.std.specs.Prelude.{◌≡◌, ◌⊎◌, ◌↔◌, ℕ, ◌+◌, List, [], ◌∷◌, ◌++◌, length, map}
 use Rattle.pawk_records.specs.Records.{records_by}
 use Rattle.pawk_input.specs.Input.{File, file_items, items}
 use Rattle.pawk_store.specs.Globals.{Globals}
@@ -8,6 +8,7 @@ use Rattle.pawk_semantics.specs.Allows.{AllowsMain}
 use Rattle.pawk_semantics.specs.Outputs.{with_output_before}
 use Rattle.pawk_commute.specs.Settings.{PermitsFor}
 use Rattle.pawk_merge_law.specs.Phases.{Phase, opening, in_order, FaultsOrCreates}
+use Rattle.pawk_windows.specs.Flows.{Pairs, Turn, plain_turn, after_assignments, KeepsWithout}
 use Rattle.pawk_windows.specs.Windows.{phase_at}
 
 -- from this end on, records of a file, fnr of which came before them, end in a fault or create an element of an array that is no
@@ -18,14 +19,17 @@ PieceFaultsOr More p e name fnr records =
     FaultsOrCreates (phase_at p e) is
     ⊎ (((in_order (phase_at p e) is).left ≡ through) × More (in_order (phase_at p e) is))
 
--- the records of files do, each file's from where those of the file before it ended
-abbrev pub FilesFaultOrCreate : Phase → List ℕ → End Globals → List File → Type 0
-FilesFaultOrCreate p rs e [] = ⊥
-FilesFaultOrCreate p rs e (f ∷ fs) = PieceFaultsOr (λ x. FilesFaultOrCreate p rs x fs) p e f.name 0 (records_by rs f.bytes)
+-- make is what assignments make of the globals
+module _ (make : Pairs → Globals → Globals) (p : Phase) (rs : List ℕ) where
+  -- the records of files do, each file's from where those of the file before it ended, after its assignments
+  abbrev pub TurnsFaultOrCreate : End Globals → List Turn → Type 0
+  TurnsFaultOrCreate e [] = ⊥
+  TurnsFaultOrCreate e (t ∷ ts) =
+      PieceFaultsOr (λ x. TurnsFaultOrCreate x ts) p (after_assignments make t.before e) t.file.name 0 (records_by rs t.file.bytes)
 
--- the same from inside a file, of which these records are left
-abbrev pub FileFaultsOrCreates : Phase → List ℕ → End Globals → List ℕ → ℕ → List (List ℕ) → List File → Type 0
-FileFaultsOrCreates p rs e name fnr records fs = PieceFaultsOr (λ x. FilesFaultOrCreate p rs x fs) p e name fnr records
+  -- the same from inside a file, of which these records are left
+  abbrev pub FileFaultsOrCreates : End Globals → List ℕ → ℕ → List (List ℕ) → List Turn → Type 0
+  FileFaultsOrCreates e name fnr records ts = PieceFaultsOr (λ x. TurnsFaultOrCreate x ts) p e name fnr records
 
 -- the program does only what one that runs in chunks may do
 abbrev pub IsAllowed : Phase → Type 0
@@ -40,22 +44,22 @@ FaultNumbersLaw =
 -- what was written before does not matter
 abbrev pub FaultOutputLaw : Type 0
 FaultOutputLaw =
-    (p : Phase) (rs : List ℕ) (e : End Globals) (out : List ℕ) (fs : List File) →
-    (FilesFaultOrCreate p rs (with_output_before out e) fs ↔ FilesFaultOrCreate p rs e fs)
+    (make : Pairs → Globals → Globals) (p : Phase) (rs : List ℕ) (e : End Globals) (out : List ℕ) (ts : List Turn) →
+    (TurnsFaultOrCreate make p rs (with_output_before out e) ts ↔ TurnsFaultOrCreate make p rs e ts)
     × ((name : List ℕ) (fnr : ℕ) (records : List (List ℕ)) →
-    FileFaultsOrCreates p rs (with_output_before out e) name fnr records fs
-    ↔ FileFaultsOrCreates p rs e name fnr records fs)
+    FileFaultsOrCreates make p rs (with_output_before out e) name fnr records ts
+    ↔ FileFaultsOrCreates make p rs e name fnr records ts)
 
--- the records of files in order do, exactly where they do file by file
+-- without assignments the records of files in order do, exactly where they do file by file
 abbrev pub FilesFaultLaw : Type 0
 FilesFaultLaw =
-    (p : Phase) (rs : List ℕ) (files : List File) → IsAllowed p →
-    FaultsOrCreates p (items rs files) ↔ FilesFaultOrCreate p rs (opening p) files
+    (make : Pairs → Globals → Globals) → KeepsWithout make → (p : Phase) (rs : List ℕ) (files : List File) → IsAllowed p →
+    FaultsOrCreates p (items rs files) ↔ TurnsFaultOrCreate make p rs (opening p) (map plain_turn files)
 
 -- the records of a file in two pieces do, exactly where the first does, or was left through and the second does
 abbrev pub PieceFaultsLaw : Type 0
 PieceFaultsLaw =
-    (p : Phase) (rs : List ℕ) (e : End Globals) (name : List ℕ) (fnr : ℕ) (records more : List (List ℕ)) (fs : List File) →
-    IsAllowed p →
-    FileFaultsOrCreates p rs e name fnr (records ++ more) fs
-    ↔ PieceFaultsOr (λ x. FileFaultsOrCreates p rs x name (fnr + length records) more fs) p e name fnr records
+    (make : Pairs → Globals → Globals) (p : Phase) (rs : List ℕ)
+    (e : End Globals) (name : List ℕ) (fnr : ℕ) (records more : List (List ℕ)) (ts : List Turn) → IsAllowed p →
+    FileFaultsOrCreates make p rs e name fnr (records ++ more) ts
+    ↔ PieceFaultsOr (λ x. FileFaultsOrCreates make p rs x name (fnr + length records) more ts) p e name fnr records

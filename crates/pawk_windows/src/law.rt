@@ -144,11 +144,12 @@ pub fn numbers_alike<P: Policy>()
     ensures fnr { (i : P.Setting) → FnrLaw (P.calls i) }
 {}
 
-/// The records of files in order are the rest of the run file by file; the records of a file in two pieces
-/// are the first, and the second where the first neither ends the run nor leaves the file; and what was
-/// written before stays in front. Of any program and over any world.
+/// Where nothing is assigned between them, the records of files in order are the rest of the run file by
+/// file. Whatever is assigned, the records of a file in two pieces are the first, and the second where the
+/// first neither ends the run nor leaves the file; and what was written before stays in front. Of any
+/// program and over any world.
 ///
-/// POSIX.1-2017, awk, "Overall Program Structure".
+/// POSIX.1-2017, awk, "OPERANDS" (assignment) and "Overall Program Structure".
 pub fn files_follow<P: Policy>()
     ensures files { (i : P.Setting) → FilesFollowLaw (P.calls i) }
     ensures pieces { (i : P.Setting) → PieceFollowsLaw (P.calls i) }
@@ -157,8 +158,9 @@ pub fn files_follow<P: Policy>()
     output_is_appended::<P>();
 }
 
-/// The records of files end in a fault, or create an element of an array that is no reader array, exactly
-/// where they do file by file, and those of a file exactly where one of its pieces does.
+/// Where nothing is assigned between them, the records of files end in a fault, or create an element of an
+/// array that is no reader array, exactly where they do file by file; and whatever is assigned, those of a
+/// file exactly where one of its pieces does.
 pub fn faults_follow()
     ensures numbers { FaultNumbersLaw }
     ensures output { FaultOutputLaw }

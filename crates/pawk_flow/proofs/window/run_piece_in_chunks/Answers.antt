@@ -43,8 +43,8 @@ returns-clause-runs g c =
     let begins : end_of c.in_ok-prologue.prologue ≡ end_between c.args.flow =
     c.in_ok-prologue.ensures.end ∙ ap (flow_end c.args.flow.globals) c.lend-state.ensures in
     let many = c.len-chunks.ensures in
-    runs code budget c.args.piece c.args.flow c.in_ok-flow.flow (files_of c.in_ok-input.input) c.in_ok-plan-2.plan c.lend-state.result.nr
-    c.in_ok-input.ensures.file c.in_ok-plan-2.ensures.placed c.in_ok-plan-2.ensures.records
+    runs c.args.piece (files_of c.in_ok-input.input) c.in_ok-plan-2.plan c.lend-state.result.nr
+    c.in_ok-input.ensures.file c.in_ok-plan-2.ensures.placed c.in_ok-plan-2.ensures.records code budget c.args.flow c.in_ok-flow.flow
     (c.numbers_alike.ensures.numbers tt) (c.numbers_alike.ensures.fnr tt) c.in_ok-flow.end c.close.result
     (order_at _ _ _ _ (same_phase c.args.job c.args.roles.now c.in_ok-prologue.prologue c.args.flow begins) c.in_ok-flow.ensures.ends)
     c.in_ok-flow.ensures.fnr c.close.ensures.same (λ h. c.close.ensures.none (many ∙ h)) (λ h. c.close.ensures.some (subst (λ n. 0 < n) (sym many) h))
@@ -55,8 +55,8 @@ returns-clause-goes g c =
     let budget = c.args.job.budget in
     let begins : end_of c.in_ok-prologue.prologue ≡ end_between c.args.flow =
     c.in_ok-prologue.ensures.end ∙ ap (flow_end c.args.flow.globals) c.lend-state.ensures in
-    goes code budget c.args.piece c.args.flow c.in_ok-flow.flow (files_of c.in_ok-input.input) c.in_ok-plan-2.plan c.lend-state.result.nr
-    c.in_ok-input.ensures.file c.in_ok-plan-2.ensures.placed c.in_ok-plan-2.ensures.records
+    goes c.args.piece (files_of c.in_ok-input.input) c.in_ok-plan-2.plan c.lend-state.result.nr
+    c.in_ok-input.ensures.file c.in_ok-plan-2.ensures.placed c.in_ok-plan-2.ensures.records code budget c.args.flow c.in_ok-flow.flow
     c.faults_follow.ensures.numbers (roles_view c.args.roles.now) _ c.in_ok-flow.end c.close.result
     (same_phase c.args.job c.args.roles.now c.in_ok-prologue.prologue c.args.flow begins)
     c.close.ensures.same c.in_ok-flow.ensures.went

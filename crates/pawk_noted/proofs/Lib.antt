@@ -1,0 +1,2 @@
+pub mod NotingLemmas
+pub mod TracingLemmas
