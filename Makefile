@@ -42,10 +42,9 @@ build: toolchain
 	@release/gate
 	@$(MAKE) fetch
 
-# The program as rt built it last.
+# The program as the gate built it last.
 fetch:
-	@mkdir -p build
-	@cp crates/pawk/out/pawk build/pawk.new && mv build/pawk.new build/pawk
+	@release/fetch
 
 # The program in build/, whichever it is; where there is none, the released one.
 program:
@@ -56,7 +55,7 @@ demo:
 	@printf '1\n2\n3\n' | build/pawk -j 2 -c 1 '{ n += $$1 } END { print n }'
 
 test: program
-	@tests/run rows programs tables devices flows threads cookbook completions memory
+	@tests/run rows programs tables devices flows threads bounds cookbook completions memory
 
 prove: toolchain
 	@release/gate always

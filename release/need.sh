@@ -3,6 +3,8 @@
 #
 #   need TOOL..     ends with status 1 where a tool is missing, and names the Debian package that has it
 #   fail WORD..     says why, and ends with status 1
+#   join OBJECT PROGRAM [FLAG..]
+#                   links the object of the program with glue.c by $compiler, with further flags of it
 #   value KEY FILE  what a file of lines `key: value` has for the key; nothing where it has no such line
 
 fail() {
@@ -29,6 +31,15 @@ need() {
         esac
         fail "the command $tool is missing: on Debian it comes by apt-get install $package"
     done
+}
+
+# $compiler may have words of its own. -pthread is for a C library before 2.34, which has threads in a file of their own.
+join() {
+    object=$1
+    joined=$2
+    shift 2
+    # shellcheck disable=SC2086,SC2154
+    $compiler -O2 -pthread -Wl,--gc-sections "$@" -o "$joined" "$object" release/glue.c
 }
 
 value() {

@@ -10,7 +10,9 @@ use crate::whole::run_whole;
 use crate::words::unambiguous;
 use clap::Error;
 use pawk_explain::Script;
+use pawk_par::StreamRefusal;
 use std::alloc::{AllocError, Global};
+use std::fs::File;
 use std::io;
 use std::io::{IsTerminal, Read, Write};
 use std::rt::{Clock, Files};
@@ -27,7 +29,7 @@ fn run_script<'a, R, I, O>(
     output: &mut Outlet<O>,
 ) -> Result<End, RunFailure<'a>>
 where
-    R: Files + AllocGlobal + Threads + Wait + Clock + Copy + Send + Drop + 'static,
+    R: Files<File = File> + AllocGlobal + Threads + Wait + Clock + Copy + Send + Drop + 'static,
     I: Read + Copy + Send + Drop + 'static,
     O: Write,
 {
@@ -79,7 +81,7 @@ fn do_script<R, I, O, E>(
     errors: &mut E,
 ) -> io::Result<u8>
 where
-    R: Files + AllocGlobal + Threads + Wait + Clock + Copy + Send + Drop + 'static,
+    R: Files<File = File> + AllocGlobal + Threads + Wait + Clock + Copy + Send + Drop + 'static,
     I: Read + Copy + Send + Drop + 'static,
     O: Write,
     E: Write + IsTerminal,
@@ -88,6 +90,31 @@ where
     match run_script(rt, line, script, explains, input, output) {
         Ok(end) => report_end(&end, line.tools.why, errors),
         Err(stop) => report_with_explanation(rt.alloc(), line, script, stop, output, errors),
+    }
+}
+
+/// Whether the memory of this process is limited to this number of bytes, if to any: a block of as many is refused then. The
+/// limit is set before `main` by what the program is linked with (release/glue.c), which reads it from the command line.
+fn is_limited(alloc: Global, memory: Option<u64>) -> bool {
+    match memory {
+        Some(bytes) => {
+            let size = usize::try_from(bytes).unwrap_or(usize::MAX);
+            Vec::<u8>::with_capacity(alloc, size).is_err()
+        }
+        None => true,
+    }
+}
+
+/// The text of the program that is asked for.
+fn read_program<'a, R: Files + AllocGlobal, I: Read>(
+    rt: &R,
+    line: &CommandLine<'a>,
+    input: &mut I,
+) -> Result<Script<'a>, RunFailure<'a>> {
+    if is_limited(rt.alloc(), line.memory) {
+        read_script(rt, &line.program, input)
+    } else {
+        Err(RunFailure::from(StreamRefusal::Memory))
     }
 }
 
@@ -100,13 +127,13 @@ fn do_line<R, I, O, E>(
     errors: &mut E,
 ) -> io::Result<u8>
 where
-    R: Files + AllocGlobal + Threads + Wait + Clock + Copy + Send + Drop + 'static,
+    R: Files<File = File> + AllocGlobal + Threads + Wait + Clock + Copy + Send + Drop + 'static,
     I: Read + Copy + Send + Drop + 'static,
     O: Write,
     E: Write + IsTerminal,
 {
     let mut input = input;
-    match read_script(rt, &line.program, &mut input) {
+    match read_program(rt, line, &mut input) {
         Ok(script) => do_script(rt, line, &script, input, output, errors),
         Err(stop) => {
             let none = Script::new(rt.alloc());
@@ -125,7 +152,7 @@ fn do_words<R, I, O, E>(
     errors: &mut E,
 ) -> io::Result<u8>
 where
-    R: Files + AllocGlobal + Threads + Wait + Clock + Copy + Send + Drop + 'static,
+    R: Files<File = File> + AllocGlobal + Threads + Wait + Clock + Copy + Send + Drop + 'static,
     I: Read + Copy + Send + Drop + 'static,
     O: Write,
     E: Write + IsTerminal,
@@ -152,7 +179,7 @@ pub(crate) fn command<R, I, O, E>(
     mut errors: E,
 ) -> u8
 where
-    R: Files + AllocGlobal + Threads + Wait + Clock + Copy + Send + Drop + 'static,
+    R: Files<File = File> + AllocGlobal + Threads + Wait + Clock + Copy + Send + Drop + 'static,
     I: Read + Copy + Send + Drop + 'static,
     O: Write + Drop,
     E: Write + IsTerminal + Drop,

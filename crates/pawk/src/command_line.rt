@@ -104,6 +104,8 @@ pub(crate) struct CommandLine<'a> {
     window: Option<u64>,
     /// Whether the input is read whole before it is run, and the output is held.
     is_whole: bool,
+    /// How many bytes of memory the run may have, where `-m` says it.
+    pub(crate) memory: Option<u64>,
     pub(crate) host: Host,
     pub(crate) tools: Tools,
     ghost some: { 1 ≤ workers },
@@ -179,6 +181,16 @@ fn window<'a>(alloc: Global) -> Arg<'a> {
             "The size in bytes of the window in which files are run piece by piece, 1 to 1073741824 [default: a quarter of the files, 1048576 to 16777216]",
         )
         .value_parser(value_parser!(u64).range(1..=1_073_741_824))
+}
+
+fn memory<'a>(alloc: Global) -> Arg<'a> {
+    Arg::new(alloc, "memory")
+        .short('m')
+        .value_name("bytes")
+        .help(
+            "The number of bytes of memory that the run may ask for, 1 to 1099511627776 [default: no limit]",
+        )
+        .value_parser(value_parser!(u64).range(1..=1_099_511_627_776))
 }
 
 fn steps<'a>(alloc: Global) -> Arg<'a> {
@@ -296,7 +308,8 @@ fn definition<'a>(alloc: Global) -> Result<Command<'a>, AllocError> {
             "whole",
             "Read all of the input before it is run, and write no output before the run has ended",
         ))?
-        .arg(steps(alloc))?;
+        .arg(steps(alloc))?
+        .arg(memory(alloc))?;
     with_tools(alloc, command)?
         .arg(program(alloc))?
         .arg(operands(alloc))
@@ -337,7 +350,7 @@ fn read_operands<'a>(
 
 /// Whether the values of all options that are numbers are written in digits alone.
 fn are_plain(matches: &ArgMatches<'_>) -> bool {
-    ["workers", "chunk", "window", "steps"]
+    ["workers", "chunk", "window", "steps", "memory"]
         .iter()
         .all(|id| is_plain(matches, *id))
 }
@@ -393,6 +406,7 @@ fn line_of<'a>(
         chunk: matches.get_one::<u64>("chunk"),
         window: matches.get_one::<u64>("window"),
         is_whole: matches.get_flag("whole"),
+        memory: matches.get_one::<u64>("memory"),
         host,
         tools: read_tools(matches),
     })

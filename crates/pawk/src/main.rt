@@ -5,6 +5,7 @@ mod ahead;
 mod command;
 mod command_line;
 mod deep;
+mod device;
 mod explanations;
 mod feeds;
 mod files;
@@ -17,6 +18,7 @@ mod outlet;
 mod reports;
 mod script;
 mod statistics;
+mod stripes;
 mod whole;
 mod words;
 

@@ -18,6 +18,7 @@ use pawk_store::Names;
 use pawk_syntax::{SyntaxRefusal, parse, show};
 use pawk_threads::{Cutting, Ending, Job};
 use std::alloc::{AllocError, Global};
+use std::fs::File;
 use std::io::{Read, Write};
 use std::rt::{Clock, Files};
 use std::sync::Wait;
@@ -152,14 +153,14 @@ fn open_input<'a, 'p, R, I>(
     input: I,
 ) -> Result<Vec<Feed<'p, FeedSource<'a, R, I>>>, RunFailure<'a>>
 where
-    R: Files + AllocGlobal + Clock,
+    R: Files<File = File> + AllocGlobal + Clock,
     I: Drop,
 {
     if !ready.job.reads_records() {
         return Ok(Vec::new(rt.alloc()));
     }
     let turns = line.operands.turns(rt.alloc(), ready.operands)?;
-    open_feeds(rt, turns.as_slice(), input)
+    open_feeds(rt, turns.as_slice(), input, usize::from(line.workers))
 }
 
 /// Where the output of a run goes: a writer whose writes are timed, and whose bytes may be held.
@@ -175,7 +176,7 @@ fn run_order<'d, R, I, O>(
     is_held: bool,
 ) -> Result<Flowed, RunFailure<'d>>
 where
-    R: Files + AllocGlobal + Threads + Wait + Clock + Copy + Send + Drop + 'static,
+    R: Files<File = File> + AllocGlobal + Threads + Wait + Clock + Copy + Send + Drop + 'static,
     I: Read + Copy + Send + Drop + 'static,
     O: Write,
     requires workers { IsCrew order.workers }
@@ -229,7 +230,7 @@ fn run_ready<'a, R, I, O>(
     output: &mut O,
 ) -> Result<End, RunFailure<'a>>
 where
-    R: Files + AllocGlobal + Threads + Wait + Clock + Copy + Send + Drop + 'static,
+    R: Files<File = File> + AllocGlobal + Threads + Wait + Clock + Copy + Send + Drop + 'static,
     I: Read + Copy + Send + Drop + 'static,
     O: Write,
 {
@@ -303,7 +304,7 @@ fn run_request<'a, R, I, O>(
     output: &mut O,
 ) -> Result<End, RunFailure<'a>>
 where
-    R: Files + AllocGlobal + Threads + Wait + Clock + Copy + Send + Drop + 'static,
+    R: Files<File = File> + AllocGlobal + Threads + Wait + Clock + Copy + Send + Drop + 'static,
     I: Read + Copy + Send + Drop + 'static,
     O: Write,
 {
@@ -343,7 +344,7 @@ pub(crate) fn run_whole<'a, R, I, O>(
     output: &mut O,
 ) -> Result<End, RunFailure<'a>>
 where
-    R: Files + AllocGlobal + Threads + Wait + Clock + Copy + Send + Drop + 'static,
+    R: Files<File = File> + AllocGlobal + Threads + Wait + Clock + Copy + Send + Drop + 'static,
     I: Read + Copy + Send + Drop + 'static,
     O: Write,
 {

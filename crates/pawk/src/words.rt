@@ -3,7 +3,7 @@
 use std::alloc::{AllocError, Global};
 
 /// The letters of the options that take a value.
-const VALUED: &[u8] = b"Fvfjcsw";
+const VALUED: &[u8] = b"Fvfjcswm";
 
 /// What a word may be.
 #[derive(Clone, Copy)]
