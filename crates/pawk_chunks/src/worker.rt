@@ -1,6 +1,6 @@
 //! One worker.
 
-ghost use Rattle.std.specs.Prelude.{◌≡◌, ◌<◌, length, All, IfOk, MatchOption};
+ghost use Rattle.std.specs.Prelude.{◌≡◌, ◌<◌, length, All, IfOk, MatchOption, OnErr};
 ghost use Rattle.pawk_board.specs.Claims.{IsUndone, HasClaimed};
 ghost use Rattle.pawk_chunks.specs.Task.{IsTask};
 ghost use Rattle.pawk_chunks.specs.Worker.{HasWorked, IsResultOf, Runs, Skips, stops};
@@ -70,6 +70,7 @@ fn one_chunk<'a, G: Gate>(
     ensures seat { IfOk result (λ o. MatchOption o (Skips seat.old.hand chunk seat.new.hand)
         (λ r. IsResultOf task.now (chunk, r)
         × Runs seat.old.hand chunk (stops r.left) seat.new.hand)) }
+    ensures drawn { OnErr result (seat.new.hand.drawn ≡ seat.old.hand.drawn) }
 {
     if task.board.past_stop(seat, chunk) {
         return Ok(None);
@@ -88,7 +89,7 @@ fn one_chunk<'a, G: Gate>(
 /// The plan is of the task's input by its `RS`, of at most one byte, the board has as many chunks as the plan, and the
 /// seat is the board's and was not told that none is left.
 ///
-/// The error comes where memory was refused; it then draws no more.
+/// The error comes where memory was refused; it then draws no more, and the seat was not told that none is left.
 pub fn work<'a, G: Gate>(
     alloc: Global,
     task: &Task<'_, 'a>,
@@ -102,6 +103,7 @@ pub fn work<'a, G: Gate>(
     ensures worked { IfOk result (λ v.
         HasWorked task.now.board.now.chunks seat.old.hand seat.new.hand v.items) }
     ensures results { IfOk result (λ v. All (IsResultOf task.now) v.items) }
+    ensures undone { OnErr result (IsUndone task.now.board.now.chunks seat.new.hand) }
 {
     let mut results = Vec::new(alloc);
     loop {

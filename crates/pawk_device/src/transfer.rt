@@ -2,6 +2,7 @@
 
 ghost use Rattle.std.specs.Prelude.{◌≡◌, ◌≢◌, ◌≤◌, ◌<◌, take, drop, length, Ok, Err, IfOk, IfErr, IfSome, OnOk};
 ghost use Rattle.std.specs.Io.KnownBytes.{Appends};
+ghost use Rattle.pawk_input.specs.Limits.{most_bytes};
 
 use crate::device::{Failed, Sink, Source};
 use pawk_input::LIMIT;
@@ -61,12 +62,12 @@ fn read_pieces<S: Source>(
 ) -> Result<Vec<u8>, ReadStop>
     requires { 0 < length piece.old }
     ensures bytes { IfOk result (λ v. IfSome (S.left source.old) (λ bytes. v.items ≡ bytes)) }
-    ensures small { IfOk result (λ v. length v.items ≤ LIMIT) }
+    ensures small { IfOk result (λ v. length v.items ≤ most_bytes) }
     ensures failed { result ≡ Err ReadStop.Failed → S.failures source.old < S.failures source.new }
     ensures unfailing { result ≢ Err ReadStop.Failed
         → S.failures source.new ≡ S.failures source.old }
     ensures large { result ≡ Err ReadStop.TooLarge →
-        IfSome (S.left source.old) (λ bytes. LIMIT < length bytes) }
+        IfSome (S.left source.old) (λ bytes. most_bytes < length bytes) }
 {
     let mut bytes = Vec::new(alloc);
     loop {
@@ -91,12 +92,12 @@ fn read_pieces<S: Source>(
 /// memory was refused; the source was then read in part.
 pub fn read_all<S: Source>(alloc: Global, source: &mut S) -> Result<Vec<u8>, ReadStop>
     ensures bytes { IfOk result (λ v. IfSome (S.left source.old) (λ bytes. v.items ≡ bytes)) }
-    ensures small { IfOk result (λ v. length v.items ≤ LIMIT) }
+    ensures small { IfOk result (λ v. length v.items ≤ most_bytes) }
     ensures failed { result ≡ Err ReadStop.Failed → S.failures source.old < S.failures source.new }
     ensures unfailing { result ≢ Err ReadStop.Failed
         → S.failures source.new ≡ S.failures source.old }
     ensures large { result ≡ Err ReadStop.TooLarge →
-        IfSome (S.left source.old) (λ bytes. LIMIT < length bytes) }
+        IfSome (S.left source.old) (λ bytes. most_bytes < length bytes) }
 {
     let mut piece = zeros(alloc, PIECE)?;
     read_pieces(alloc, source, &mut piece)

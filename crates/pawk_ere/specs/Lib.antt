@@ -1,6 +1,7 @@
 pub use Rattle.pawk_ere_syntax.specs.Pattern
 pub use Rattle.pawk_ere_syntax.specs.Tokens
 pub use Rattle.pawk_ere_syntax.specs.Refusals
+pub use Rattle.pawk_ere_syntax.specs.Causes
 pub use Rattle.pawk_ere_syntax.specs.Spelled
 pub mod Runs
 pub mod Words

@@ -1,6 +1,7 @@
 // A cache of the expressions that were read.
 
 ghost use Rattle.pawk_ere.specs.Caches.{AreOfTexts, IsAnswerOfText, IsOfItsText, IsOfText};
+ghost use Rattle.pawk_ere_syntax.specs.Causes.{IsRefusalOf};
 ghost use Rattle.pawk_ere_syntax.specs.Pattern.{Pattern};
 ghost use Rattle.pawk_ere_syntax.specs.Refusals.{IfTooLarge, Tells};
 ghost use Rattle.pawk_ere_syntax.specs.Tokens.{IsTooLarge, SpellsEre};
@@ -120,6 +121,7 @@ impl Cache {
         ensures refused { IfErr result
             (λ why. Tells why ((e : Pattern) → SpellsEre pattern.now e → ⊥)) }
         ensures too_large { IfErr result (λ why. IfTooLarge why (IsTooLarge pattern.now)) }
+        ensures cause { IfErr result (IsRefusalOf pattern.now) }
         ensures capacity { self.new ≡ self.old }
     {
         if let Some(loan) = take_latest(&mut self.latest, pattern) {
@@ -154,6 +156,7 @@ impl Cache {
         ensures refused { IfErr result
             (λ why. Tells why ((e : Pattern) → SpellsEre pattern.now e → ⊥)) }
         ensures too_large { IfErr result (λ why. IfTooLarge why (IsTooLarge pattern.now)) }
+        ensures cause { IfErr result (IsRefusalOf pattern.now) }
         ensures capacity { self.new ≡ self.old }
     {
         if let Some(answer) = search_latest(&mut self.latest, pattern, text, from) {

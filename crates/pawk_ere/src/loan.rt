@@ -1,6 +1,7 @@
 // A matcher with the text of its expression.
 
 ghost use Rattle.pawk_ere.specs.Caches.{IsOfText};
+ghost use Rattle.pawk_ere_syntax.specs.Causes.{IsRefusalOf};
 ghost use Rattle.pawk_ere_syntax.specs.Pattern.{Pattern};
 ghost use Rattle.pawk_ere_syntax.specs.Refusals.{IfTooLarge, Tells};
 ghost use Rattle.pawk_ere_syntax.specs.Tokens.{IsTooLarge, SpellsEre};
@@ -27,6 +28,7 @@ impl Loan {
         ensures refused { IfErr result
             (λ why. Tells why ((e : Pattern) → SpellsEre pattern.now e → ⊥)) }
         ensures too_large { IfErr result (λ why. IfTooLarge why (IsTooLarge pattern.now)) }
+        ensures cause { IfErr result (IsRefusalOf pattern.now) }
     {
         let ere = Ere::parse(alloc, pattern)?;
         let matcher = Matcher::new(alloc, &ere)?;

@@ -6,6 +6,8 @@ pub mod Reading
 pub mod Weights
 pub mod Progress
 pub mod Shapes
+pub mod Causes
+pub mod OneCause
 pub mod BracketItems
 pub mod BoundNumerals
 pub mod EscapeNumerals

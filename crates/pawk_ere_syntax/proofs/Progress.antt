@@ -8,7 +8,7 @@ use Rattle.pawk_ere_syntax.proofs.Weights.{weight_run, weight_step, finish_size}
 use Rattle.pawk_ere_syntax.specs.Tokens.{token_at, Lexes, SpellsEre, HasForm, IsTooLarge}
 use Rattle.pawk_ere_syntax.proofs.Reading.{run-tokens_of, run-is_tokens_of, some_inj}
 
-nothing_read : (x : EreToken × List ℕ) → token_at [] ≡ Some x → ⊥
+pub nothing_read : (x : EreToken × List ℕ) → token_at [] ≡ Some x → ⊥
 unfolding token_at
 nothing_read x h = cc
 
@@ -166,3 +166,27 @@ form_at_end bytes rest st e p over h =
 
 pub spells_at_end : (bytes rest : List ℕ) (st : Builder) (e : Pattern) → Progress bytes rest st → rest ≡ [] → finish st ≡ Some e → weight st ≤ 4096 → SpellsEre bytes e
 spells_at_end bytes rest st e p h g small = let x = finish_size st e g in spells bytes st e (subst (λ r. Progress bytes r st) h p) g (omega arith)
+
+-- a text that has the form of an expression has a token next, a step for it, and an expression at its end
+pub formed_token : (bytes rest : List ℕ) (st : Builder) → Progress bytes rest st → HasForm bytes → (rest ≡ [] → ⊥) → token_at rest ≡ None → ⊥
+formed_token bytes rest st p f more h = let x = left bytes rest st f.0 p f.1 f.2 in go x.0 x.1
+  where
+    go : (ts : List EreToken) → Lexes rest ts → ⊥
+    go [] l = more l
+    go (t ∷ ts) l = let x = sym h ∙ l.1 in cc
+
+pub formed_step : (bytes rest more : List ℕ) (st : Builder) (t : EreToken) → Progress bytes rest st → HasForm bytes → token_at rest ≡ Some (t, more) → step t st ≡ None → ⊥
+formed_step bytes rest more st t p f h stuck =
+    let x = left bytes rest st f.0 p f.1 f.2 in
+    let y = behind rest more t x.0 h x.1 in
+    let z : then_run (run y.0) None ≡ Some f.0 = ap (then_run (run y.0)) (sym stuck) ∙ ap (λ us. run us st) (sym y.2) ∙ x.2 in
+    cc
+
+pub formed_end : (bytes rest : List ℕ) (st : Builder) → Progress bytes rest st → HasForm bytes → rest ≡ [] → finish st ≡ None → ⊥
+formed_end bytes rest st p f over h =
+    let x = left bytes [] st f.0 (subst (λ r. Progress bytes r st) over p) f.1 f.2 in
+    let y = sym h ∙ go x.0 x.1 x.2 in cc
+  where
+    go : (ts : List EreToken) → Lexes [] ts → run ts st ≡ Some f.0 → finish st ≡ Some f.0
+    go [] l r = r
+    go (t ∷ ts) l r = absurd (nothing_read (t, l.0) l.1)

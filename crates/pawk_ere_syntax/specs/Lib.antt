@@ -14,3 +14,4 @@ pub mod Refusals
 pub mod Builder
 pub mod Spelled
 pub mod Shape
+pub mod Causes

@@ -1,10 +1,12 @@
 // Bounds of repetitions.
 
 ghost use Rattle.pawk_ere_syntax.specs.Bounds.{after_comma, between, bound_at, from_least, most_of, number_at, number_more};
+ghost use Rattle.pawk_ere_syntax.specs.Causes.{Stops, bound_cause, comma_cause, most_cause};
+ghost use Rattle.pawk_ere_syntax.specs.declared.refusal.EreRefusal.TheVariants.{Form, Bound};
 ghost use Rattle.pawk_ere_syntax.specs.Grammar.{IsSound};
 ghost use Rattle.pawk_ere_syntax.specs.Limits.{greatest_bound};
 ghost use Rattle.pawk_ere_syntax.specs.Refusals.{Gives};
-ghost use Rattle.std.specs.Prelude.{◌≡◌, ◌+◌, ◌<◌, ◌≤◌, length, IfOk};
+ghost use Rattle.std.specs.Prelude.{◌≡◌, ◌+◌, ◌<◌, ◌≤◌, length, IfErr, IfOk};
 
 use crate::limits::GREATEST_BOUND;
 use crate::refusal::EreRefusal;
@@ -36,6 +38,7 @@ fn more_digits(value: u16, text: &[u8]) -> (u16, &[u8])
 #[tactic(auto, unfolding(crate::specs::Bounds::number_at))]
 fn number(text: &[u8]) -> Result<(u16, &[u8]), EreRefusal>
     ensures value { Gives (λ x. (x.0, x.1.now)) result (number_at text.now) }
+    ensures stops { IfErr result (Stops (number_at text.now) Form) }
     ensures small { IfOk result (λ x. x.0 ≤ greatest_bound + 1) }
     ensures shorter { IfOk result (λ x. length x.1.now < length text.now) }
 {
@@ -48,6 +51,7 @@ fn number(text: &[u8]) -> Result<(u16, &[u8]), EreRefusal>
 /// A repetition of at least `least` turns, where that bound is not too great.
 fn turns_from(least: u16, rest: &[u8]) -> Result<(EreToken, &[u8]), EreRefusal>
     ensures value { Gives (λ x. (x.0, x.1.now)) result (from_least least rest.now) }
+    ensures stops { IfErr result (Stops (from_least least rest.now) Bound) }
     ensures same { IfOk result (λ x. x.1.now ≡ rest.now) }
     ensures sound { IfOk result (λ x. IsSound x.0) }
 {
@@ -60,6 +64,7 @@ fn turns_from(least: u16, rest: &[u8]) -> Result<(EreToken, &[u8]), EreRefusal>
 /// A repetition of `least` to `most` turns, where the bounds are in order and not too great.
 fn turns_between(least: u16, most: u16, rest: &[u8]) -> Result<(EreToken, &[u8]), EreRefusal>
     ensures value { Gives (λ x. (x.0, x.1.now)) result (between least most rest.now) }
+    ensures stops { IfErr result (Stops (between least most rest.now) Bound) }
     ensures same { IfOk result (λ x. x.1.now ≡ rest.now) }
     ensures sound { IfOk result (λ x. IsSound x.0) }
 {
@@ -72,6 +77,8 @@ fn turns_between(least: u16, most: u16, rest: &[u8]) -> Result<(EreToken, &[u8])
 /// The greater bound, and the closing brace.
 fn greater_bound(least: u16, text: &[u8]) -> Result<(EreToken, &[u8]), EreRefusal>
     ensures value { Gives (λ x. (x.0, x.1.now)) result (most_of least (number_at text.now)) }
+    ensures stops { IfErr result
+        (Stops (most_of least (number_at text.now)) (most_cause (number_at text.now))) }
     ensures shorter { IfOk result (λ x. length x.1.now < length text.now) }
     ensures sound { IfOk result (λ x. IsSound x.0) }
 {
@@ -85,6 +92,7 @@ fn greater_bound(least: u16, text: &[u8]) -> Result<(EreToken, &[u8]), EreRefusa
 /// What is after the comma of a bound.
 fn open_bound(least: u16, text: &[u8]) -> Result<(EreToken, &[u8]), EreRefusal>
     ensures value { Gives (λ x. (x.0, x.1.now)) result (after_comma least text.now) }
+    ensures stops { IfErr result (Stops (after_comma least text.now) (comma_cause text.now)) }
     ensures shorter { IfOk result (λ x. length x.1.now < length text.now) }
     ensures sound { IfOk result (λ x. IsSound x.0) }
 {
@@ -103,6 +111,7 @@ fn open_bound(least: u16, text: &[u8]) -> Result<(EreToken, &[u8]), EreRefusal>
 #[tactic(auto, unfolding(crate::specs::Bounds::bound_at))]
 pub fn bound(text: &[u8]) -> Result<(EreToken, &[u8]), EreRefusal>
     ensures value { Gives (λ x. (x.0, x.1.now)) result (bound_at text.now) }
+    ensures stops { IfErr result (Stops (bound_at text.now) (bound_cause (number_at text.now))) }
     ensures shorter { IfOk result (λ x. length x.1.now < length text.now) }
     ensures sound { IfOk result (λ x. IsSound x.0) }
 {

@@ -1,9 +1,11 @@
 // Bracket expressions.
 
 ghost use Rattle.pawk_ere_syntax.specs.Brackets.{begins, bracket_at, class_at, from_point, goes_on, item_at, item_ranges, items, point_at, range_to};
+ghost use Rattle.pawk_ere_syntax.specs.Causes.{Stops, bracket_cause, from_cause, item_cause, items_cause, point_cause, range_cause};
+ghost use Rattle.pawk_ere_syntax.specs.declared.refusal.EreRefusal.TheVariants.{Bracket};
 ghost use Rattle.pawk_ere_syntax.specs.Refusals.{Gives};
 ghost use Rattle.pawk_ere_syntax.specs.Sets.{none, with_ranges};
-ghost use Rattle.std.specs.Prelude.{◌≡◌, ℕ, ◌+◌, ◌<◌, ◌≤◌, ◌&&◌, true, false, not, drop, length, None, Some, IfOk, IfSome, MatchOption};
+ghost use Rattle.std.specs.Prelude.{◌≡◌, ℕ, ◌+◌, ◌<◌, ◌≤◌, ◌&&◌, true, false, not, drop, length, None, Some, IfErr, IfOk, IfSome, MatchOption};
 
 use crate::byte_set::ByteSet;
 use crate::class::{CLASSES, Class, class_among};
@@ -31,6 +33,7 @@ fn begins(byte: u8, text: &[u8]) -> bool
 #[tactic(auto, unfolding(crate::specs::Brackets::class_at))]
 fn class_item(text: &[u8]) -> Result<(BracketItem, &[u8]), EreRefusal>
     ensures value { Gives (λ x. (x.0, x.1.now)) result (class_at text.now) }
+    ensures stops { IfErr result (Stops (class_at text.now) Bracket) }
     ensures shorter { IfOk result (λ x. length x.1.now ≤ length text.now) }
 {
     match class_among(&CLASSES, text) {
@@ -40,9 +43,10 @@ fn class_item(text: &[u8]) -> Result<(BracketItem, &[u8]), EreRefusal>
 }
 
 /// A point: a byte itself, or one that an escape makes.
-#[tactic(auto, unfolding(crate::specs::Brackets::point_at))]
+#[tactic(auto, unfolding(crate::specs::Brackets::point_at, crate::specs::Causes::point_cause))]
 fn point(text: &[u8]) -> Result<(u8, &[u8]), EreRefusal>
     ensures value { Gives (λ x. (x.0, x.1.now)) result (point_at text.now) }
+    ensures stops { IfErr result (Stops (point_at text.now) (point_cause text.now)) }
     ensures shorter { IfOk result (λ x. length x.1.now < length text.now) }
 {
     match text {
@@ -72,6 +76,8 @@ fn is_range(text: &[u8]) -> bool
 /// A range up to the point that is next.
 fn range_from(low: u8, text: &[u8]) -> Result<(BracketItem, &[u8]), EreRefusal>
     ensures value { Gives (λ x. (x.0, x.1.now)) result (range_to low (point_at text.now)) }
+    ensures stops { IfErr result (Stops (range_to low (point_at text.now))
+        (range_cause (point_at text.now) (point_cause text.now))) }
     ensures shorter { IfOk result (λ x. length x.1.now < length text.now) }
 {
     let (high, rest) = point(text)?;
@@ -84,6 +90,8 @@ fn range_from(low: u8, text: &[u8]) -> Result<(BracketItem, &[u8]), EreRefusal>
 /// A point, or a range from it.
 fn point_or_range(text: &[u8]) -> Result<(BracketItem, &[u8]), EreRefusal>
     ensures value { Gives (λ x. (x.0, x.1.now)) result (from_point (point_at text.now)) }
+    ensures stops { IfErr result (Stops (from_point (point_at text.now))
+        (from_cause (point_at text.now) (point_cause text.now))) }
     ensures shorter { IfOk result (λ x. length x.1.now < length text.now) }
 {
     let (low, rest) = point(text)?;
@@ -94,9 +102,10 @@ fn point_or_range(text: &[u8]) -> Result<(BracketItem, &[u8]), EreRefusal>
 }
 
 /// An item.
-#[tactic(auto, unfolding(crate::specs::Brackets::item_at))]
+#[tactic(auto, unfolding(crate::specs::Brackets::item_at, crate::specs::Causes::item_cause))]
 fn one_item(first: bool, text: &[u8]) -> Result<(BracketItem, &[u8]), EreRefusal>
     ensures value { Gives (λ x. (x.0, x.1.now)) result (item_at first text.now) }
+    ensures stops { IfErr result (Stops (item_at first text.now) (item_cause first text.now)) }
     ensures shorter { IfOk result (λ x. length x.1.now < length text.now) }
 {
     match text {
@@ -142,6 +151,8 @@ fn end(first: bool, text: &[u8]) -> Option<&[u8]>
 fn items_of(text: &[u8]) -> Result<(ByteSet, &[u8]), EreRefusal>
     ensures value { (n : ℕ) → length text.now ≤ n
         → Gives (λ x. (x.0.members, x.1.now)) result (items n none true text.now) }
+    ensures stops { (n : ℕ) → length text.now ≤ n
+        → IfErr result (Stops (items n none true text.now) (items_cause n true text.now)) }
     ensures shorter { IfOk result (λ x. length x.1.now < length text.now) }
 {
     let mut set = ByteSet::none();
@@ -161,9 +172,10 @@ fn items_of(text: &[u8]) -> Result<(ByteSet, &[u8]), EreRefusal>
 }
 
 /// What is after `[`: the set, and what follows.
-#[tactic(auto, unfolding(crate::specs::Brackets::bracket_at))]
+#[tactic(auto, unfolding(crate::specs::Brackets::bracket_at, crate::specs::Causes::bracket_cause))]
 pub fn bracket(text: &[u8]) -> Result<(ByteSet, &[u8]), EreRefusal>
     ensures value { Gives (λ x. (x.0.members, x.1.now)) result (bracket_at text.now) }
+    ensures stops { IfErr result (Stops (bracket_at text.now) (bracket_cause text.now)) }
     ensures shorter { IfOk result (λ x. length x.1.now ≤ length text.now) }
 {
     if begins(b'^', text) {

@@ -1,9 +1,10 @@
 // Extended regular expressions that were read.
 
+ghost use Rattle.pawk_ere_syntax.specs.Causes.{IsRefusalOf};
 ghost use Rattle.pawk_ere_syntax.specs.Refusals.{IfTooLarge, Tells};
 ghost use Rattle.pawk_ere_syntax.specs.Tokens.{HasForm, IsTooLarge, SpellsEre, SpellsNone};
 ghost use Rattle.pawk_ere_syntax.specs.Tree.{pattern_of};
-ghost use Rattle.std.specs.Prelude.{◌≡◌, length, IfErr, IfOk};
+ghost use Rattle.std.specs.Prelude.{◌≡◌, ◌<◌, length, IfErr, IfOk, OnErr};
 
 use crate::builder::Builder;
 use crate::expression::Expression;
@@ -19,6 +20,7 @@ fn build(alloc: Global, text: &[u8]) -> Result<Expression, EreRefusal>
     ensures found { IfOk result (λ e. SpellsEre text.now (pattern_of e)) }
     ensures refused { IfErr result (λ why. Tells why (SpellsNone text.now)) }
     ensures too_large { IfErr result (λ why. IfTooLarge why (IsTooLarge text.now)) }
+    ensures cause { IfErr result (IsRefusalOf text.now) }
 {
     let mut builder = Builder::new(alloc);
     let mut size = 0;
@@ -48,11 +50,13 @@ impl Ere {
     /// Reads an expression (awk, "Regular Expressions"; XBD 9.4). An empty text is the empty expression.
     ///
     /// Refused with 1 to 6 is only a text that spells none, with the first cause in reading order; with 6 only a text
-    /// that has the form of an expression, whose size is above the greatest. 7: out of memory.
+    /// that has the form of an expression, whose size is above the greatest. 7: out of memory, never for an empty text.
     pub fn parse(alloc: Global, text: &[u8]) -> Result<Ere, EreRefusal>
         ensures found { IfOk result (λ e. SpellsEre text.now (expression e)) }
         ensures refused { IfErr result (λ why. Tells why (SpellsNone text.now)) }
         ensures too_large { IfErr result (λ why. IfTooLarge why (IsTooLarge text.now)) }
+        ensures cause { IfErr result (IsRefusalOf text.now) }
+        ensures empty { OnErr result (0 < length text.now) }
     {
         if text.is_empty() {
             return Ok(Ere {

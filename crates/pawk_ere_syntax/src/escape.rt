@@ -1,8 +1,10 @@
 // Escapes.
 
+ghost use Rattle.pawk_ere_syntax.specs.Causes.{Stops};
+ghost use Rattle.pawk_ere_syntax.specs.declared.refusal.EreRefusal.TheVariants.{Escape};
 ghost use Rattle.pawk_ere_syntax.specs.Escapes.{escape_at, letter, octal_more};
 ghost use Rattle.pawk_ere_syntax.specs.Refusals.{Gives};
-ghost use Rattle.std.specs.Prelude.{◌≡◌, ◌<◌, ◌≤◌, length, IfOk};
+ghost use Rattle.std.specs.Prelude.{◌≡◌, ◌<◌, ◌≤◌, length, IfErr, IfOk};
 
 use crate::refusal::EreRefusal;
 
@@ -46,6 +48,7 @@ fn more_octal(value: u8, text: &[u8]) -> (u8, &[u8])
 #[tactic(auto, unfolding(crate::specs::Escapes::escape_at))]
 pub fn escape(text: &[u8]) -> Result<(u8, &[u8]), EreRefusal>
     ensures value { Gives (λ x. (x.0, x.1.now)) result (escape_at text.now) }
+    ensures stops { IfErr result (Stops (escape_at text.now) Escape) }
     ensures shorter { IfOk result (λ x. length x.1.now < length text.now) }
 {
     match text {

@@ -2,6 +2,7 @@
 
 ghost use Rattle.pawk_ere_syntax.specs.Bounds.{bound_at};
 ghost use Rattle.pawk_ere_syntax.specs.Brackets.{bracket_at};
+ghost use Rattle.pawk_ere_syntax.specs.Causes.{IsFirstCause};
 ghost use Rattle.pawk_ere_syntax.specs.Escapes.{escape_at};
 ghost use Rattle.pawk_ere_syntax.specs.Items.{IsBracket};
 ghost use Rattle.pawk_ere_syntax.specs.Limits.{greatest_bound, greatest_size};
@@ -9,6 +10,7 @@ ghost use Rattle.pawk_ere_syntax.specs.Numerals.{IsBound, IsEscape};
 ghost use Rattle.pawk_ere_syntax.specs.Pattern.{Holds, Pattern};
 ghost use Rattle.pawk_ere_syntax.specs.Sets.{InSome, all_bytes, complement, none, only, with_ranges};
 ghost use Rattle.pawk_ere_syntax.specs.Tokens.{SpellsEre};
+ghost use Rattle.pawk_ere_syntax.specs.declared.refusal.EreRefusal.{EreRefusal};
 ghost use Rattle.pawk_ere_syntax.specs.declared.token.EreToken.TheVariants.{Times};
 ghost use Rattle.std.specs.Prelude.{◌≡◌, ◌↔◌, ◌⊎◌, ◌<◌, ℕ, Bool, List, Option, Some};
 
@@ -51,4 +53,10 @@ pub fn bounds_are_numerals()
 /// as many as there are and make a byte; and each is read so.
 pub fn escapes_are_bytes()
     ensures { (s rest : List ℕ) (b : ℕ) → (escape_at s ≡ Some (b, rest)) ↔ IsEscape s b rest }
+{}
+
+/// A text has at most one first cause for which it is refused.
+pub fn a_text_has_one_cause()
+    ensures { (bytes : List ℕ) (a b : EreRefusal) → IsFirstCause bytes a → IsFirstCause bytes b
+        → a ≡ b }
 {}

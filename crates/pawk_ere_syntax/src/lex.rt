@@ -1,9 +1,10 @@
 // Cutting a text into tokens.
 
+ghost use Rattle.pawk_ere_syntax.specs.Causes.{Stops, token_cause};
 ghost use Rattle.pawk_ere_syntax.specs.Grammar.{IsSound};
 ghost use Rattle.pawk_ere_syntax.specs.Refusals.{Gives};
 ghost use Rattle.pawk_ere_syntax.specs.Tokens.{token_at};
-ghost use Rattle.std.specs.Prelude.{◌≡◌, ◌<◌, length, IfOk};
+ghost use Rattle.std.specs.Prelude.{◌≡◌, ◌<◌, length, IfErr, IfOk};
 
 use crate::bound::bound;
 use crate::bracket::bracket;
@@ -13,9 +14,10 @@ use crate::refusal::EreRefusal;
 use crate::token::EreToken;
 
 /// The first token, and what follows. Refused is only a text that begins with none.
-#[tactic(auto, unfolding(crate::specs::Tokens::token_at))]
+#[tactic(auto, unfolding(crate::specs::Tokens::token_at, crate::specs::Causes::token_cause))]
 pub fn token(text: &[u8]) -> Result<(EreToken, &[u8]), EreRefusal>
     ensures value { Gives (λ x. (x.0, x.1.now)) result (token_at text.now) }
+    ensures stops { IfErr result (Stops (token_at text.now) (token_cause text.now)) }
     ensures shorter { IfOk result (λ x. length x.1.now < length text.now) }
     ensures sound { IfOk result (λ x. IsSound x.0) }
 {

@@ -1,5 +1,6 @@
 // A first look at a text: which form is not defined, and where. It keeps two words whatever the text.
 
+ghost use Rattle.pawk_ere_syntax.specs.Causes.{IsFirstCause, Stops, place_cause, step_cause, token_cause};
 ghost use Rattle.pawk_ere_syntax.specs.Refusals.{Gives, TellsOfForm};
 ghost use Rattle.pawk_ere_syntax.specs.Grammar.{IsSound};
 ghost use Rattle.pawk_ere_syntax.specs.Shape.{shape_after};
@@ -32,6 +33,8 @@ struct Shape {
 fn advance(shape: Shape, token: &EreToken) -> Result<Shape, EreRefusal>
     requires { shape.open_groups + 1 < 2 ^ 64 }
     ensures value { Gives (λ new. new) result (shape_after token.now shape) }
+    ensures stops { IfErr result
+        (Stops (shape_after token.now shape) (step_cause token.now shape)) }
     ensures grows { IfOk result (λ new. new.open_groups ≤ shape.open_groups + 1) }
 {
     let open_groups = shape.open_groups;
@@ -69,6 +72,7 @@ fn advance(shape: Shape, token: &EreToken) -> Result<Shape, EreRefusal>
 /// The shape after a `)`.
 fn close(shape: Shape) -> Result<Shape, EreRefusal>
     ensures value { Gives (λ new. new) result (shape_after Close shape) }
+    ensures stops { IfErr result (Stops (shape_after Close shape) (step_cause Close shape)) }
     ensures shrinks { IfOk result (λ new. new.open_groups + 1 ≡ shape.open_groups) }
 {
     if shape.open_groups == 0 {
@@ -86,6 +90,8 @@ fn close(shape: Shape) -> Result<Shape, EreRefusal>
 /// The first token, and what follows. Where no repetition is allowed, a `{` is reported as such, whatever its numbers.
 fn next(shape: Shape, text: &[u8]) -> Result<(EreToken, &[u8]), EreRefusal>
     ensures value { Gives (λ x. (x.0, x.1.now)) result (token_at text.now) }
+    ensures stops { IfErr result
+        (Stops (token_at text.now) (place_cause shape.last (token_cause text.now))) }
     ensures shorter { IfOk result (λ x. length x.1.now < length text.now) }
     ensures sound { IfOk result (λ x. IsSound x.0) }
 {
@@ -101,6 +107,7 @@ pub fn check(text: &[u8]) -> Result<(), EreRefusal>
     requires { length text.now ≡ 0 → ⊥ }
     ensures form { IfOk result (λ x. HasForm text.now) }
     ensures refused { IfErr result (λ why. TellsOfForm why (SpellsNone text.now)) }
+    ensures cause { IfErr result (IsFirstCause text.now) }
 {
     let mut shape = Shape {
         open_groups: 0,

@@ -9,7 +9,7 @@ pub RefusesMany-longer : (n m most : ℕ) (r : CutRefusal) → n ≤ m → Refus
 RefusesMany-longer n m most NoRecord le h = h
 RefusesMany-longer n m most NotRising le h = h
 RefusesMany-longer n m most TooMany le h = omega arith
-RefusesMany-longer n m most Memory le h = h
+RefusesMany-longer n m most Memory le h = omega arith
 
 -- one more chunk was moved from what is to come to what is there
 pub moved : {A : Type 0} (old new all : List A) (x : A) (rest more : List A) → old ++ rest ≡ all → rest ≡ x ∷ more → new ≡ old ++ x ∷ [] → new ++ more ≡ all

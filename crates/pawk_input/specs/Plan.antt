@@ -1,6 +1,6 @@
 -- Chunks of the input: a plan writes the list of all records as consecutive runs, none over two
 -- files.
-use Rattle.std.specs.Prelude.{ℕ, ◌+◌, ◌≡◌, ◌<◌, ◌≤◌, ◌⊎◌, Bool, true, nat_lt, nat_le, map}
+use Rattle.std.specs.Prelude.{ℕ, ◌+◌, ◌/◌, ◌≡◌, ◌≢◌, ◌<◌, ◌≤◌, ◌⊎◌, Bool, true, nat_lt, nat_le, map}
 use Rattle.std.specs.Prelude.{◌==◌, ◌||◌, ◌&&◌, if◌then◌else◌, List, [], ◌∷◌, ◌++◌, length, take}
 use Rattle.std.specs.Prelude.{drop, All, Contains, Option, None, Some, MatchOption}
 use Rattle.std.specs.Prelude.{slice_range}
@@ -8,7 +8,7 @@ use Rattle.std.specs.List.{slice_index_or, flat_map, list_any}
 use Rattle.pawk_records.specs.Records.{records_by}
 use Rattle.pawk_records.specs.Begins.{BeginsAt, begins_by}
 use Rattle.pawk_input.specs.Input.{File, Item, file_at, file_items, items, total_size}
-use Rattle.pawk_input.specs.Limits.{most_bytes}
+use Rattle.pawk_input.specs.Limits.{most_bytes, most_chunks}
 use Rattle.pawk_input.specs.declared.cutting.Chunk.{Chunk}
 use Rattle.pawk_input.specs.declared.steps.SizeStep.{SizeStep}
 use Rattle.pawk_input.specs.declared.cutting.CutRefusal.{CutRefusal}
@@ -209,12 +209,12 @@ cut_fault rs files cuts = cut_fault_from rs files None cuts
 -- ---- what the two plans are refused with
 
 -- a list of `count` chunks is refused because that is more than `most`, or because memory was
--- refused
+-- refused, which is asked for only where there is a chunk
 abbrev pub RefusesMany : ℕ → ℕ → CutRefusal → Type 0
 RefusesMany count most NoRecord = ⊥
 RefusesMany count most NotRising = ⊥
 RefusesMany count most TooMany = most < count
-RefusesMany count most Memory = Unit {0}
+RefusesMany count most Memory = 0 < count
 
 -- a cutting is refused with what is wrong with the first cut at fault; where none is, because it
 -- has more than `most` chunks, or because memory was refused
@@ -223,6 +223,13 @@ RefusesCuts rs files cuts most refusal =
     MatchOption (cut_fault rs files cuts)
     (RefusesMany (length (cut_at rs files cuts)) most refusal)
     (λ fault. refusal ≡ fault)
+
+-- why no plan of one chunk is given: there is not one file, or chunks of this size might be too many,
+-- or there is a chunk, for which memory was refused
+abbrev pub IsNotOne : List ℕ → List File → ℕ → Type 0
+IsNotOne rs files bytes =
+    (length files ≢ 1)
+    ⊎ ((most_chunks ≤ length (file_at files 0).bytes / bytes) ⊎ (0 < length (cut_at rs files [])))
 
 -- ---- steps of the plans
 

@@ -1,13 +1,13 @@
 //! Plans: the input cut into chunks of whole records.
 
 ghost use Rattle.std.specs.Prelude.{◌≡◌, ℕ, ◌+◌, ◌<◌, ◌≤◌, [], None, All, drop, flat_map, length};
-ghost use Rattle.std.specs.Prelude.{slice_get, IfOk, IfErr, IfSome, MatchOption};
+ghost use Rattle.std.specs.Prelude.{slice_get, IfOk, IfErr, IfNone, IfSome, MatchOption};
 ghost use Rattle.pawk_input.specs.Limits.{most_bytes, most_chunks};
 ghost use Rattle.pawk_input.specs.Input.{IsReady, files_of};
 ghost use Rattle.pawk_input.specs.Walk.{items_left};
 ghost use Rattle.pawk_input.specs.Counts.{block_counts};
 ghost use Rattle.pawk_input.specs.Plan.{AreChunksOf, AreConsecutive, ArePlaced, CannotFollow};
-ghost use Rattle.pawk_input.specs.Plan.{IsPlanOf, RefusesCuts, RefusesMany, chunk_items, plan_after};
+ghost use Rattle.pawk_input.specs.Plan.{IsNotOne, IsPlanOf, RefusesCuts, RefusesMany, chunk_items, plan_after};
 ghost use Rattle.pawk_input.specs.Plan.{cut_at, cut_fault, sized, stepped};
 
 use crate::counts::block_number;
@@ -56,8 +56,8 @@ impl Plan {
     ///
     /// `rs` holds the byte at which records end, or none for paragraphs.
     ///
-    /// Gives `TooMany` where that are more than 1,048,576 chunks, and `Memory` where memory was
-    /// refused.
+    /// Gives `TooMany` where that are more than 1,048,576 chunks, and `Memory` where memory for a
+    /// chunk was refused.
     pub fn by_size(alloc: Global, input: &Input, rs: &[u8], bytes: u64) -> Result<Plan, CutRefusal>
         requires one_byte { length rs.now ≤ 1 }
         requires ready { IsReady rs.now input.now }
@@ -111,8 +111,8 @@ impl Plan {
     ///
     /// `rs` holds the byte at which records end, or none for paragraphs.
     ///
-    /// Gives `TooMany` where that are more than 1,048,576 chunks, and `Memory` where memory was
-    /// refused.
+    /// Gives `TooMany` where that are more than 1,048,576 chunks, and `Memory` where memory for a
+    /// chunk was refused.
     pub fn by_steps(
         alloc: Global,
         input: &Input,
@@ -157,7 +157,7 @@ impl Plan {
     }
 
     /// The plan of one chunk, made without a look at the records but the first: where the input is one file, its plan by this
-    /// size cannot be refused, and memory is there; else `None`.
+    /// size cannot be refused, and memory for the chunk is there; else `None`.
     ///
     /// `rs` holds the byte at which records end, or none for paragraphs.
     pub fn of_one(alloc: Global, input: &Input, rs: &[u8], bytes: u64) -> Option<Plan>
@@ -169,6 +169,7 @@ impl Plan {
         ensures few { IfSome result (λ plan. length plan ≤ most_chunks) }
         ensures accepted { IfSome result
             (λ _. length (sized rs.now (files_of input.now) bytes) ≤ most_chunks) }
+        ensures none { IfNone result (IsNotOne rs.now (files_of input.now) bytes) }
     {
         if input.files() != 1 || input.size(0) as u64 / bytes >= MOST_CHUNKS as u64 {
             return None;
@@ -196,7 +197,7 @@ impl Plan {
     /// Gives what is wrong with the first cut at fault: `NoRecord` where no record after its file's
     /// first begins there, else `NotRising` where it does not come after the cut before it, by
     /// files first, then by offsets. Where no cut is at fault it gives `TooMany` where that are more
-    /// than 1,048,576 chunks, and `Memory` where memory was refused.
+    /// than 1,048,576 chunks, and `Memory` where memory for a chunk was refused.
     pub fn at(
         alloc: Global,
         input: &Input,

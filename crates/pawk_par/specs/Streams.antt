@@ -4,7 +4,7 @@ use Rattle.std.specs.Io.KnownBytes.{Keeps, Appends}
 use Rattle.pawk_lex.specs.Bytes.{Text}
 use Rattle.pawk_code.specs.Programs.{Code}
 use Rattle.pawk_input.specs.Input.{File}
-use Rattle.pawk_input.specs.declared.files.TheConstants.{LIMIT}
+use Rattle.pawk_input.specs.Limits.{most_bytes}
 use Rattle.pawk_store.specs.Globals.{Globals}
 use Rattle.pawk_semantics.specs.Records.{End}
 use Rattle.pawk_semantics.specs.Runs.{Finish, reads_records}
@@ -98,7 +98,7 @@ WhyUnread left old new (refusal.Program why) = ⊥
 WhyUnread left old new (refusal.Settings why) = ⊥
 WhyUnread left old new refusal.Read = old < new
 WhyUnread left old new (refusal.Write count) = ⊥
-WhyUnread left old new refusal.Input = IfSome left (λ bytes. LIMIT < length bytes)
+WhyUnread left old new refusal.Input = IfSome left (λ bytes. most_bytes < length bytes)
 
 -- why an output was not written to its end: the bytes that the sink took, and its count of failures, before and after
 abbrev pub WhyUnwritten : List ℕ → Option (List ℕ) → Option (List ℕ) → ℕ → ℕ → StreamRefusal → Type 0
@@ -140,4 +140,4 @@ WhyRefused wanted old new (refusal.Write count) =
     (old.write_failures < new.write_failures)
     × ((b : Basis wanted old new) × TookPart (meant b).output old.taken new.taken count)
 WhyRefused wanted old new refusal.Input =
-    AreWanted wanted × IfSome old.left (λ bytes. LIMIT < length bytes) × WroteNothing old new
+    AreWanted wanted × IfSome old.left (λ bytes. most_bytes < length bytes) × WroteNothing old new

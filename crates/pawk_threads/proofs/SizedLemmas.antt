@@ -5,7 +5,7 @@ use Rattle.pawk_records.specs.Begins.{begins_by, begins_at, places_where}
 use Rattle.pawk_records.specs.Records.{records_by}
 use Rattle.pawk_input.specs.Input.{File, total_size}
 use Rattle.pawk_input.specs.Plan.{chunks_at, chunks_of, places_by_size, places_by_size_from, sized}
-use Rattle.pawk_input.specs.declared.cutting.TheConstants.{MOST_CHUNKS}
+use Rattle.pawk_input.specs.Limits.{most_chunks}
 use Rattle.pawk_input.specs.declared.cutting.CutRefusal.{CutRefusal}
 use Rattle.pawk_input.specs.declared.cutting.CutRefusal.TheVariants.{NoRecord, NotRising, TooMany, Memory}
 use Rattle.pawk_threads.specs.Cuttings.{IsRefused, PlanRefused, size_taken}
@@ -76,22 +76,22 @@ count_all rs size file nr (f ∷ fs) =
     }
 
 -- there are no more than there may be, where the files are not
-pub not_many : (rs : List ℕ) (files : List File) (bytes : ℕ) → length files ≤ MOST_CHUNKS → length (sized rs files (size_taken files bytes)) ≤ MOST_CHUNKS
-not_many rs files bytes few = by_test (nat_le (length (sized rs files size)) MOST_CHUNKS) refl
+pub not_many : (rs : List ℕ) (files : List File) (bytes : ℕ) → length files ≤ most_chunks → length (sized rs files (size_taken files bytes)) ≤ most_chunks
+not_many rs files bytes few = by_test (nat_le (length (sized rs files size)) most_chunks) refl
   where
     size : ℕ
     size = size_taken files bytes
 
     k : ℕ
-    k = max (MOST_CHUNKS - length files) 1
+    k = max (most_chunks - length files) 1
 
     count : CountAll size (total_size files) (length files) (length (sized rs files size))
     count = count_all rs size 0 0 files
 
-    by_test : (b : Bool) → nat_le (length (sized rs files size)) MOST_CHUNKS ≡ b → length (sized rs files size) ≤ MOST_CHUNKS
+    by_test : (b : Bool) → nat_le (length (sized rs files size)) most_chunks ≡ b → length (sized rs files size) ≤ most_chunks
     by_test true is = grind (arith)
     by_test false is =
-        let many : MOST_CHUNKS < length (sized rs files size) = grind (arith) in
+        let many : most_chunks < length (sized rs files size) = grind (arith) in
         let enough : k ≤ count.others = grind (arith, many, count.few) in
         let great : total_size files / k + 1 ≤ size = grind (arith) in
         let wide : (total_size files / k + 1) * k ≤ size * k = mul-le-mul_right k great in
@@ -100,12 +100,12 @@ not_many rs files bytes few = by_test (nat_le (length (sized rs files size)) MOS
         let over = le-div (total_size files / k + 1) (total_size files) k some (omega (arith, wide, all, count.small)) in
         absurd (omega (arith, over))
 
-why_not : (rs : List ℕ) (files : List File) (bytes : ℕ) (e : CutRefusal) → length files ≤ MOST_CHUNKS → e ≢ Memory → PlanRefused rs files (AtLeast bytes) e → ⊥
+why_not : (rs : List ℕ) (files : List File) (bytes : ℕ) (e : CutRefusal) → length files ≤ most_chunks → e ≢ Memory → PlanRefused rs files (AtLeast bytes) e → ⊥
 why_not rs files bytes NoRecord few other why = why
 why_not rs files bytes NotRising few other why = why
 why_not rs files bytes TooMany few other why = let most = not_many rs files bytes few in omega (arith, most, why)
 why_not rs files bytes Memory few other why = other refl
 
 -- a plan by at least a size is there where the files are not too many
-pub is_planned : (rs : List ℕ) (files : List File) (bytes : ℕ) → length files ≤ MOST_CHUNKS → IsRefused rs files (AtLeast bytes) → ⊥
+pub is_planned : (rs : List ℕ) (files : List File) (bytes : ℕ) → length files ≤ most_chunks → IsRefused rs files (AtLeast bytes) → ⊥
 is_planned rs files bytes few refused = why_not rs files bytes refused.0 few refused.1 refused.2

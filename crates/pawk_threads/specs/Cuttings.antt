@@ -6,7 +6,7 @@ use Rattle.pawk_input.specs.declared.cutting.Chunk.{Chunk}
 use Rattle.pawk_input.specs.Plan.{cut_at, sized, RefusesMany, RefusesCuts}
 use Rattle.pawk_input.specs.declared.cutting.CutRefusal.{CutRefusal}
 use Rattle.pawk_input.specs.declared.cutting.CutRefusal.TheVariants.{Memory}
-use Rattle.pawk_input.specs.declared.cutting.TheConstants.{MOST_CHUNKS}
+use Rattle.pawk_input.specs.Limits.{most_chunks}
 use Rattle.pawk_store.specs.Globals.{Globals}
 use Rattle.pawk_semantics.specs.Records.{End}
 use Rattle.pawk_threads.specs.Routes.{IsPlanned, separator_of}
@@ -22,7 +22,7 @@ IsSized (At cuts) = Unit {0}
 -- The size that is taken where at least this one is asked for. As many chunks as there may be beside one for each file have no
 -- more than all bytes together.
 abbrev pub size_taken : List File → ℕ → ℕ
-size_taken files bytes = max (total_size files / max (MOST_CHUNKS - length files) 1 + 1) bytes
+size_taken files bytes = max (total_size files / max (most_chunks - length files) 1 + 1) bytes
 
 -- the plan is the one of the cuts, where they are asked for; sizes may be greater than what is asked for
 abbrev pub IsAsked : List ℕ → List File → Cutting → List Chunk → Type 0
@@ -32,9 +32,9 @@ IsAsked rs files (At cuts) plan = plan ≡ cut_at rs files cuts.items
 
 -- the plan of this cutting, by this RS, is refused so
 abbrev pub PlanRefused : List ℕ → List File → Cutting → CutRefusal → Type 0
-PlanRefused rs files (Size bytes) e = RefusesMany (length (sized rs files bytes)) MOST_CHUNKS e
-PlanRefused rs files (AtLeast bytes) e = RefusesMany (length (sized rs files (size_taken files bytes))) MOST_CHUNKS e
-PlanRefused rs files (At cuts) e = RefusesCuts rs files cuts.items MOST_CHUNKS e
+PlanRefused rs files (Size bytes) e = RefusesMany (length (sized rs files bytes)) most_chunks e
+PlanRefused rs files (AtLeast bytes) e = RefusesMany (length (sized rs files (size_taken files bytes))) most_chunks e
+PlanRefused rs files (At cuts) e = RefusesCuts rs files cuts.items most_chunks e
 
 -- there is no plan of this cutting, memory aside
 abbrev pub IsRefused : List ℕ → List File → Cutting → Type 0

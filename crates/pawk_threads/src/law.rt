@@ -3,7 +3,7 @@
 ghost use Rattle.std.specs.Prelude.{◌≢◌, ◌≤◌, ℕ, List, length};
 ghost use Rattle.pawk_code.specs.Programs.{Code};
 ghost use Rattle.pawk_input.specs.Input.{File};
-ghost use Rattle.pawk_input.specs.declared.cutting.TheConstants.{MOST_CHUNKS};
+ghost use Rattle.pawk_input.specs.Limits.{most_chunks};
 ghost use Rattle.pawk_semantics.specs.Runs.{disallowed};
 ghost use Rattle.pawk_threads.specs.Cuttings.{IsRefused};
 ghost use Rattle.pawk_threads.specs.Routes.{whole_run};
@@ -38,6 +38,6 @@ pub(crate) fn never_disallowed()
 /// There is a plan by at least a size wherever there are no more files than there may be chunks. A law,
 /// which takes and leaves nothing.
 pub fn at_least_law()
-    ensures { (rs : List ℕ) (files : List File) (bytes : ℕ) → length files ≤ MOST_CHUNKS
+    ensures { (rs : List ℕ) (files : List File) (bytes : ℕ) → length files ≤ most_chunks
         → ¬ IsRefused rs files (cutting.AtLeast bytes) }
 {}

@@ -1,6 +1,7 @@
 //! One worker that counts.
 
-ghost use Rattle.std.specs.Prelude.{◌≡◌, ◌<◌, All, IfOk};
+ghost use Rattle.std.specs.Prelude.{◌≡◌, ◌<◌, All, IfOk, OnErr};
+ghost use Rattle.pawk_board.specs.Claims.{IsUndone};
 ghost use Rattle.pawk_board.specs.Views.{fresh};
 ghost use Rattle.pawk_input.specs.Input.{files_of};
 ghost use Rattle.pawk_workers.specs.Counting.{HasDrawn, IsCountIn, IsCountTask, counts_in, numbers};
@@ -27,7 +28,7 @@ fn count_watched<G: Gate>(task: &CountTask<'_>, place: FilePlace, number: u64, g
 /// One worker: it draws blocks from the task's board until none is left, and gives the count of each with its number, counted
 /// from 0, in the order in which it drew them. The gate is called round each block.
 ///
-/// The error comes where memory was refused; it then draws no more.
+/// The error comes where memory was refused; it then draws no more, and was not told that no block is left.
 pub(crate) fn count_drawn<G: Gate>(
     alloc: Global,
     task: &CountTask<'_>,
@@ -40,6 +41,7 @@ pub(crate) fn count_drawn<G: Gate>(
     ensures drawn { IfOk result
         (λ v. HasDrawn task.now.board.now.chunks seat.new.hand (numbers v.items)) }
     ensures counts { IfOk result (λ v. All (IsCountIn (counts_in task.now)) v.items) }
+    ensures undone { OnErr result (IsUndone task.now.board.now.chunks seat.new.hand) }
 {
     let mut counts = Vec::new(alloc);
     let mut place = FilePlace { file: 0, before: 0 };

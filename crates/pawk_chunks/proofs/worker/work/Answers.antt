@@ -1,4 +1,4 @@
-use Rattle.std.proofs.Common.{All, sym, ap, ◌∙◌, subst}
+use Rattle.std.proofs.Common.{◌<◌, All, Result, Ok, Err, OnErr, sym, ap, ◌∙◌, subst}
 use Rattle.std.proofs.lemmas.List.Elements.{All-push}
 use Rattle.pawk_board.specs.declared.hand.Hand.{Hand}
 use Rattle.pawk_board.proofs.Rising.{fewer_left}
@@ -68,3 +68,20 @@ loop-results-preserved g c =
       so_far = skips c.args.seat.now.hand old.hand C n c.loop-results.results.items c.one_chunk.new.seat.hand c.loop-results.invariant.so_far (is_chunk C n old new c.in-Chunk.ensures) (drew_less C n old new c.in-Chunk.ensures) skip;
       made = c.loop-results.invariant.made;
     }
+
+on_err : {A E : Type 0} (r : Result A E) (P : Type 0) → P → OnErr r P
+on_err (Ok x) P p = tt
+on_err (Err e) P p = p
+
+-- the result of the chunk is not kept, and the chunk was the last that was drawn
+pub returns-in_err-push-in-Some-clause-undone : goal.returns-in_err-push-in-Some-clause-undone
+returns-in_err-push-in-Some-clause-undone g c =
+    let C = c.args.task.now.board.now.chunks in
+    let n = c.in-Chunk.chunk in
+    let old = c.loop-results.seat in
+    let new = c.claim.new.seat in
+    let fact = rw c.in-Some.is at c.in_ok-result-in-Chunk.ensures.seat in
+    let stop = stops c.in-Some.result.left in
+    let ran = subst (λ (x : Hand). Runs x n stop c.one_chunk.new.seat.hand) (drew_chunk C n old new c.in-Chunk.ensures) fact.1 in
+    let undone = All-push (λ m. m < C) old.hand.drawn n c.loop-results.invariant.so_far.undone (is_chunk C n old new c.in-Chunk.ensures) in
+    on_err _ _ (subst (All (λ m. m < C)) (sym (runs_drawn old.hand n stop c.one_chunk.new.seat.hand ran)) undone)

@@ -1,7 +1,7 @@
 use Rattle.std.proofs.Common.{◌≡◌, ℕ, List, ◌++◌, take, subst, sym, ap, ◌∙◌, arith}
 use Rattle.std.proofs.lemmas.List.{append-nil}
 use Rattle.std.specs.Io.KnownBytes.{Consumes}
-use Rattle.pawk_input.specs.declared.files.TheConstants.{LIMIT}
+use Rattle.pawk_input.specs.Limits.{most_bytes}
 use Rattle.pawk_device.proofs.TransferLemmas.{Consumes-more, all_given, given_most}
 use Rattle.pawk_device.proofs.transfer.read_pieces.Goals as goal
 
@@ -20,7 +20,7 @@ returns-then-len-gt-LIMIT-clause-large g c = λ _.
     let bs = c.loop-count.bytes.items in
     let given = Consumes-more _ _ _ bs (take c.in-Ok.count c.read.new.buffer) c.loop-count.invariant.gave c.in-Ok.ensures.bytes.0 in
     let all = subst (λ l. Consumes (g.S.Source.left c.args.source.now) (g.S.Source.left c.read.new.self) l) (sym (c.in_ok-extend_from_slice.ensures.items ∙ ap (λ l. l ++ take c.in-Ok.count c.read.new.buffer) c.make_room.ensures)) given in
-    given_most _ _ c.extend_from_slice.new.self.items LIMIT all (omega arith)
+    given_most _ _ c.extend_from_slice.new.self.items most_bytes all (omega arith)
 
 pub loop-count-preserved : goal.loop-count-preserved
 loop-count-preserved g c =

@@ -7,7 +7,8 @@ use Rattle.pawk_ere_syntax.specs.Pattern.{Pattern}
 use Rattle.pawk_ere_syntax.specs.Refusals.{Gives, Tells, IfTooLarge}
 use Rattle.pawk_ere_syntax.specs.Tokens.{SpellsEre, IsTooLarge}
 use Rattle.pawk_ere_syntax.specs.Tree.{pattern_of}
-use Rattle.pawk_ere_syntax.proofs.Progress.{Progress, progress_step, no_token, no_step, none_at_end, too_large, spells_at_end, is_too_large}
+use Rattle.pawk_ere_syntax.proofs.Causes.{memory_only, memory_at_end}
+use Rattle.pawk_ere_syntax.proofs.Progress.{Progress, formed_token, formed_step, formed_end, progress_step, no_token, no_step, none_at_end, too_large, spells_at_end, is_too_large}
 use Rattle.pawk_ere_syntax.proofs.Refused.{tells_form, form_only, not_empty, no_length, is_empty_of}
 use Rattle.pawk_ere_syntax.proofs.Weights.{weight_step}
 use Rattle.pawk_ere_syntax.proofs.ere.build.Goals as goal
@@ -73,3 +74,22 @@ too_large' (Err why) o Q g = form_only why (o ≡ None) Q (o ≡ None) (λ x. x)
 
 pub returns-clause-too_large : goal.returns-clause-too_large
 returns-clause-too_large c = too_large' _ _ _ c.finish.ensures
+
+pub returns-in_err-next-clause-cause : goal.returns-in_err-next-clause-cause
+returns-in_err-next-clause-cause c =
+    let p = err_from_is_err_and c.from_residual.result c.from_residual.ensures.1 in
+    let more = not_empty c.loop-rest.rest.now c.is_empty.result c.is_empty.ensures c.loop-rest-test.true in
+    rw (p.1, p.2) (memory_only _ _ c.args.text.now (formed_token _ _ _ c.loop-rest.invariant.progress c.requires.form more) c.in_err-next.ensures.value)
+
+pub returns-in_err-builder-clause-cause : goal.returns-in_err-builder-clause-cause
+returns-in_err-builder-clause-cause c =
+    let p = err_from_is_err_and c.from_residual-in_err-builder.result c.from_residual-in_err-builder.ensures.1 in
+    rw (p.1, p.2) (memory_only _ _ c.args.text.now (formed_step _ _ _ _ _ c.loop-rest.invariant.progress c.requires.form c.in_ok-next.ensures.value) c.in_err-builder.ensures)
+
+pub returns-in-None-clause-cause : goal.returns-in-None-clause-cause
+returns-in-None-clause-cause c = is_too_large _ _ _ _ _ c.loop-rest.invariant.progress c.in_ok-next.ensures.value c.in-None.ensures c.requires.form
+
+pub returns-clause-cause : goal.returns-clause-cause
+returns-clause-cause c =
+    let ended = is_empty_of c.loop-rest.rest.now c.is_empty.result c.is_empty.ensures c.loop-rest-test.false in
+    memory_at_end _ _ c.args.text.now (formed_end _ _ _ c.loop-rest.invariant.progress c.requires.form ended) c.finish.ensures
