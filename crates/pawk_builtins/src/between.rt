@@ -12,6 +12,9 @@ use pawk_value::Stop;
 use std::alloc::Global;
 use std::ops::Range;
 
+/// How many pieces there is room for at first.
+const FIRST_PIECES: usize = 16;
+
 /// Where the pieces of a text lie between the matches, that are not empty, of the expression that
 /// `ere` spells.
 fn split_with(
@@ -26,7 +29,7 @@ fn split_with(
     ensures fault { IfErr result (TellsNone ere.now) }
     ensures matcher { matcher.new ≡ matcher.old }
 {
-    let mut ranges = Vec::new(alloc);
+    let mut ranges = Vec::with_capacity(alloc, FIRST_PIECES)?;
     append_between(matcher, &mut ranges, text, ere, false)?;
     Ok(ranges)
 }

@@ -7,10 +7,13 @@ ghost use Rattle.pawk_code.specs.ExpressionViews.{format_view};
 ghost use Rattle.pawk_builtins.specs.FormatViews.{format_text};
 ghost use Rattle.pawk_builtins.specs.Settles.{Settles};
 
-use crate::values::Values;
+use crate::values::{FEW, Values};
 use pawk_code::expression::Format;
 use pawk_value::{Stop, ValueRef, format_into, template_into};
 use std::alloc::Global;
+
+/// The room that a text takes at first.
+const FIRST_ROOM: usize = 64;
 
 /// Makes a buffer the text of a format with lent values.
 fn write_format(
@@ -29,6 +32,38 @@ fn write_format(
     }
 }
 
+/// The text that a format makes of lent values.
+#[inline(always)]
+fn text_of(
+    alloc: Global,
+    format: &Format,
+    text: &[u8],
+    values: &[ValueRef<'_>],
+) -> Result<Vec<u8>, Stop>
+    ensures { Settles (λ text. text.items)
+        (formatted_text (format_text (format_view format.now) text.now) (map lent_value values.now))
+        result }
+{
+    let mut out = Vec::with_capacity(alloc, FIRST_ROOM)?;
+    write_format(&mut out, format, text, values)?;
+    Ok(out)
+}
+
+/// The text that a format makes of many values.
+#[inline(never)]
+fn format_many(
+    alloc: Global,
+    format: &Format,
+    text: &[u8],
+    values: &Values,
+) -> Result<Vec<u8>, Stop>
+    ensures { Settles (λ text. text.items)
+        (formatted_text (format_text (format_view format.now) text.now) values.now) result }
+{
+    let list = values.lend(alloc)?;
+    text_of(alloc, format, text, &list)
+}
+
 /// The text that a format makes of values, where the format that is a value has the text `text`.
 ///
 /// Faults `format`, `negative`, `length`, `numeral`, `overflow` as [`pawk_value::format`] has them.
@@ -43,8 +78,11 @@ pub fn format_values(
     ensures { Settles (λ text. text.items)
         (formatted_text (format_text (format_view format.now) text.now) values.now) result }
 {
-    let list = values.lend(alloc)?;
-    let mut out = Vec::new(alloc);
-    write_format(&mut out, format, text, &list)?;
-    Ok(out)
+    let count = values.count();
+    if count > FEW {
+        return format_many(alloc, format, text, values);
+    }
+    let mut list = [ValueRef::Uninit; FEW];
+    values.lend_few(&mut list);
+    text_of(alloc, format, text, &list[..count])
 }

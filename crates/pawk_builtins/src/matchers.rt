@@ -176,6 +176,7 @@ impl Matchers {
     }
 
     /// Replaces by the matcher of the expression, which `ere` spells.
+    #[inline(always)]
     fn replace_spelled(
         &mut self,
         pattern: &Pattern,
@@ -205,6 +206,7 @@ impl Matchers {
     /// Fault `ere` as [`Matchers::find`] has it.
     ///
     /// POSIX.1-2017, awk, "String Functions" (`sub`, `gsub`).
+    #[inline(always)]
     pub fn replace(
         &mut self,
         count: ReplacedMatches,

@@ -1,6 +1,6 @@
 //! Replacing matches.
 
-ghost use Rattle.std.specs.Prelude.{◌≡◌, ◌+◌, ◌^◌, ◌<◌, ◌≤◌, ◌++◌, [], false, ℕ, Ok, length, slice_range, IfErr, IfOk, IfSome, OnOk};
+ghost use Rattle.std.specs.Prelude.{◌≡◌, ◌+◌, ◌^◌, ◌<◌, ◌≤◌, ◌++◌, [], false, true, ℕ, List, Ok, length, slice_range, IfErr, IfOk, IfSome, OnOk};
 ghost use Rattle.pawk_ere_syntax.specs.Pattern.{Pattern};
 ghost use Rattle.pawk_ere.specs.Answers.{AreMissesFor, IsFor};
 ghost use Rattle.pawk_fields.specs.Search as search;
@@ -13,7 +13,7 @@ ghost use Rattle.pawk_builtins.specs.MatcherViews.{AreOfTheirTexts, IsReplaced};
 ghost use Rattle.pawk_ere.specs.Caches.{IsOfItsText};
 ghost use Rattle.pawk_fields.specs.FieldsOf.{TellsNone};
 
-use crate::replacement::{push_piece, push_replacement};
+use crate::replacement::{is_plain, push_piece, push_replacement};
 use crate::slot::{fill_slot, lend_matcher};
 use pawk_code::word::ReplacedMatches;
 use pawk_ere::{Cache, Loan, Matcher, Misses};
@@ -74,21 +74,27 @@ fn place_past(text: &[u8], begin: usize, end: usize) -> (usize, bool)
 }
 
 /// Appends the text from a place up to a match, and what stands for the match; no more of that where the
-/// text is longer than a text may be.
+/// text is longer than a text may be. A `plain` replacement stands for itself.
+#[inline(always)]
 fn push_match(
     out: &mut Vec<u8>,
     text: &[u8],
     place: usize,
     found: (usize, usize),
     replacement: &[u8],
+    plain: bool,
 ) -> Result<(), AllocError>
     requires place { place ≤ found.0 }
+    requires plain { (match : List ℕ) → plain ≡ true → spec.replacement match replacement.now ≡ replacement.now }
     requires found { (found.0 ≤ found.1) × (found.1 ≤ length text.now) }
     ensures { OnOk result (IsOrBothTooLong out.new.items
         (out.old.items ++ slice_range text.now place found.0
         ++ spec.replacement (slice_range text.now found.0 found.1) replacement.now)) }
 {
     push_piece(out, &text[place..found.0])?;
+    if plain {
+        return push_piece(out, replacement);
+    }
     push_replacement(out, &text[found.0..found.1], replacement)
 }
 
@@ -113,8 +119,9 @@ fn replace_all(
     let mut behind = false;
     let mut count = 0;
     let mut misses = matcher.no_misses();
+    let plain = is_plain(replacement);
     while let Some(found) = next_match(matcher, &mut misses, text, from, behind)? {
-        push_match(out, text, place, found, replacement)?;
+        push_match(out, text, place, found, replacement, plain)?;
         count += 1;
         place = found.1;
         (from, behind) = place_past(text, found.0, found.1);
@@ -157,7 +164,7 @@ fn replace_first(
     let Some(found) = first_match(matcher, text)? else {
         return Ok(0);
     };
-    push_match(out, text, 0, found, replacement)?;
+    push_match(out, text, 0, found, replacement, is_plain(replacement))?;
     out.extend_from_slice(&text[found.1..])?;
     Ok(1)
 }
@@ -175,6 +182,7 @@ pub(crate) struct Change<'c> {
 
 /// Writes a text with the first match or all replaced into `out`, which was empty, if there are some,
 /// and says how many.
+#[inline(always)]
 fn replace_with(
     matcher: &mut Matcher,
     change: Change<'_>,
@@ -219,7 +227,26 @@ fn replace_in(
     }
 }
 
+/// Replaces by a matcher that is read for this text alone.
+#[inline(never)]
+fn replace_once(
+    alloc: Global,
+    ere: &[u8],
+    change: Change<'_>,
+    out: &mut Vec<u8>,
+) -> Result<usize, Stop>
+    requires short { length change.text.now + 1 < 2 ^ 63 }
+    requires empty { out.old.items ≡ [] }
+    ensures text { IfOk result (IsReplaced ere.now change.entry.count
+        change.entry.replacement.now change.entry.text.now out.new.items) }
+    ensures few { IfOk result (λ n. n < 2 ^ 63) }
+    ensures fault { IfErr result (TellsNone ere.now) }
+{
+    replace_in(&mut None, alloc, ere, change, out)
+}
+
 /// Replaces by the matcher of this number.
+#[inline(always)]
 pub(crate) fn replace_fixed(
     fixed: &mut Vec<Option<Loan>>,
     number: usize,
@@ -239,11 +266,12 @@ pub(crate) fn replace_fixed(
 {
     match fixed.get_mut(number) {
         Some(slot) => replace_in(slot, alloc, ere, change, out),
-        None => replace_in(&mut None, alloc, ere, change, out),
+        None => replace_once(alloc, ere, change, out),
     }
 }
 
 /// Replaces by a matcher that a cache lends for the whole text.
+#[inline(never)]
 pub(crate) fn replace_lent(
     cache: &mut Cache,
     ere: &[u8],

@@ -56,8 +56,8 @@ fn push_unit<'r>(
     Ok(rest)
 }
 
-/// Whether each byte of a replacement stands for itself.
-fn is_plain(replacement: &[u8]) -> bool
+/// Whether no byte of a replacement is an ampersand or a backslash.
+fn has_no_special(replacement: &[u8]) -> bool
     ensures { (found : List ℕ) → result ≡ true → spec.replacement found replacement.now ≡ replacement.now }
 {
     match memchr2(b'&', b'\\', replacement) {
@@ -66,9 +66,22 @@ fn is_plain(replacement: &[u8]) -> bool
     }
 }
 
+/// Whether a replacement, which has often one byte or none, stands for itself.
+#[inline(always)]
+pub(crate) fn is_plain(replacement: &[u8]) -> bool
+    ensures { (found : List ℕ) → result ≡ true → spec.replacement found replacement.now ≡ replacement.now }
+{
+    match replacement {
+        [] => true,
+        [byte] => *byte != b'&',
+        _ => has_no_special(replacement),
+    }
+}
+
 /// Appends what stands for a match; no more where the text is longer than a text may be.
 ///
 /// POSIX.1-2017, awk, "String Functions" (`sub`).
+#[inline(never)]
 pub(crate) fn push_replacement(
     out: &mut Vec<u8>,
     found: &[u8],
@@ -77,9 +90,6 @@ pub(crate) fn push_replacement(
     ensures { OnOk result (IsOrBothTooLong out.new.items
         (out.old.items ++ spec.replacement found.now replacement.now)) }
 {
-    if is_plain(replacement) {
-        return out.extend_from_slice(replacement);
-    }
     let mut rest = replacement;
     while !rest.is_empty() && out.len() <= LENGTH_LIMIT {
         rest = push_unit(out, found, rest[0], &rest[1..])?;

@@ -1,6 +1,6 @@
 //! Values in one buffer of bytes.
 
-ghost use Rattle.std.specs.Prelude.{◌≡◌, ◌++◌, ◌∷◌, [], map, IfOk, OnOk};
+ghost use Rattle.std.specs.Prelude.{◌≡◌, ◌≤◌, ◌+◌, ◌++◌, ◌∷◌, [], length, map, take, vec_len, IfOk, OnErr, OnOk};
 ghost use Rattle.pawk_value.specs.Value.{lent_value};
 ghost use Rattle.pawk_value.specs.Held.{held_value};
 
@@ -8,6 +8,12 @@ use pawk_value::{Held, ValueRef, lend_held};
 use std::alloc::{AllocError, Global};
 use std::marker::Model;
 use std::ops::Range;
+
+/// How many values are lent in a list that takes no memory.
+pub(crate) const FEW: usize = 8;
+
+/// The room that the first bytes take, so that those after them need no other.
+const FIRST_ROOM: usize = 64;
 
 /// Values in their order, in one buffer of bytes.
 #[derive(Drop)]
@@ -29,6 +35,21 @@ impl Model for Values {
     ghost invariant = { λ v. AreWithin v.bytes.items v.values.items };
 }
 
+/// Appends bytes, the first of which take room for more.
+fn push_bytes(out: &mut Vec<u8>, bytes: &[u8]) -> Result<(), AllocError>
+    ensures items { OnOk result (out.new.items ≡ out.old.items ++ bytes.now) }
+    ensures kept { OnErr result (out.new.items ≡ out.old.items) }
+    ensures len { OnOk result (vec_len out.new ≡ vec_len out.old + length bytes.now) }
+{
+    if bytes.is_empty() {
+        return Ok(());
+    }
+    if out.capacity() == 0 {
+        out.reserve(bytes.len().max(FIRST_ROOM))?;
+    }
+    out.extend_from_slice(bytes)
+}
+
 impl Values {
     /// No values. Takes no memory.
     pub fn new(alloc: Global) -> Values
@@ -42,14 +63,35 @@ impl Values {
 
     /// Appends a copy of a value whose bytes are these. Where memory was refused nothing is said of the
     /// values.
+    #[inline(always)]
     pub fn push(&mut self, held: Held, bytes: &[u8]) -> Result<(), AllocError>
         ensures { OnOk result (self.new ≡ self.old ++ held_value held bytes.now ∷ []) }
     {
         let begin = self.bytes.len();
-        self.bytes.extend_from_slice(bytes)?;
+        push_bytes(&mut self.bytes, bytes)?;
         let end = self.bytes.len();
         self.values.push((held, begin..end))?;
         Ok(())
+    }
+
+    /// How many values there are.
+    pub(crate) fn count(&self) -> usize
+        ensures { result ≡ length self.now }
+    {
+        self.values.len()
+    }
+
+    /// Puts the values, of which there are few, with their bytes lent, at the begin of a list.
+    #[inline(never)]
+    pub(crate) fn lend_few<'v>(&'v self, list: &mut [ValueRef<'v>; FEW])
+        requires { length self.now ≤ FEW }
+        ensures { map lent_value (take (length self.now) list.new) ≡ self.now }
+    {
+        let mut count = 0;
+        for (held, range) in &self.values {
+            list[count] = lend_held(*held, &self.bytes[range.start..range.end]);
+            count += 1;
+        }
     }
 
     /// The values, with their bytes lent.

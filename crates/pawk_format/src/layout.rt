@@ -15,21 +15,35 @@ fn push_copies(out: &mut Vec<u8>, byte: u8, count: usize) -> Result<(), AllocErr
         ≡ (if is_ok result then out.old.items ++ replicate count byte else out.old.items) }
     ensures full { OnErr result (0 < count) }
 {
+    if count == 0 {
+        return Ok(());
+    }
     out.resize(out.len() + count, byte)
 }
 
 /// What surrounds the body of a text: spaces up to a width, before it or after it.
 #[derive(Clone, Copy)]
-pub struct Frame {
+struct Frame {
     /// Whether the spaces come after it.
     pub left: bool,
     /// The least number of bytes.
     pub width: usize,
 }
 
-/// Appends a prefix, zeros and a body, with spaces that fill the width. Nothing is appended where the
-/// length would pass the limit.
-pub fn push_framed(
+/// Appends a body that nothing surrounds. Nothing is appended where the length would pass the limit.
+pub fn push_body(out: &mut Vec<u8>, body: &[u8]) -> Result<(), Stop>
+    ensures { Makes out.old.items (within_limit (out.old.items ++ body.now)) out.new.items result }
+{
+    if out.len().saturating_add(body.len()) > LENGTH_LIMIT {
+        return Err(Stop::Fault(Fault::Length));
+    }
+    out.extend_from_slice(body)?;
+    Ok(())
+}
+
+/// Appends a prefix, zeros and a body, with spaces that fill the width, part by part.
+#[inline(never)]
+fn push_parts(
     out: &mut Vec<u8>,
     frame: Frame,
     prefix: &[u8],
@@ -55,6 +69,27 @@ pub fn push_framed(
     out.extend_from_slice(body)?;
     push_copies(out, b' ', if frame.left { gap } else { 0 })?;
     Ok(())
+}
+
+/// Appends a prefix, zeros and a body, with spaces that fill the width. Nothing is appended where the
+/// length would pass the limit.
+#[inline(always)]
+fn push_framed(
+    out: &mut Vec<u8>,
+    frame: Frame,
+    prefix: &[u8],
+    zero_count: usize,
+    body: &[u8],
+) -> Result<(), Stop>
+    ensures { Makes out.old.items
+        (within_limit (out.old.items ++
+        with_spaces frame.left frame.width (prefix.now ++ (zeros zero_count ++ body.now))))
+        out.new.items result }
+{
+    if prefix.is_empty() && zero_count == 0 && frame.width <= body.len() {
+        return push_body(out, body);
+    }
+    push_parts(out, frame, prefix, zero_count, body)
 }
 
 /// Where a directive wants its spaces.

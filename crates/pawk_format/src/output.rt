@@ -8,7 +8,7 @@ ghost use Rattle.pawk_format.specs.FormatViews.{as_bytes, as_text, text_after, p
 
 use crate::arguments::{Arguments, first_argument};
 use crate::directive::{Conversion, Directive};
-use crate::layout::{Frame, push_framed, push_number, push_plain};
+use crate::layout::{push_body, push_number, push_plain};
 use crate::pieces::Piece;
 use crate::radix::{RADIX_ROOM, write_radix};
 use itoa::Buffer;
@@ -233,6 +233,7 @@ fn push_character(out: &mut Vec<u8>, directive: Directive, value: ValueRef<'_>) 
 
 /// Appends what a directive writes for a value. The faults are `format`, those of the value's number,
 /// `negative` and `length`.
+#[inline(never)]
 fn push_directive(out: &mut Vec<u8>, directive: Directive, value: ValueRef<'_>) -> Result<(), Stop>
     ensures { Makes out.old.items
         (text_after out.old.items (directive_text directive (lent_value value.entry)))
@@ -247,6 +248,7 @@ fn push_directive(out: &mut Vec<u8>, directive: Directive, value: ValueRef<'_>) 
 }
 
 /// Appends what a directive writes for the first of the values.
+#[inline(always)]
 fn push_place(out: &mut Vec<u8>, directive: Directive, arguments: Arguments<'_>) -> Result<(), Stop>
     ensures { Makes out.old.items
         (text_after out.old.items (value_text directive (shown_values arguments.entry)))
@@ -267,6 +269,7 @@ fn push_bytes(out: &mut Vec<u8>, bytes: &[u8]) -> Result<(), Stop>
 }
 
 /// Appends what a piece of a format writes.
+#[inline(always)]
 pub fn push_piece(out: &mut Vec<u8>, piece: Piece<'_>, arguments: Arguments<'_>) -> Result<(), Stop>
     ensures { Makes out.old.items
         (piece_text out.old.items piece.entry (shown_values arguments.entry))
@@ -274,16 +277,7 @@ pub fn push_piece(out: &mut Vec<u8>, piece: Piece<'_>, arguments: Arguments<'_>)
 {
     match piece {
         Piece::Plain(bytes) => push_bytes(out, bytes),
-        Piece::Percent => push_framed(
-            out,
-            Frame {
-                left: false,
-                width: 0,
-            },
-            b"%",
-            0,
-            &[],
-        ),
+        Piece::Percent => push_body(out, b"%"),
         Piece::Place(directive) => push_place(out, directive, arguments),
         Piece::Malformed => Err(Stop::Fault(Fault::Format)),
     }

@@ -9,7 +9,7 @@ returns-clause-pieces c =
     let ere = c.args.ere.now in
     let text = c.args.text.now in
     let ranges = c.append_between.new.ranges.items in
-    let adds = subst (λ (old : List (Range ℕ)). AddsBetween ere false text old ranges) c.new-ranges.ensures.items c.in_ok-append_between.ensures.added in
+    let adds = subst (λ (old : List (Range ℕ)). AddsBetween ere false text old ranges) c.in_ok-ranges.ensures.items c.in_ok-append_between.ensures.added in
     between_of ere text c.requires.pattern ranges adds c.requires.spelled
 
 pub returns-clause-inside : goal.returns-clause-inside
@@ -17,5 +17,5 @@ returns-clause-inside c =
     let ere = c.args.ere.now in
     let text = c.args.text.now in
     let ranges = c.append_between.new.ranges.items in
-    let adds = subst (λ (old : List (Range ℕ)). AddsBetween ere false text old ranges) c.new-ranges.ensures.items c.in_ok-append_between.ensures.added in
+    let adds = subst (λ (old : List (Range ℕ)). AddsBetween ere false text old ranges) c.in_ok-ranges.ensures.items c.in_ok-append_between.ensures.added in
     between_inside ere text ranges adds
