@@ -30,6 +30,7 @@ pub fn parse(alloc: Global, text: &[u8]) -> Result<Program, SyntaxRefusal>
     match read_items(alloc, &list, text.len()) {
         Ok(items) => {
             let expressions = read_expressions(alloc, &list.tokens)?;
+            drop(list);
             check(alloc, &items)?;
             Ok(Program { items, expressions })
         }

@@ -5,6 +5,7 @@ use Rattle.std.specs.List.{list_all}
 use Rattle.pawk_syntax_tree.specs.Item.{Part}
 use Rattle.pawk_syntax_check.specs.declared.variables.Variables.{Variables}
 use Rattle.pawk_syntax_check.specs.declared.kinds.Kinds.{Kinds as Code}
+use Rattle.pawk_syntax_check.specs.declared.kinds.MarkedDemands.{MarkedDemands}
 use Rattle.pawk_syntax_check.specs.Tables.{Name, number_of, IsTable}
 use Rattle.pawk_syntax_check.specs.Demands.{Kinds, meets, AreKinds, KindsFit, AreKindsOf, KindsAreUnique}
 use Rattle.pawk_syntax_check.specs.DemandViews.{demands_in}
@@ -20,24 +21,24 @@ least_by t m h other forced v false None p e = cc
 least_by t m h other forced v false (Some i) p e = sym (ap other (h.has_name v i p).1) ∙ forced i e
 
 -- a demand of the code speaks of marks that are there
-pub below : (ps : List Part) (k : Code) → AreFoundFor ps k → AreBelow (length k.marks.items) k.demands.list.items
+pub below : (ps : List Part) (k : MarkedDemands) → AreFoundFor ps k → AreBelow (length k.marks.items) k.demands.list.items
 below ps k f =
     let P : ℕ → Type 0 = λ n. AreBelow n k.demands.list.items in
     subst P (sym f.marks_length) (below_all k.demands.variables k.demands.list.items f.numbered.numbered)
 
-forced_by : (ps : List Part) (k : Code) → AreFoundFor ps k → (other : Kinds) → AreKinds ps other → IsForced (by_number k.demands.variables other) k.marks.items
+forced_by : (ps : List Part) (k : MarkedDemands) → AreFoundFor ps k → (other : Kinds) → AreKinds ps other → IsForced (by_number k.demands.variables other) k.marks.items
 forced_by ps k f other a =
     let met : list_all (meets other) (demands_in k.demands) ≡ true = rw f.asked a.meets_all in
     f.forced (by_number k.demands.variables other) (all_by_number k.demands.variables other k.demands.list.items f.numbered.numbered ∙ met)
 
 -- where some kinds fit, the marks meet the demands
-pub marks_fit : (ps : List Part) (k : Code) → AreFoundFor ps k → KindsFit ps → list_all (meets_marks k.marks.items) k.demands.list.items ≡ true
+pub marks_fit : (ps : List Part) (k : MarkedDemands) → AreFoundFor ps k → KindsFit ps → list_all (meets_marks k.marks.items) k.demands.list.items ≡ true
 marks_fit ps k f fit =
     let met : list_all (meets fit.0) (demands_in k.demands) ≡ true = rw f.asked fit.1.meets_all in
     all_met k.demands.variables fit.0 k.marks.items (knows_given fit.0 fit.1.variables) (forced_by ps k f fit.0 fit.1) k.demands.list.items f.numbered.numbered f.closed met
 
 -- marks that meet the demands give kinds
-pub kinds_from_marks : (ps : List Part) (k : Code) → AreFoundFor ps k → list_all (meets_marks k.marks.items) k.demands.list.items ≡ true →
+pub kinds_from_marks : (ps : List Part) (k : MarkedDemands) → AreFoundFor ps k → list_all (meets_marks k.marks.items) k.demands.list.items ≡ true →
     AreKinds ps (kinds_of k.demands.variables k.marks.items)
 kinds_from_marks ps k f e =
     let here : list_all (meets (kinds_of k.demands.variables k.marks.items)) (demands_in k.demands) ≡ true =
@@ -45,8 +46,7 @@ kinds_from_marks ps k f e =
     record { meets_all = rw (← f.asked) here; variables = given_scalar k.demands.variables k.marks.items }
 
 -- where some kinds fit, these are the least
-pub kinds_found : (ps : List Part) (k : Code) → AreFoundFor ps k → KindsFit ps → AreKindsOf ps (kinds_in k)
-unfolding kinds_in
+pub kinds_found : (ps : List Part) (k : MarkedDemands) → AreFoundFor ps k → KindsFit ps → AreKindsOf ps (kinds_of k.demands.variables k.marks.items)
 kinds_found ps k f fit = record {
   kinds = kinds_from_marks ps k f (marks_fit ps k f fit);
   least = λ other a v e.
@@ -66,6 +66,6 @@ pub given_by : (k : Code) (v : Name) → is_given v ≡ true → false ≡ kinds
 unfolding kinds_in
 given_by k v e = rw e refl
 
-pub number_by : (k : Code) (v : Name) (o : Option ℕ) → is_given v ≡ false → number_of k.demands.variables v ≡ o → mark_of k.marks.items o ≡ kinds_in k v
+pub number_by : (k : Code) (v : Name) (o : Option ℕ) → is_given v ≡ false → number_of k.variables v ≡ o → mark_of k.marks.items o ≡ kinds_in k v
 unfolding kinds_in
 number_by k v o e n = rw (e, n) refl

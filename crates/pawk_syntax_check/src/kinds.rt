@@ -19,35 +19,61 @@ use crate::demands::Demands;
 use crate::functions::Functions;
 use crate::marks::marks;
 use crate::places::first_clash;
-use crate::variables::{NumberedName, ScopedName};
+use crate::variables::{NumberedName, ScopedName, Variables};
 use pawk_lex::vocabulary::is_variable;
 use pawk_syntax_tree::item::ProgramItem;
 use std::alloc::{AllocError, Global};
+
+/// What a program asks of the kinds of its names, and for each of the names, by its number, whether that
+/// shows it to be an array.
+#[derive(Drop)]
+struct MarkedDemands<'t> {
+    demands: Demands<'t>,
+    marks: Vec<bool>,
+}
+
+impl<'t> MarkedDemands<'t> {
+    /// What these items ask, whose functions are given, with the names that are shown to be arrays.
+    fn new(
+        alloc: Global,
+        functions: &Functions<'t>,
+        items: &'t [ProgramItem],
+    ) -> Result<MarkedDemands<'t>, AllocError>
+        requires { (x : Text) → function_under functions.now x ≡ function_of (map part items.now) x }
+        ensures { IfOk result (AreFoundFor (map part items.now)) }
+    {
+        let demands = Demands::new(alloc, functions, items)?;
+        let marks = marks(alloc, demands.list.as_slice(), demands.variables.keys.len())?;
+        Ok(MarkedDemands { demands, marks })
+    }
+}
 
 /// Which names of a program are arrays (POSIX.1-2017, awk, "Variables and Special Variables": a name
 /// is a scalar or an array).
 #[derive(Drop)]
 pub struct Kinds<'t> {
-    demands: Demands<'t>,
+    variables: Variables<'t>,
     marks: Vec<bool>,
 }
 
 impl<'t> Kinds<'t> {
     /// The kinds of the names of these items, whose functions are given. Where no kinds meet what the
     /// items ask, see `clash`, nothing is known of what `is_array` answers.
+    ///
+    /// What the items ask is not kept, since it takes much more room than the names.
     pub fn new(
         alloc: Global,
         functions: &Functions<'t>,
         items: &'t [ProgramItem],
     ) -> Result<Kinds<'t>, AllocError>
         requires { (x : Text) → function_under functions.now x ≡ function_of (map part items.now) x }
-        ensures kinds { IfOk result (λ k.
+        ensures { IfOk result (λ k.
             KindsFit (map part items.now) → AreKindsOf (map part items.now) (kinds_in k)) }
-        ensures found { IfOk result (AreFoundFor (map part items.now)) }
     {
-        let demands = Demands::new(alloc, functions, items)?;
-        let marks = marks(alloc, demands.list.as_slice(), demands.variables.keys.len())?;
-        Ok(Kinds { demands, marks })
+        let found = MarkedDemands::new(alloc, functions, items)?;
+        let MarkedDemands { demands, marks } = found;
+        let Demands { variables, .. } = demands;
+        Ok(Kinds { variables, marks })
     }
 
     /// Whether a name is an array in a scope: the number of an item that is a function, counted from 1,
@@ -59,7 +85,7 @@ impl<'t> Kinds<'t> {
         if is_given(key) {
             return false;
         }
-        match self.demands.variables.number(key) {
+        match self.variables.number(key) {
             None => false,
             Some(number) => self.marks.get(number).copied().unwrap_or(false),
         }
@@ -140,7 +166,7 @@ pub fn clash<'t>(
     ensures fit { IfOk result (λ o. is_none o ≡ true → KindsFit (map part items.now)) }
     ensures unfit { IfOk result (λ o. is_none o ≡ false → KindsFit (map part items.now) → ⊥) }
 {
-    let kinds = Kinds::new(alloc, functions, items)?;
+    let kinds = MarkedDemands::new(alloc, functions, items)?;
     if meets_all(kinds.marks.as_slice(), kinds.demands.list.as_slice()) {
         return Ok(None);
     }

@@ -11,6 +11,7 @@ ghost use Rattle.pawk_syntax_grammar.specs.Reads.{body_of, option_of, stmt_of};
 
 use crate::body::{Body, BodyStatement};
 use pawk_lex::refusal::SyntaxRefusal;
+use pawk_syntax_parse::build::fitted;
 use pawk_syntax_parse::cursor::Cursor;
 use pawk_syntax_parse::phrase::{Phrase, Phrases};
 use pawk_syntax_tree::statement::{Jump, StatementTree};
@@ -21,7 +22,7 @@ use std::alloc::{AllocError, Global};
 fn list_of(alloc: Global, statement: StatementTree) -> Result<Vec<StatementTree>, AllocError>
     ensures { IfOk result (λ list. list.items ≡ statement ∷ []) }
 {
-    let mut list = Vec::new(alloc);
+    let mut list = Vec::with_capacity(alloc, 1)?;
     list.push(statement)?;
     Ok(list)
 }
@@ -90,11 +91,23 @@ pub fn no_statements(alloc: Global) -> Body
 pub fn append(front: Body, more: Body) -> Result<Body, AllocError>
     ensures { IfOk result (λ b. body_of b ≡ body_of front ++ body_of more) }
 {
+    if front.list.is_empty() {
+        return Ok(more);
+    }
     let highest = front.highest.max(more.highest);
     let mut list = front.list;
     let mut others = more.list;
     list.append(&mut others)?;
     Ok(Body { list, highest })
+}
+
+/// The statements of a list that is complete, without the room that is left in it.
+pub fn complete(body: Body) -> Body
+    ensures { body_of result ≡ body_of body }
+{
+    let highest = body.highest;
+    let list = fitted(body.list);
+    Body { list, highest }
 }
 
 /// An expression as a statement.
@@ -108,14 +121,14 @@ pub fn expression(e: ExpressionTree) -> StatementTree
 pub fn print(list: Vec<ExpressionTree>) -> StatementTree
     ensures { stmt_view result ≡ stmt.print (trees (views list.items)) }
 {
-    StatementTree::Print(list)
+    StatementTree::Print(fitted(list))
 }
 
 /// The statement `printf a, b` of these expressions.
 pub fn printf(list: Vec<ExpressionTree>) -> StatementTree
     ensures { stmt_view result ≡ stmt.printf (trees (views list.items)) }
 {
-    StatementTree::Printf(list)
+    StatementTree::Printf(fitted(list))
 }
 
 /// The statement `if (e) a` without `else`.
@@ -193,7 +206,7 @@ pub fn give_back(e: Option<ExpressionTree>, start: usize) -> StatementTree
 pub fn delete(array: Name, keys: Vec<ExpressionTree>) -> StatementTree
     ensures { stmt_view result ≡ stmt.delete array.text.items (trees (views keys.items)) }
 {
-    StatementTree::Delete(array, keys)
+    StatementTree::Delete(array, fitted(keys))
 }
 
 /// The statement `delete a`, which takes all elements away.

@@ -264,7 +264,7 @@ impl<F: Fn(Global, &mut Cursor<'_>, usize) -> Result<Body, SyntaxRefusal>> State
         let mut all = build::no_statements(self.alloc);
         for _turn in 0..ts.left() {
             if ts.eat(Mark::RightBrace) {
-                return Ok(all);
+                return Ok(build::complete(all));
             }
             let more = self.nested(ts)?;
             all = build::append(all, more)?;

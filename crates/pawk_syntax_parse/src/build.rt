@@ -217,28 +217,37 @@ fn choice_expr(
     ExpressionTree::Choice(c, a, b)
 }
 
+/// A list that is complete, without the room that is left in it.
+pub fn fitted<T>(list: Vec<T>) -> Vec<T>
+    ensures { result.items ≡ list.items }
+{
+    let mut list = list;
+    list.shrink_to_fit();
+    list
+}
+
 fn element_expr(name: Name, keys: Vec<ExpressionTree>) -> ExpressionTree
     ensures { view result ≡ tree.element name.text.items (trees (views keys.items)) }
 {
-    ExpressionTree::Element(name, keys)
+    ExpressionTree::Element(name, fitted(keys))
 }
 
 fn member_expr(keys: Vec<ExpressionTree>, name: Name) -> ExpressionTree
     ensures { view result ≡ tree.member (trees (views keys.items)) name.text.items }
 {
-    ExpressionTree::Member(keys, name)
+    ExpressionTree::Member(fitted(keys), name)
 }
 
 fn call_expr(name: Name, arguments: Vec<ExpressionTree>) -> ExpressionTree
     ensures { view result ≡ tree.call name.text.items (trees (views arguments.items)) }
 {
-    ExpressionTree::Call(name, arguments)
+    ExpressionTree::Call(name, fitted(arguments))
 }
 
 fn builtin_expr(function: Builtin, start: usize, arguments: Vec<ExpressionTree>) -> ExpressionTree
     ensures { view result ≡ tree.builtin function (trees (views arguments.items)) }
 {
-    ExpressionTree::Builtin(function, start, arguments)
+    ExpressionTree::Builtin(function, start, fitted(arguments))
 }
 
 /// An operator with one operand.
@@ -327,6 +336,18 @@ pub fn count(phrases: &Phrases) -> usize
     phrases.list.len()
 }
 
+/// Adds a value at the end of a list. The first one takes room for itself alone, since most lists have no
+/// other.
+fn add<T: Drop>(list: &mut Vec<T>, value: T) -> Result<(), AllocError>
+    ensures { OnOk result (list.new.items ≡ list.old.items ++ value ∷ []) }
+{
+    if list.is_empty() {
+        list.reserve_exact(1)?;
+    }
+    list.push(value)?;
+    Ok(())
+}
+
 /// Adds an expression at the end of a list.
 #[tactic(auto, using(crate::proofs::Building::highest_more))]
 pub fn push(mut phrases: Phrases, phrase: Phrase) -> Result<Phrases, AllocError>
@@ -334,7 +355,7 @@ pub fn push(mut phrases: Phrases, phrase: Phrase) -> Result<Phrases, AllocError>
 {
     let highest = phrases.highest.max(phrase.height);
     let mut list = phrases.list;
-    list.push(phrase.expr)?;
+    add(&mut list, phrase.expr)?;
     Ok(Phrases { list, highest })
 }
 

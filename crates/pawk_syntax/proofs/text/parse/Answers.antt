@@ -10,20 +10,20 @@ use Rattle.pawk_syntax.specs.Items.{AreRead}
 use Rattle.pawk_syntax.proofs.Readings.{spells, same_expressions, read_again, expressions_again, same_parts, memory, no_fault}
 use Rattle.pawk_syntax.proofs.text.parse.Goals as goal
 
-pub returns-in-Ok-clause-found : goal.returns-in-Ok-clause-found
-returns-in-Ok-clause-found c =
+pub returns-in_ok-check-in-Ok-clause-found : goal.returns-in_ok-check-in-Ok-clause-found
+returns-in_ok-check-in-Ok-clause-found c =
     spells c.args.text.now (values c.in_ok-list.list.tokens.items) c.in_ok-list.list.refusal (map part c.in-Ok.items.items)
     c.in_ok-list.ensures.tokens c.in-Ok.ensures.found
     (subst (λ z. AreExpressions (eres (values z))) c.deref.ensures.value c.in_ok-expressions-in-Ok.ensures.found)
     (subst (λ z. Fits (map part z)) c.deref-in-Ok.ensures.value c.in_ok-check-in-Ok.ensures.fit)
 
-pub returns-in-Ok-clause-canonical : goal.returns-in-Ok-clause-canonical
-returns-in-Ok-clause-canonical c other xs s cut =
+pub returns-in_ok-check-in-Ok-clause-canonical : goal.returns-in_ok-check-in-Ok-clause-canonical
+returns-in_ok-check-in-Ok-clause-canonical c other xs s cut =
     same_parts (values c.in_ok-list.list.tokens.items) c.in_ok-list.list.refusal (map part c.in-Ok.items.items) xs c.in-Ok.ensures.found
     (read_again other xs (values c.in_ok-list.list.tokens.items) c.in_ok-list.list.refusal s (c.in_ok-list.ensures.whole (canon_program xs) cut))
 
-pub returns-clause-canonical : goal.returns-clause-canonical
-returns-clause-canonical c other xs s cut =
+pub returns-in-Err-clause-canonical : goal.returns-in-Err-clause-canonical
+returns-in-Err-clause-canonical c other xs s cut =
     c.first_refusal.ensures
     (memory c.in-Err.why (AreRead (values c.in_ok-list.list.tokens.items) c.in_ok-list.list.refusal xs) (c.in-Err.ensures.refused xs)
     (read_again other xs (values c.in_ok-list.list.tokens.items) c.in_ok-list.list.refusal s (c.in_ok-list.ensures.whole (canon_program xs) cut)))
