@@ -166,7 +166,7 @@ pub fn list<'t>(
     ensures { IfOk result (λ codes. exprs (views codes.items) ≡
         resolved_all (scope_view scope.now) (trees (tree_views list.now))) }
 {
-    let mut codes = Vec::new(alloc);
+    let mut codes = Vec::with_capacity(alloc, list.len())?;
     for tree in list {
         push_result(&mut codes, expression(scope, alloc, tree))?;
     }
@@ -183,7 +183,7 @@ fn arguments<'t>(
     ensures { IfOk result (λ codes. codes_of (argument_views codes.items) ≡
         resolved_arguments (scope_view scope.now) (trees (tree_views list.now))) }
 {
-    let mut codes = Vec::new(alloc);
+    let mut codes = Vec::with_capacity(alloc, list.len())?;
     for tree in list {
         let code = expression(scope, alloc, tree)?;
         codes.push(argument(scope, tree, code))?;

@@ -74,7 +74,7 @@ pub fn body<'t>(
     ensures { IfOk result (λ codes. seen codes.items ≡
         spec.resolved_body (scope_view scope.now) (tree_seen statements.now)) }
 {
-    let mut codes = Vec::new(alloc);
+    let mut codes = Vec::with_capacity(alloc, statements.len())?;
     for x in statements {
         push_result(&mut codes, statement(scope, alloc, x))?;
     }
