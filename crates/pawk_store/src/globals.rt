@@ -199,6 +199,10 @@ impl World for Globals {
             return Ok(());
         }
         let value = self.arrays[array].entry(key)?;
+        if let Value::Num(old) = value {
+            *old = sum(sign, Ok(*old), amount)?;
+            return Ok(());
+        }
         let number = sum(sign, to_num(value), amount)?;
         *value = Value::Num(number);
         Ok(())

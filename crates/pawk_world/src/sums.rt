@@ -5,7 +5,7 @@ ghost use Rattle.pawk_world.specs.Sums.{arith_by};
 ghost use Rattle.pawk_world.specs.Sums as spec;
 
 use pawk_code::word::Sign;
-use pawk_value::{Fault, Op, arith};
+use pawk_value::{Fault, Op};
 
 /// The operation of a sign, addition or subtraction.
 pub fn op_of(sign: Sign) -> Op
@@ -24,5 +24,9 @@ pub fn sum(sign: Sign, left: Result<i64, Fault>, right: Result<i64, Fault>) -> R
 {
     let left = left?;
     let right = right?;
-    arith(op_of(sign), left, right)
+    let sum = match sign {
+        Sign::Plus => left.checked_add(right),
+        Sign::Minus => left.checked_sub(right),
+    };
+    sum.ok_or(Fault::Overflow)
 }
