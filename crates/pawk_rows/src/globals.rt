@@ -40,13 +40,18 @@ const NAMES: [&[u8]; 9] = [
     b"FS", b"OFS", b"ORS", b"RS", b"SUBSEP", b"CONVFMT", b"OFMT", b"n", b"s",
 ];
 
-/// Globals with these scalars and two arrays.
-fn begin(alloc: Global) -> Result<Globals, AllocError> {
+/// The names of the scalars, by their slots.
+pub fn names(alloc: Global) -> Result<Vec<Vec<u8>>, AllocError> {
     let mut names = Vec::new(alloc);
     for name in &NAMES {
         names.push(Vec::from_slice(alloc, *name)?)?;
     }
-    Globals::open(alloc, Seed::new(0), names.as_slice(), 2, &[])
+    Ok(names)
+}
+
+/// Globals with these scalars and two arrays.
+fn begin(alloc: Global) -> Result<Globals, AllocError> {
+    Globals::open(alloc, Seed::new(0), names(alloc)?.as_slice(), 2, &[])
 }
 
 /// The slot that a call names.
