@@ -1,10 +1,11 @@
 //! What records of programs do with their globals, by name, and budgets and assignments that settings refuse.
 
-use crate::fixtures::code_of;
+use crate::fixtures::{code_of, request_of};
 use crate::rows::first_number;
-use pawk_admit::{Role, admit};
-use pawk_settings::{Settings, SettingsRefusal};
-use pawk_syntax::parse;
+use pawk_admit::{Role, Roles, admit};
+use pawk_code::program::Code;
+use pawk_par::{Cutting, Request, StreamRefusal, prepare};
+use pawk_settings::Settings;
 use std::alloc::{AllocError, Global};
 use std::test::Fail;
 
@@ -82,41 +83,42 @@ fn word(role: Role) -> &'static [u8] {
     }
 }
 
-/// Adds a name and its role, after a blank where something is before.
-fn push_role(name: &[u8], role: Role, out: &mut Vec<u8>) -> Result<(), AllocError> {
-    out.extend_from_slice(if out.is_empty() { b"" } else { b" " })?;
-    out.extend_from_slice(name)?;
-    out.extend_from_slice(word(role))
+/// What comes after a name and its role, before which there may be a blank.
+fn after_role<'t>(name: &[u8], role: Role, text: &'t [u8]) -> Option<&'t [u8]> {
+    let text = text.strip_prefix(b" ").unwrap_or(text);
+    text.strip_prefix(name)?.strip_prefix(word(role))
 }
 
-/// Adds the roles of names, but of the first `skipped` only those that are not fixed.
-fn push_roles(
+/// What comes after the roles of names, but of the first `skipped` only those that are not fixed.
+fn after_roles<'t>(
     names: &[Vec<u8>],
     roles: &[Role],
     skipped: usize,
-    out: &mut Vec<u8>,
-) -> Result<(), AllocError> {
+    text: &'t [u8],
+) -> Option<&'t [u8]> {
+    let mut rest = text;
     for (slot, (name, role)) in names.iter().zip(roles).enumerate() {
         if slot >= skipped || *role != Role::Fixed {
-            push_role(name.as_slice(), *role, out)?;
+            rest = after_role(name.as_slice(), *role, rest)?;
         }
     }
-    Ok(())
+    Some(rest)
+}
+
+/// Whether a text says these roles of the globals of a program.
+fn are_roles(code: &Code, roles: &Roles, text: &[u8]) -> bool {
+    let scalars = code.scalars.as_slice();
+    let arrays = code.arrays.as_slice();
+    after_roles(scalars, roles.scalars.as_slice(), LANGUAGE, text)
+        .and_then(|rest| after_roles(arrays, roles.arrays.as_slice(), 0, rest))
+        .is_some_and(|rest| rest.is_empty())
 }
 
 /// Whether a program may run in chunks, and its globals have these roles.
 fn has_roles(alloc: Global, text: &[u8], wanted: &[u8]) -> Result<bool, Fail> {
     let code = code_of(alloc, text)?;
     let roles = admit(alloc, &code).map_err(|_| "not admitted")?;
-    let mut out = Vec::new(alloc);
-    push_roles(
-        code.scalars.as_slice(),
-        roles.scalars.as_slice(),
-        LANGUAGE,
-        &mut out,
-    )?;
-    push_roles(code.arrays.as_slice(), roles.arrays.as_slice(), 0, &mut out)?;
-    Ok(out.as_slice() == wanted)
+    Ok(are_roles(&code, &roles, wanted))
 }
 
 #[test]
@@ -150,22 +152,28 @@ const SETTINGS: &str = "\
 4 18446744073709551615
 ";
 
+/// A name and a value.
+fn assigned_in(alloc: Global, cell: &str) -> Result<(Vec<u8>, Vec<u8>), AllocError> {
+    let (name, value) = cell.split_once('=').unwrap_or((cell, ""));
+    let name = Vec::from_slice(alloc, name.as_bytes())?;
+    Ok((name, Vec::from_slice(alloc, value.as_bytes())?))
+}
+
 /// The names and values that a text says.
-fn assigned_in(alloc: Global, text: &str) -> Result<Vec<(Vec<u8>, Vec<u8>)>, AllocError> {
+fn all_assigned_in(alloc: Global, text: &str) -> Result<Vec<(Vec<u8>, Vec<u8>)>, AllocError> {
     let mut assigned = Vec::new(alloc);
-    for cell in text.split(' ').filter(|cell| !cell.is_empty()) {
-        let (name, value) = cell.split_once('=').unwrap_or((cell, ""));
-        let name = Vec::from_slice(alloc, name.as_bytes())?;
-        assigned.push((name, Vec::from_slice(alloc, value.as_bytes())?))?;
+    for cell in text.split_terminator(' ') {
+        assigned.push(assigned_in(alloc, cell)?)?;
     }
     Ok(assigned)
 }
 
-/// The budget of settings, or the number for which they are refused.
-fn number_of(answer: &Result<Settings, SettingsRefusal>) -> u64 {
+/// The budget of the settings of a request, or the number for which they are refused.
+fn number_of(answer: &Result<(Code, Settings), StreamRefusal>) -> u64 {
     match answer {
-        Ok(settings) => settings.budget(),
-        Err(refusal) => u64::from(refusal.number()),
+        Ok((_, settings)) => settings.budget(),
+        Err(StreamRefusal::Settings(why)) => u64::from(why.number()),
+        Err(_) => 0,
     }
 }
 
@@ -173,10 +181,13 @@ fn number_of(answer: &Result<Settings, SettingsRefusal>) -> u64 {
 fn is_set_so(alloc: Global, row: &str) -> Result<bool, Fail> {
     let (wanted, row) = first_number(row)?;
     let (budget, row) = first_number(row)?;
-    let assigned = assigned_in(alloc, row)?;
-    let program = parse(alloc, b"{ x = y }").map_err(|_| "refused")?;
-    let answer = Settings::new(alloc, program.tree(), assigned.as_slice(), budget);
-    Ok(number_of(&answer) == wanted)
+    let assigns = all_assigned_in(alloc, row)?;
+    let cutting = Cutting::Size(1);
+    let request = Request {
+        assigns: assigns.as_slice(),
+        ..request_of(b"{ x = y }", budget, &cutting)
+    };
+    Ok(number_of(&prepare(alloc, &request)) == wanted)
 }
 
 #[test]

@@ -6,9 +6,9 @@ ghost use Rattle.pawk_threads.specs.Cuttings.{IsSized};
 
 use pawk_code::program::Code;
 use pawk_input::Input;
-use pawk_par::{Cutting, Ending, Gate, Job, Outcome, Place, Refusal, Route, Seed, Way, run};
-use pawk_resolve_program::program::resolve;
-use pawk_syntax::parse;
+use pawk_par::{
+    Cutting, Ending, Gate, Job, Outcome, Place, Refusal, Request, Route, Seed, Way, prepare, run,
+};
 use pawk_value::Fault;
 use std::alloc::Global;
 use std::sync::Wait;
@@ -25,10 +25,24 @@ pub(crate) fn one_file(alloc: Global, bytes: &[u8]) -> Result<Input, Fail> {
     Ok(Input::new(files).map_err(|_| "too large")?)
 }
 
+/// The request of a run of a text by two workers.
+pub(crate) fn request_of<'a>(text: &'a [u8], budget: u64, cutting: &'a Cutting) -> Request<'a> {
+    Request {
+        text,
+        assigns: &[],
+        budget,
+        cutting,
+        workers: 2,
+        seed: Seed::new(0),
+    }
+}
+
 /// The code of a program's text.
 pub(crate) fn code_of(alloc: Global, text: &[u8]) -> Result<Code, Fail> {
-    let program = parse(alloc, text).map_err(|_| "refused")?;
-    Ok(resolve(alloc, &program)?)
+    match prepare(alloc, &request_of(text, 1000, &Cutting::Size(1))) {
+        Ok((code, _)) => Ok(code),
+        Err(_) => Err(Fail::from("refused")),
+    }
 }
 
 /// Whether these parts are a text.
