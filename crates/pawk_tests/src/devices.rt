@@ -1,9 +1,10 @@
 //! Runs from a reader to a writer, of which one fails in mid-stream.
 
-use crate::fixtures::request_of;
 use crate::rows::{first_cell, first_number, has_bytes};
 use crate::taps::{Basin, FREE, Limits, Log, Tap};
-use pawk_par::{Cutting, Ending, Open, Reader, Report, StreamRefusal, Writer, run_streams};
+use pawk_par::{
+    Cutting, Ending, Open, Reader, Report, Request, Seed, StreamRefusal, Writer, run_streams,
+};
 use std::sync::Wait;
 use std::test::Fail;
 use std::thread::Threads;
@@ -44,7 +45,14 @@ struct Trial<'t> {
 fn is_right<R: AllocGlobal + Threads + Wait>(rt: &R, trial: Trial<'_>) -> bool {
     let alloc = rt.alloc();
     let cutting = Cutting::Size(1);
-    let request = request_of(trial.text.as_bytes(), trial.budget, &cutting);
+    let request = Request {
+        text: trial.text.as_bytes(),
+        assigns: &[],
+        budget: trial.budget,
+        cutting: &cutting,
+        workers: 2,
+        seed: Seed::new(0),
+    };
     let log = Log::new(trial.reads);
     let mut source = Reader::new(Tap::new(b"1\n2\n3\n", b"", 1, &log));
     let mut sink = Writer::new(Basin::new(alloc, trial.limits, &log));

@@ -5,6 +5,7 @@
 use crate::fixtures::code_of;
 use crate::rows::{begins_with, first_cell, first_number, has_bytes};
 use crate::taps::{Basin, FREE, Limits, Log, Tap};
+use pawk_code::program::Code;
 use pawk_feeds::{Feed, Flowed, Order, run_feeds};
 use pawk_par::{Ending, Job, Open, Reader, Seed, StreamRefusal, Writer};
 use pawk_settings::Assignment;
@@ -35,48 +36,64 @@ fn size_of(number: u64) -> Size {
     }
 }
 
-/// What is tried: a text over two files, or over none, with what it writes, as a cell of a row. Neither file ends where `next`
-/// has bytes. A read gives at most `step` bytes, `reads` of them succeed, and the sink has limits. Before the first file `x` may
-/// be assigned 1, before the second 2, and after it 3.
+/// Two files, of which neither ends where `next` has bytes, and how many bytes a read of them gives at most.
+#[derive(Clone, Copy)]
+struct Files {
+    first: &'static [u8],
+    second: &'static [u8],
+    next: &'static [u8],
+    step: usize,
+}
+
+/// Three records in two files, of which each byte is a read.
+const THREE: Files = Files {
+    first: b"1\n",
+    second: b"2\n3\n",
+    next: b"",
+    step: 1,
+};
+
+/// What is tried: a text over two files, or over none, with what it writes, as a cell of a row. So many reads succeed, and the sink
+/// has limits. Before the first file `x` may be assigned 1, before the second 2, and after it 3.
 #[derive(Clone, Copy)]
 struct Trial<'t> {
     text: &'t str,
     output: &'t str,
-    first: &'t [u8],
-    second: &'t [u8],
-    next: &'t [u8],
-    has_files: bool,
+    files: Option<Files>,
     assigned: bool,
-    step: usize,
     reads: u64,
     limits: Limits,
 }
 
-/// A trial over three records in two files, of which each byte is a read.
+/// A trial over three records.
 fn trial_of<'t>(text: &'t str, output: &'t str) -> Trial<'t> {
     Trial {
         text,
         output,
-        first: b"1\n",
-        second: b"2\n3\n",
-        next: b"",
-        has_files: true,
+        files: Some(THREE),
         assigned: false,
-        step: 1,
         reads: 1000,
         limits: FREE,
     }
 }
 
-/// An assignment of this value to `x`, where one is made.
-fn assignments(alloc: Global, assigned: bool, value: &[u8]) -> Result<Vec<Assignment>, AllocError> {
+/// Assignments of 1, 2 and 3 to `x`, or none.
+fn assignments(alloc: Global, assigned: bool) -> Result<Vec<Assignment>, AllocError> {
     let mut assignments = Vec::new(alloc);
-    if assigned {
+    let values: &[u8] = if assigned { b"123" } else { b"" };
+    for value in values {
         let name = Vec::from_slice(alloc, b"x")?;
-        let value = Vec::from_slice(alloc, value)?;
+        let value = Vec::from_slice(alloc, &[*value])?;
         assignments.push(Assignment { name, value })?;
     }
     Ok(assignments)
+}
+
+/// The one of these assignments that has this place, alone, where there are any.
+fn at(assignments: &[Assignment], place: usize) -> &[Assignment] {
+    assignments
+        .get(place..place.saturating_add(1))
+        .unwrap_or(&[])
 }
 
 /// A feed of a file.
@@ -93,18 +110,18 @@ fn feed<'a>(
     })
 }
 
-/// The feeds of a trial.
+/// The feeds of files, or of none.
 fn feeds_of<'a>(
     alloc: Global,
-    trial: Trial<'a>,
+    files: Option<Files>,
     between: &'a [Assignment],
     log: &'a Log,
 ) -> Result<Vec<Feed<'a, Reader<Tap<'a>>>>, AllocError> {
     let mut feeds = Vec::new(alloc);
-    if trial.has_files {
-        let first = Tap::new(trial.first, trial.next, trial.step, log);
+    if let Some(files) = files {
+        let first = Tap::new(files.first, files.next, files.step, log);
         feeds.push(feed(alloc, b"f", &[], first)?)?;
-        let second = Tap::new(trial.second, trial.next, trial.step, log);
+        let second = Tap::new(files.second, files.next, files.step, log);
         feeds.push(feed(alloc, b"g", between, second)?)?;
     }
     Ok(feeds)
@@ -135,38 +152,6 @@ fn number_of(answer: &Result<Flowed, StreamRefusal>) -> u64 {
     }
 }
 
-/// Runs a trial from feeds to a sink, each record a chunk, with 1,000 steps for each: the number of the answer.
-fn run_trial<R: AllocGlobal + Threads + Wait>(
-    rt: &R,
-    trial: Trial<'_>,
-    size: Size,
-    feeds: &mut [Feed<'_, Reader<Tap<'_>>>],
-    sink: &mut Writer<Basin<'_>>,
-) -> Result<u64, Fail> {
-    let Size { window, workers } = size;
-    if window == 0 || workers == 0 || workers > 64 {
-        return Err(Fail::from("no window or no crew"));
-    }
-    let alloc = rt.alloc();
-    let first = assignments(alloc, trial.assigned, b"1")?;
-    let last = assignments(alloc, trial.assigned, b"3")?;
-    let code = code_of(alloc, trial.text.as_bytes())?;
-    let order = Order {
-        job: Job {
-            code: &code,
-            budget: 1000,
-            seed: Seed::new(0),
-        },
-        assignments: &[],
-        first: first.as_slice(),
-        last: last.as_slice(),
-        chunk: 1,
-        workers,
-        window,
-    };
-    Ok(number_of(&run_feeds(rt, alloc, order, feeds, sink, &Open)))
-}
-
 /// What a run leaves: the number of its answer, whether its output is a beginning of what the trial says, and whether it is all of
 /// it, how many bytes the sink took, how many of them were handed on, how many reads came too early, and how many were made of
 /// each feed.
@@ -181,18 +166,38 @@ struct Trace {
     reads: (u64, u64),
 }
 
-/// What a run of this size leaves whose devices share this log.
-fn trace_in<R: AllocGlobal + Threads + Wait>(
+/// What is asked of a run of this size, each record a chunk, with 1,000 steps for each.
+fn order_of<'o>(code: &'o Code, assigned: &'o [Assignment], size: Size) -> Order<'o> {
+    let job = Job {
+        code,
+        budget: 1000,
+        seed: Seed::new(0),
+    };
+    Order {
+        job,
+        assignments: &[],
+        first: at(assigned, 0),
+        last: at(assigned, 2),
+        chunk: 1,
+        workers: size.workers,
+        window: size.window,
+    }
+}
+
+/// What a run leaves that is asked for so, from feeds to a sink.
+fn trace_with<R: AllocGlobal + Threads + Wait>(
     rt: &R,
     trial: Trial<'_>,
-    size: Size,
+    order: Order<'_>,
+    feeds: &mut [Feed<'_, Reader<Tap<'_>>>],
     log: &Log,
 ) -> Result<Trace, Fail> {
+    if order.window == 0 || order.workers == 0 || order.workers > 64 {
+        return Err(Fail::from("no window or no crew"));
+    }
     let alloc = rt.alloc();
-    let between = assignments(alloc, trial.assigned, b"2")?;
-    let mut feeds = feeds_of(alloc, trial, between.as_slice(), log)?;
     let mut sink = Writer::new(Basin::new(alloc, trial.limits, log));
-    let answer = run_trial(rt, trial, size, &mut feeds, &mut sink)?;
+    let answer = number_of(&run_feeds(rt, alloc, order, feeds, &mut sink, &Open));
     let taken = sink.inner.taken();
     Ok(Trace {
         answer,
@@ -201,7 +206,7 @@ fn trace_in<R: AllocGlobal + Threads + Wait>(
         taken: taken.len() as u64,
         flushed: log.flushed(),
         early: log.early(),
-        reads: reads_of(&feeds),
+        reads: reads_of(feeds),
     })
 }
 
@@ -211,8 +216,13 @@ fn trace_of<R: AllocGlobal + Threads + Wait>(
     trial: Trial<'_>,
     size: Size,
 ) -> Result<Trace, Fail> {
+    let alloc = rt.alloc();
     let log = Log::new(trial.reads);
-    trace_in(rt, trial, size, &log)
+    let assigned = assignments(alloc, trial.assigned)?;
+    let code = code_of(alloc, trial.text.as_bytes())?;
+    let mut feeds = feeds_of(alloc, trial.files, at(&assigned, 1), &log)?;
+    let order = order_of(&code, &assigned, size);
+    trace_with(rt, trial, order, &mut feeds, &log)
 }
 
 /// Whether a run had this answer, and the sink took the output and nothing else.
@@ -403,10 +413,13 @@ fn is_handed_on<R: AllocGlobal + Threads + Wait>(
     let (assigned, row) = first_number(row)?;
     let (output, text) = first_cell(row);
     let trial = Trial {
-        first: b"1\n2\n3\n",
-        second: b"4\n5\n",
+        files: Some(Files {
+            first: b"1\n2\n3\n",
+            second: b"4\n5\n",
+            next: b"",
+            step,
+        }),
         assigned: assigned == 1,
-        step,
         ..trial_of(text, output)
     };
     for number in 0..SIZES {
@@ -468,10 +481,12 @@ fn is_left_so<R: AllocGlobal + Threads + Wait>(
     let (window, third) = first_number(third)?;
     let (reads, _) = first_number(third)?;
     let trial = Trial {
-        first: b"",
-        second: b"",
-        next: b"1\n2\n3\n4\n",
-        step: step as usize,
+        files: Some(Files {
+            first: b"",
+            second: b"",
+            next: b"1\n2\n3\n4\n",
+            step: step as usize,
+        }),
         ..trial_of(text, output)
     };
     let second = if files == 1 { reads } else { 0 };
@@ -504,7 +519,7 @@ fn shows_alone<R: AllocGlobal + Threads + Wait>(
     output: &str,
 ) -> Result<bool, Fail> {
     let trial = Trial {
-        has_files: false,
+        files: None,
         assigned,
         ..trial_of(text, output)
     };
