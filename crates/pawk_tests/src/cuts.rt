@@ -21,7 +21,7 @@ const CUTS: &str = "\
 /// The cuts that a text says, all of them in the first file.
 fn cuts_of(alloc: Global, text: &str) -> Result<Vec<(usize, usize)>, Fail> {
     let mut cuts = Vec::new(alloc);
-    for cell in text.split(' ').filter(|cell| !cell.is_empty()) {
+    for cell in text.split_terminator(' ') {
         let (offset, _) = first_number(cell)?;
         cuts.push((0, offset as usize))?;
     }
