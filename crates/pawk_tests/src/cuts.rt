@@ -1,51 +1,57 @@
 //! Cuts by hand.
 
-use crate::fixtures::{SUM, chunks_show, runs};
+use crate::fixtures::{SUM, chunks_show, one_file, runs};
 use crate::gates::{Holding, seen_by};
+use crate::rows::first_number;
 use pawk_par::{Cutting, Way};
+use std::alloc::Global;
 use std::sync::Wait;
 use std::test::Fail;
 use std::thread::Threads;
 
-/// Whether the sum runs with these cuts, a file and an offset in it, in as many chunks as bits are set here, the lowest first.
-fn is_cut<R: AllocGlobal + Threads + Wait>(
+/// Whether the lines 1, 2 and 3 have a plan with cuts (1), a bit for each chunk of that, and the cuts, which are offsets.
+const CUTS: &str = "\
+0 0 1
+1 7 2 4
+0 0 4 2
+0 0 2 2
+1 1
+";
+
+/// The cuts that a text says, all of them in the first file.
+fn cuts_of(alloc: Global, text: &str) -> Result<Vec<(usize, usize)>, Fail> {
+    let mut cuts = Vec::new(alloc);
+    for cell in text.split_terminator(' ') {
+        let (offset, _) = first_number(cell)?;
+        cuts.push((0, offset as usize))?;
+    }
+    Ok(cuts)
+}
+
+/// Whether a row of cuts is right: whether the sum runs with them, in those chunks.
+fn is_cut_so<R: AllocGlobal + Threads + Wait>(
     rt: &R,
-    cuts: &[(usize, usize)],
-    chunks: u64,
+    row: &str,
     gate: &Holding<'_>,
-) -> Result<Option<bool>, Fail> {
-    let cutting = Cutting::At(Vec::from_slice(rt.alloc(), cuts)?);
+) -> Result<bool, Fail> {
+    let (has_plan, row) = first_number(row)?;
+    let (chunks, offsets) = first_number(row)?;
+    let cutting = Cutting::At(cuts_of(rt.alloc(), offsets)?);
     let way = Way {
         cutting: &cutting,
         workers: 2,
     };
-    let shown = runs(
-        rt,
-        SUM,
-        &[(b"", b"1\n2\n3\n")],
-        way,
-        gate,
-        chunks_show(b"6\n"),
-    )?;
+    let mut input = one_file(rt.alloc(), b"1\n2\n3\n")?;
+    let is_shown = runs(rt, SUM, &mut input, way, gate, chunks_show(b"6\n"))?;
     let (_, _, entered, _) = seen_by(gate);
-    Ok(shown.map(|is_shown| is_shown && entered == chunks))
+    Ok(is_shown == Some(has_plan == 1) && entered == chunks)
 }
-
-/// Cuts, whether the input has a plan with them, and a bit for each chunk of that.
-const CUTS: [(&[(usize, usize)], bool, u64); 5] = [
-    (&[(0, 1)], false, 0),
-    (&[(0, 2), (0, 4)], true, 7),
-    (&[(0, 4), (0, 2)], false, 0),
-    (&[(0, 2), (0, 2)], false, 0),
-    (&[], true, 1),
-];
 
 #[test]
 fn cuts_by_hand(rt: HostRuntime) -> Result<(), Fail> {
-    for (cuts, wanted, chunks) in &CUTS {
+    for row in CUTS.lines() {
         let gate = Holding::none(&rt);
-        let cut = is_cut(&rt, *cuts, *chunks, &gate)?;
-        assert!(rt; cut == Some(*wanted));
+        assert!(rt; is_cut_so(&rt, row, &gate)?, "{row}");
     }
     Ok(())
 }

@@ -6,11 +6,11 @@ ghost use Rattle.pawk_threads.specs.Cuttings.{IsSized};
 
 use pawk_code::program::Code;
 use pawk_input::Input;
-use pawk_par::{Cutting, Ending, Gate, Job, Outcome, Place, Refusal, Route, Seed, Way, run};
-use pawk_resolve_program::program::resolve;
-use pawk_syntax::parse;
+use pawk_par::{
+    Cutting, Ending, Gate, Job, Outcome, Place, Refusal, Request, Route, Seed, Way, prepare, run,
+};
 use pawk_value::Fault;
-use std::alloc::{AllocError, Global};
+use std::alloc::Global;
 use std::sync::Wait;
 use std::test::Fail;
 use std::thread::Threads;
@@ -18,35 +18,31 @@ use std::thread::Threads;
 /// The program that adds up the first field.
 pub(crate) const SUM: &[u8] = b"{ n += $1 } END { print n }";
 
-/// Names and their values, or files' names and bytes, of their own.
-pub(crate) fn copies(
-    alloc: Global,
-    pairs: &[(&[u8], &[u8])],
-) -> Result<Vec<(Vec<u8>, Vec<u8>)>, AllocError> {
-    let mut copies = Vec::new(alloc);
-    for (name, value) in pairs {
-        copies.push((
-            Vec::from_slice(alloc, *name)?,
-            Vec::from_slice(alloc, *value)?,
-        ))?;
-    }
-    Ok(copies)
-}
-
-/// An input of these files, a name and bytes each.
-fn input_of(alloc: Global, files: &[(&[u8], &[u8])]) -> Result<Input, Fail> {
-    Ok(Input::new(copies(alloc, files)?).map_err(|_| "too large")?)
-}
-
 /// An input of one file without a name.
 pub(crate) fn one_file(alloc: Global, bytes: &[u8]) -> Result<Input, Fail> {
-    input_of(alloc, &[(b"", bytes)])
+    let mut files = Vec::new(alloc);
+    files.push((Vec::new(alloc), Vec::from_slice(alloc, bytes)?))?;
+    Ok(Input::new(files).map_err(|_| "too large")?)
+}
+
+/// The request of a run of a text by two workers.
+pub(crate) fn request_of<'a>(text: &'a [u8], budget: u64, cutting: &'a Cutting) -> Request<'a> {
+    Request {
+        text,
+        assigns: &[],
+        budget,
+        cutting,
+        workers: 2,
+        seed: Seed::new(0),
+    }
 }
 
 /// The code of a program's text.
 pub(crate) fn code_of(alloc: Global, text: &[u8]) -> Result<Code, Fail> {
-    let program = parse(alloc, text).map_err(|_| "refused")?;
-    Ok(resolve(alloc, &program)?)
+    match prepare(alloc, &request_of(text, 1000, &Cutting::Size(1))) {
+        Ok((code, _)) => Ok(code),
+        Err(_) => Err(Fail::from("refused")),
+    }
 }
 
 /// Whether these parts are a text.
@@ -62,7 +58,7 @@ fn are_text(parts: &[Vec<u8>], text: &[u8]) -> bool {
 }
 
 /// Whether a run ended with this status, or with this fault at the record of this number.
-pub(crate) fn is_ending(ending: Ending, wanted: Result<u8, (Fault, u64)>) -> bool {
+fn is_ending(ending: Ending, wanted: Result<u8, (Fault, u64)>) -> bool {
     match (ending, wanted) {
         (Ending::Status(status), Ok(wanted)) => status == wanted,
         (Ending::Fault(fault, Place::Record(number)), Err(wanted)) => (fault, number) == wanted,
@@ -95,12 +91,12 @@ fn is_shown(outcome: &Outcome, route: Route, shown: RunOutcome<'_>) -> bool {
         && route == shown.route
 }
 
-/// Whether a program's text shows this over these files, with 1,000 steps for each record: not where the cutting is refused.
+/// Whether a program's text shows this over an input, with 1,000 steps for each record: not where the cutting is refused.
 /// None where the run is refused for another reason.
 pub(crate) fn runs<R, G>(
     rt: &R,
     text: &[u8],
-    files: &[(&[u8], &[u8])],
+    input: &mut Input,
     way: Way<'_>,
     gate: &G,
     shown: RunOutcome<'_>,
@@ -112,40 +108,17 @@ where
     requires workers { IsCrew way.workers }
 {
     let alloc = rt.alloc();
-    let mut input = input_of(alloc, files)?;
     let code = code_of(alloc, text)?;
     let job = Job {
         code: &code,
         budget: 1000,
         seed: Seed::new(0),
     };
-    Ok(match run(rt, alloc, job, &[], &mut input, way, gate) {
+    Ok(match run(rt, alloc, job, &[], input, way, gate) {
         Ok((outcome, report)) => Some(is_shown(&outcome, report.route, shown)),
         Err(Refusal::Cutting) => Some(false),
         Err(_) => None,
     })
-}
-
-/// Whether a program's text shows this over these files, cut into chunks of one byte or more.
-pub(crate) fn shows_over<R, G>(
-    rt: &R,
-    text: &[u8],
-    files: &[(&[u8], &[u8])],
-    workers: usize,
-    gate: &G,
-    shown: RunOutcome<'_>,
-) -> Result<bool, Fail>
-where
-    R: AllocGlobal + Threads + Wait,
-    G: Gate + Sync,
-    requires { IsCrew workers }
-{
-    let cutting = Cutting::Size(1);
-    let way = Way {
-        cutting: &cutting,
-        workers,
-    };
-    Ok(runs(rt, text, files, way, gate, shown)? == Some(true))
 }
 
 /// Whether a program's text shows this over these bytes, cut into chunks of one byte or more.
@@ -162,5 +135,11 @@ where
     G: Gate + Sync,
     requires { IsCrew workers }
 {
-    shows_over(rt, text, &[(b"", bytes)], workers, gate, shown)
+    let cutting = Cutting::Size(1);
+    let way = Way {
+        cutting: &cutting,
+        workers,
+    };
+    let mut input = one_file(rt.alloc(), bytes)?;
+    Ok(runs(rt, text, &mut input, way, gate, shown)? == Some(true))
 }

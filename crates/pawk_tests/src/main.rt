@@ -26,6 +26,8 @@ mod gates;
 #[cfg(test)]
 mod matchers;
 #[cfg(test)]
+mod rows;
+#[cfg(test)]
 mod taps;
 
 fn main(rt: HostRuntime) -> io::Result<()> {

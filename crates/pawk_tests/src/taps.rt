@@ -1,9 +1,6 @@
-//! Devices of runs from feeds, which share a log: sources that give a step at a time, and a sink that takes a byte a write.
+//! Devices that share a log: sources that give a step at a time, and a sink that takes a byte a write.
 
-use pawk_feeds::Feed;
-use pawk_par::{Reader, Writer};
-use pawk_settings::Assignment;
-use std::alloc::{AllocError, Global};
+use std::alloc::Global;
 use std::io;
 use std::io::{ErrorKind, Read, Write};
 use std::sync::atomic::{AtomicU64, Ordering};
@@ -12,10 +9,10 @@ use std::sync::atomic::{AtomicU64, Ordering};
 /// that were taken were handed on, and how many reads came before the lines of two bytes that were given had been handed on.
 #[derive(Drop)]
 pub(crate) struct Log {
-    pub(crate) reads_left: AtomicU64,
-    pub(crate) given: AtomicU64,
-    pub(crate) flushed: AtomicU64,
-    pub(crate) early: AtomicU64,
+    reads_left: AtomicU64,
+    given: AtomicU64,
+    flushed: AtomicU64,
+    early: AtomicU64,
 }
 
 impl Log {
@@ -30,9 +27,9 @@ impl Log {
     }
 
     /// Notes a read that begins. Whether it fails.
-    pub(crate) fn begin_read(&self) -> bool {
+    fn begin_read(&self) -> bool {
         let lines = self.given.load(Ordering::SeqCst) & !1;
-        if self.flushed.load(Ordering::SeqCst) < lines {
+        if self.flushed() < lines {
             self.early.fetch_add(1, Ordering::SeqCst);
         }
         let left = self.reads_left.load(Ordering::SeqCst);
@@ -40,20 +37,55 @@ impl Log {
             .store(left.saturating_sub(1), Ordering::SeqCst);
         left == 0
     }
+
+    /// How many bytes were handed on.
+    pub(crate) fn flushed(&self) -> u64 {
+        self.flushed.load(Ordering::SeqCst)
+    }
+
+    /// How many reads came too early.
+    pub(crate) fn early(&self) -> u64 {
+        self.early.load(Ordering::SeqCst)
+    }
 }
 
-/// Gives at most `step` bytes a read, and counts the reads. After `rest` comes `next`, again and again.
+/// Gives at most `step` bytes a read, after an interruption by a signal, and counts the reads. After `rest` comes `next`, again
+/// and again.
 #[derive(Drop)]
 pub(crate) struct Tap<'a> {
-    pub(crate) rest: &'a [u8],
-    pub(crate) next: &'a [u8],
-    pub(crate) step: usize,
-    pub(crate) reads: u64,
-    pub(crate) log: &'a Log,
+    rest: &'a [u8],
+    next: &'a [u8],
+    step: usize,
+    reads: u64,
+    is_interrupted: bool,
+    log: &'a Log,
+}
+
+impl<'a> Tap<'a> {
+    /// Of a file that is not read yet.
+    pub(crate) fn new(bytes: &'a [u8], next: &'a [u8], step: usize, log: &'a Log) -> Tap<'a> {
+        Tap {
+            rest: bytes,
+            next,
+            step,
+            reads: 0,
+            is_interrupted: false,
+            log,
+        }
+    }
+
+    /// How many reads were made that no signal interrupted.
+    pub(crate) fn reads(&self) -> u64 {
+        self.reads
+    }
 }
 
 impl Read for Tap<'_> {
     fn read(&mut self, buffer: &mut [u8]) -> io::Result<usize> {
+        self.is_interrupted = !self.is_interrupted;
+        if self.is_interrupted {
+            return Err(io::Error::from(ErrorKind::Interrupted));
+        }
         self.reads = self.reads.saturating_add(1);
         if self.log.begin_read() {
             return Err(io::Error::other("the device failed"));
@@ -89,9 +121,25 @@ pub(crate) const FREE: Limits = Limits {
 /// Takes one byte a write, up to its limits.
 #[derive(Drop)]
 pub(crate) struct Basin<'a> {
-    pub(crate) taken: Vec<u8>,
-    pub(crate) limits: Limits,
-    pub(crate) log: &'a Log,
+    taken: Vec<u8>,
+    limits: Limits,
+    log: &'a Log,
+}
+
+impl<'a> Basin<'a> {
+    /// A sink that has taken nothing.
+    pub(crate) fn new(alloc: Global, limits: Limits, log: &'a Log) -> Basin<'a> {
+        Basin {
+            taken: Vec::new(alloc),
+            limits,
+            log,
+        }
+    }
+
+    /// The bytes that it took.
+    pub(crate) fn taken(&self) -> &[u8] {
+        self.taken.as_slice()
+    }
 }
 
 impl Write for Basin<'_> {
@@ -119,55 +167,4 @@ impl Write for Basin<'_> {
         self.log.flushed.store(taken, Ordering::SeqCst);
         Ok(())
     }
-}
-
-/// Files, a name and bytes each.
-pub(crate) type Files = &'static [(&'static [u8], &'static [u8])];
-
-/// Feeds of files, in which a read gives at most `step` bytes; none ends where `next` has bytes. Before each but the first
-/// this is assigned.
-pub(crate) fn feeds_of<'a>(
-    alloc: Global,
-    files: Files,
-    between: &'a [Assignment],
-    next: &'a [u8],
-    step: usize,
-    log: &'a Log,
-) -> Result<Vec<Feed<'a, Reader<Tap<'a>>>>, AllocError> {
-    let mut feeds = Vec::new(alloc);
-    for (number, (name, bytes)) in files.iter().enumerate() {
-        feeds.push(Feed {
-            before: if number > 0 { between } else { &[] },
-            name: Vec::from_slice(alloc, *name)?,
-            source: Reader::new(Tap {
-                rest: *bytes,
-                next,
-                step,
-                reads: 0,
-                log,
-            }),
-        })?;
-    }
-    Ok(feeds)
-}
-
-/// How many reads were made of each feed.
-pub(crate) fn reads_of(
-    alloc: Global,
-    feeds: &[Feed<'_, Reader<Tap<'_>>>],
-) -> Result<Vec<u64>, AllocError> {
-    let mut counts = Vec::new(alloc);
-    for feed in feeds {
-        counts.push(feed.source.inner.reads)?;
-    }
-    Ok(counts)
-}
-
-/// A sink that has taken nothing.
-pub(crate) fn sink_of<'a>(alloc: Global, limits: Limits, log: &'a Log) -> Writer<Basin<'a>> {
-    Writer::new(Basin {
-        taken: Vec::new(alloc),
-        limits,
-        log,
-    })
 }

@@ -1,0 +1,35 @@
+//! Rows of tests: a line each, with cells that blanks part. They are one text, since an array of texts is built anew, piece by
+//! piece, where it is used, and the proof goes through all of that.
+
+use std::test::Fail;
+
+/// The first cell of a row, and what comes after it.
+pub(crate) fn first_cell(row: &str) -> (&str, &str) {
+    row.split_once(' ').unwrap_or((row, ""))
+}
+
+/// The number in the first cell of a row, and what comes after it.
+pub(crate) fn first_number(row: &str) -> Result<(u64, &str), Fail> {
+    let (cell, rest) = first_cell(row);
+    match cell.parse::<u64>() {
+        Ok(number) => Ok((number, rest)),
+        Err(_) => Err(Fail::from("a cell has no number")),
+    }
+}
+
+/// Whether a cell begins so: in a cell `/` stands for a newline, and `=` comes before the first byte.
+pub(crate) fn begins_with(cell: &str, bytes: &[u8]) -> bool {
+    match cell.as_bytes() {
+        [b'=', wanted @ ..] => {
+            bytes.len() <= wanted.len()
+                && bytes.iter().zip(wanted).all(|(byte, wanted)| byte == wanted
+                    || (*byte == b'\n' && *wanted == b'/'))
+        }
+        _ => false,
+    }
+}
+
+/// Whether a cell has these bytes.
+pub(crate) fn has_bytes(cell: &str, bytes: &[u8]) -> bool {
+    bytes.len() + 1 == cell.len() && begins_with(cell, bytes)
+}
