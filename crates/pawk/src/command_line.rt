@@ -30,9 +30,6 @@ const WINDOW: u64 = 16_777_216;
 /// How many bytes of an input of known size are run at once at least where `-w` does not say.
 const SMALL_WINDOW: u64 = 1_048_576;
 
-/// Up to how many bytes the input is read whole before it is run.
-const HELD: usize = 262_144;
-
 /// How many steps BEGIN, each record and END may take where `-s` does not say.
 const STEPS: u64 = 10_000_000;
 
@@ -146,11 +143,7 @@ impl<'a> CommandLine<'a> {
 
     /// Up to how many bytes the input is read whole before it is run, and the output is held, in windows of this size.
     pub(crate) fn held_for(&self, window: usize) -> usize {
-        if self.is_whole {
-            usize::MAX
-        } else {
-            window.min(HELD)
-        }
+        if self.is_whole { usize::MAX } else { window }
     }
 }
 
