@@ -90,7 +90,7 @@ range_leaves : (n low : ℕ) (o : Option (ℕ × List ℕ)) → Leaves n o → L
 range_leaves n low None l = tt
 range_leaves n low (Some x) l = leaves_if _ (nat_le low x.0) _ _ l tt
 
-drop_one : (bytes : List ℕ) → length (drop 1 bytes) ≤ length bytes
+pub drop_one : (bytes : List ℕ) → length (drop 1 bytes) ≤ length bytes
 drop_one bytes = grind (arith, length-drop)
 
 from_leaves : (n : ℕ) (o : Option (ℕ × List ℕ)) → Leaves n o → Leaves n (from_point o)
@@ -108,7 +108,7 @@ item_shorter first c rest =
     (leaves_if _ ((c == 45) && not first) _ _ (leaves_if _ (begins 93 rest) _ _ (le_refl (length rest)) tt)
     (from_leaves (length rest) (point_at (c ∷ rest)) (point_leaves c rest)))
 
-shorter : (first : Bool) (bytes more : List ℕ) (x : BracketItem) → item_at first bytes ≡ Some (x, more) → length more < length bytes
+pub shorter : (first : Bool) (bytes more : List ℕ) (x : BracketItem) → item_at first bytes ≡ Some (x, more) → length more < length bytes
 unfolding item_at
 shorter first [] more x h = cc
 shorter first (c ∷ rest) more x h =

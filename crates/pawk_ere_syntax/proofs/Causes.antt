@@ -24,7 +24,7 @@ cause_more zero first bytes more x le lt at = absurd (omega arith)
 cause_more (suc m) first bytes more x le lt at = (m, omega arith, sym (ap (later_cause (λ rest. items_cause m false rest) (item_cause first bytes)) at))
 
 -- the cause is at the next item
-cause_here : (m : ℕ) (first : Bool) (bytes : List ℕ) → length bytes ≤ m → item_at first bytes ≡ None → items_cause m first bytes ≡ item_cause first bytes
+pub cause_here : (m : ℕ) (first : Bool) (bytes : List ℕ) → length bytes ≤ m → item_at first bytes ≡ None → items_cause m first bytes ≡ item_cause first bytes
 unfolding items_cause item_cause
 cause_here zero first [] le h = refl
 cause_here zero first (c ∷ cs) le h = absurd (omega arith)

@@ -12,7 +12,7 @@ use Rattle.pawk_ere_syntax.specs.Items.{class_text, opens, IsPoint, GoesTo, IsIt
 use Rattle.pawk_ere_syntax.proofs.EscapeNumerals.{escape_is, escape_read}
 use Rattle.pawk_ere_syntax.proofs.Reading.{some_inj}
 
-begins_with : (b : ℕ) (bytes : List ℕ) → begins b bytes ≡ true → (rest : List ℕ) × (bytes ≡ b ∷ rest)
+pub begins_with : (b : ℕ) (bytes : List ℕ) → begins b bytes ≡ true → (rest : List ℕ) × (bytes ≡ b ∷ rest)
 begins_with b [] h = absurd cc
 begins_with b (c ∷ rest) h = (rest, ap (λ x. x ∷ rest) (eqb-true c b h))
 
@@ -60,7 +60,7 @@ text_is Graph = refl
 text_is Control = refl
 text_is HexDigit = refl
 
-class_is : (bytes rest : List ℕ) (i : BracketItem) → class_at bytes ≡ Some (i, rest) → (k : Class) × (91 ∷ 58 ∷ bytes ≡ class_text k ++ rest) × (i ≡ item.Class k)
+pub class_is : (bytes rest : List ℕ) (i : BracketItem) → class_at bytes ≡ Some (i, rest) → (k : Class) × (91 ∷ 58 ∷ bytes ≡ class_text k ++ rest) × (i ≡ item.Class k)
 unfolding class_at
 class_is bytes rest i h = go (class_among all_classes bytes) refl h
   where
@@ -91,7 +91,7 @@ class_read first k rest = ap class_item (named k rest)
 
 -- ---- points
 
-point_is : (bytes rest : List ℕ) (byte : ℕ) → point_at bytes ≡ Some (byte, rest) → IsPoint bytes byte rest
+pub point_is : (bytes rest : List ℕ) (byte : ℕ) → point_at bytes ≡ Some (byte, rest) → IsPoint bytes byte rest
 unfolding point_at
 point_is [] rest byte h = absurd cc
 point_is (c ∷ more) rest byte h = go (eqb c 92) refl h
@@ -107,7 +107,7 @@ point_is (c ∷ more) rest byte h = go (eqb c 92) refl h
     go true e h = inl (more, ap (λ x. x ∷ more) (eqb-true c 92 e), escape_is more rest byte h)
     go false e h = plain (not_byte c 92 e) ((c == 91) && opens more) refl h
 
-point_read : (bytes rest : List ℕ) (byte : ℕ) → IsPoint bytes byte rest → point_at bytes ≡ Some (byte, rest)
+pub point_read : (bytes rest : List ℕ) (byte : ℕ) → IsPoint bytes byte rest → point_at bytes ≡ Some (byte, rest)
 unfolding point_at
 point_read bytes rest byte (inl h) = rw h.1 (escape_read h.0 rest byte h.2)
 point_read bytes rest byte (inr h) = rw (h.0, other_byte byte 92 h.1) (go (eqb byte 91) refl)
@@ -117,7 +117,7 @@ point_read bytes rest byte (inr h) = rw (h.0, other_byte byte 92 h.1) (go (eqb b
     go false e = refl
 
 -- a point is more than nothing, and no class
-point_some : (bytes rest : List ℕ) (byte : ℕ) → IsPoint bytes byte rest → (c : ℕ) × (more : List ℕ) × (bytes ≡ c ∷ more) × (((c == 91) && begins 58 more) ≡ false)
+pub point_some : (bytes rest : List ℕ) (byte : ℕ) → IsPoint bytes byte rest → (c : ℕ) × (more : List ℕ) × (bytes ≡ c ∷ more) × (((c == 91) && begins 58 more) ≡ false)
 point_some bytes rest byte (inl h) = (92, h.0, h.1, refl)
 point_some bytes rest byte (inr h) = (byte, rest, h.0, go (eqb byte 91) refl)
   where
@@ -147,7 +147,7 @@ stays (c ∷ more) h = go (eqb c 45) refl
     go true e = rw (h more (ap (λ x. x ∷ more) (eqb-true c 45 e))) refl
     go false e = refl
 
-on_is : (bytes : List ℕ) → goes_on bytes ≡ true → (more : List ℕ) × (bytes ≡ 45 ∷ more) × (begins 93 more ≡ false)
+pub on_is : (bytes : List ℕ) → goes_on bytes ≡ true → (more : List ℕ) × (bytes ≡ 45 ∷ more) × (begins 93 more ≡ false)
 on_is [] h = absurd cc
 on_is (c ∷ more) h = let p = and_parts (eqb c 45) (not (begins 93 more)) h in (more, ap (λ x. x ∷ more) (eqb-true c 45 p.0), flip (begins 93 more) p.1)
   where
@@ -229,7 +229,7 @@ item_is first (c ∷ more) rest i h = go ((c == 91) && begins 58 more) refl h
         inl (k.0, ap (λ x. x ∷ more) (eqb-true c 91 p.0) ∙ ap (λ l. 91 ∷ l) m.1 ∙ k.1, k.2)
     go false e h = point ((c == 45) && not first) refl h
 
-point_item : (first : Bool) (c : ℕ) (more : List ℕ) → ((c == 91) && begins 58 more) ≡ false → ((c == 45) && not first) ≡ false → item_at first (c ∷ more) ≡ from_point (point_at (c ∷ more))
+pub point_item : (first : Bool) (c : ℕ) (more : List ℕ) → ((c == 91) && begins 58 more) ≡ false → ((c == 45) && not first) ≡ false → item_at first (c ∷ more) ≡ from_point (point_at (c ∷ more))
 unfolding item_at
 point_item first c more h k = rw (h, k) refl
 

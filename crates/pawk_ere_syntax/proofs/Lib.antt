@@ -11,3 +11,4 @@ pub mod OneCause
 pub mod BracketItems
 pub mod BoundNumerals
 pub mod EscapeNumerals
+pub mod BracketCauses

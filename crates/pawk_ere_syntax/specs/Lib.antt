@@ -15,3 +15,4 @@ pub mod Builder
 pub mod Spelled
 pub mod Shape
 pub mod Causes
+pub mod BracketCauses

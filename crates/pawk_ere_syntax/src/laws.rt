@@ -1,8 +1,9 @@
 // Laws about the definitions. The calls do nothing.
 
 ghost use Rattle.pawk_ere_syntax.specs.Bounds.{bound_at};
+ghost use Rattle.pawk_ere_syntax.specs.BracketCauses.{IsBracketCause};
 ghost use Rattle.pawk_ere_syntax.specs.Brackets.{bracket_at};
-ghost use Rattle.pawk_ere_syntax.specs.Causes.{IsFirstCause};
+ghost use Rattle.pawk_ere_syntax.specs.Causes.{IsFirstCause, Stops, bracket_cause};
 ghost use Rattle.pawk_ere_syntax.specs.Escapes.{escape_at};
 ghost use Rattle.pawk_ere_syntax.specs.Items.{IsBracket};
 ghost use Rattle.pawk_ere_syntax.specs.Limits.{greatest_bound, greatest_size};
@@ -59,4 +60,11 @@ pub fn escapes_are_bytes()
 pub fn a_text_has_one_cause()
     ensures { (bytes : List ℕ) (a b : EreRefusal) → IsFirstCause bytes a → IsFirstCause bytes b
         → a ≡ b }
+{}
+
+/// What follows a `[` is no bracket expression, for one cause, exactly where it has that cause: after
+/// whole items comes a backslash that begins no escape, or what is no item.
+pub fn brackets_have_causes()
+    ensures { (s : List ℕ) (why : EreRefusal)
+        → Stops (bracket_at s) (bracket_cause s) why ↔ IsBracketCause s why }
 {}
