@@ -1,5 +1,5 @@
 -- What the pairs of a map hold, in the order of their keys.
-use Rattle.std.proofs.Common.{◌≡◌, ℕ, zero, suc, drop, ◌+◌, ◌<◌, Bool, slice_get, true, false, cond, List, [], ◌∷◌, length, Option, Some, None, refl, sym, ◌∙◌, ap, subst, arith, add-one}
+use Rattle.std.proofs.Common.{◌≡◌, ℕ, zero, suc, drop, ◌+◌, ◌<◌, Bool, slice_get, true, false, cond, List, [], ◌∷◌, length, Option, Some, None, IfSome, refl, sym, ◌∙◌, ap, subst, arith, add-one}
 use Rattle.std.specs.Prelude.{not, is_some, if◌then◌else◌, position, nat_lt}
 use Rattle.std.specs.Option.{option_map, unwrap_or}
 use Rattle.std.specs.Str.{bytes_eq}
@@ -141,6 +141,11 @@ place_found k es i e h =
     let P : ℕ → Type 0 = λ n. HasKeyAt es n k in
     subst P same (first_place k es (rw same h))
 
+-- the same of what may be a place
+pub place_if_found : {A : Type 0} (k : List ℕ) (es : List (Key × A)) (o : Option ℕ) → o ≡ position (has_bytes k) (keys_of es) → IfSome o (λ i. i < length es) → IfSome o (λ i. HasKeyAt es i k)
+place_if_found k es None e h = tt
+place_if_found k es (Some i) e h = place_found k es i (sym e) h
+
 -- a key that is put in is at its place
 pub place_inserted : {A : Type 0} (k : Key) (v : A) (es : List (Key × A)) → HasKeyAt (insert_entry same_bytes es k v) (position_or_len (same_bytes k) (keys_of es)) (text_of k)
 place_inserted k v [] = ((k, v), refl, refl)
@@ -158,6 +163,11 @@ place_inserted k v (e ∷ es) = by_cases (same_bytes k e.0) refl (place_inserted
 pub touched_there : {A B : Type 0} (view : A → B) (fresh : B) (k : List ℕ) (es : List (Key × A)) → is_some (lookup (has_bytes k) es) ≡ true →
     seen_by view es ≡ touched_by fresh k (seen_by view es)
 touched_there view fresh k es e = touched_found fresh k (seen_by view es) (rise-seen_by view es) (sym (contains_by view k es) ∙ e)
+
+-- the same where the values by keys have it
+pub touched_present : {A : Type 0} (fresh : A) (k : List ℕ) (es : List (Key × A)) → is_some (found k (by_key es)) ≡ true →
+    by_key es ≡ touched_by fresh k (by_key es)
+touched_present fresh k es e = touched_found fresh k (by_key es) (rise-seen_by (λ v. v) es) e
 
 none_is : {A : Type 0} (o : Option A) → is_some o ≡ false → o ≡ None
 none_is None e = refl
