@@ -4,7 +4,7 @@
 
 ghost use Rattle.std.specs.Prelude.{◌≡◌, ◌≤◌, ℕ, List, IfSome};
 ghost use Rattle.pawk_value.specs.Value.{Val};
-ghost use Rattle.pawk_code.specs.Expressions.{compare, field, leaf, matches};
+ghost use Rattle.pawk_code.specs.Expressions.{compare, field, leaf, matches, read, to_field};
 ghost use Rattle.pawk_code.specs.ExpressionViews.{pattern_view, view};
 ghost use Rattle.pawk_builtins.specs.ExpressionViews.{texts_of};
 ghost use Rattle.pawk_semantics.specs.Meaning.{eval, truth_of};
@@ -12,9 +12,10 @@ ghost use Rattle.pawk_semantics.specs.Parts.{Hold, Part, as_truth, bind, gives, 
 ghost use Rattle.pawk_runtime.specs.Moments.{moment};
 
 use crate::operations::matches_field;
+use crate::quick::{LEVELS, quick_field};
 use crate::run::Run;
 use pawk_builtins::{EreReference, holds_for};
-use pawk_code::expression::{Expr, Pattern, Test};
+use pawk_code::expression::{Expr, Lvalue, Pattern, Test};
 use pawk_code::leaf::Leaf;
 use pawk_code::word::Relation;
 use pawk_value::{ValueRef, compare_lent};
@@ -75,7 +76,32 @@ fn field_matches<W: World>(
     matches_field(expression, wanted, n, world, run).ok()
 }
 
-/// Whether an expression is true that compares a field with a constant, or holds one against an
+/// Whether an expression between slashes matches in the text of a field whose number is found at once, or, where no
+/// match is wanted, does not match, where that is found without a fault. Nothing is copied.
+#[inline(never)]
+fn read_matches<W: World>(
+    eres: &[Vec<u8>],
+    wanted: bool,
+    index: &Expr,
+    pattern: &Pattern,
+    world: &W,
+    run: &mut Run<'_>,
+) -> Option<bool>
+    ensures same { moment (W.state world.now) run.new ≡ moment (W.state world.now) run.old }
+    ensures left { run.new.left ≤ run.old.left }
+    ensures holds { IfSome result (λ holds. (enter : ℕ → List Hold → Part W.State Val)
+        → truth_of W.calls (texts_of eres.now) enter
+        (matches wanted (read (to_field (view index.now))) (pattern_view pattern.now))
+        (moment (W.state world.now) run.old) ≡ gives holds (moment (W.state world.now) run.old)) }
+{
+    let Pattern::Fixed(_) = pattern else {
+        return None;
+    };
+    let n = quick_field(index, LEVELS, world, run)?;
+    field_matches(eres, wanted, n, pattern, world, run)
+}
+
+/// Whether an expression is true that compares a field with a constant, or holds a field against an
 /// expression between slashes, where that is found without a fault; then no moment changes.
 ///
 /// Where it is not found nothing is said of the expression.
@@ -99,6 +125,9 @@ pub fn quick_test<W: World>(
         },
         Expr::Test(Test::Match(wanted, a, pattern)) => match a.as_ref() {
             Expr::Leaf(Leaf::Field(n)) => field_matches(eres, *wanted, *n, pattern, world, run),
+            Expr::Read(Lvalue::Field(index)) => {
+                read_matches(eres, *wanted, index, pattern, world, run)
+            }
             _ => None,
         },
         _ => None,
