@@ -56,10 +56,11 @@ fn is_calm_numeric(n: &Numeric) -> bool
     ensures { result ≡ spec.is_calm_numeric (code.numeric_view n.now) }
 {
     match n {
-        Numeric::Arithmetic(_, a, b) => is_calm(a) && is_calm(b),
-        Numeric::Sign(_, a) => is_calm(a),
-        Numeric::Function(NumericFunction::Length(a) | NumericFunction::Whole(a)) => is_calm(a),
-        Numeric::Function(NumericFunction::Index(a, b)) => is_calm(a) && is_calm(b),
+        Numeric::Arithmetic(_, a, b) | Numeric::Function(NumericFunction::Index(a, b)) => {
+            is_calm(a) && is_calm(b)
+        }
+        Numeric::Sign(_, a)
+        | Numeric::Function(NumericFunction::Length(a) | NumericFunction::Whole(a)) => is_calm(a),
         Numeric::Change(_, _, _)
         | Numeric::Step(_, _)
         | Numeric::Split(_, _, _)
@@ -74,10 +75,11 @@ fn is_calm_test(t: &Test) -> bool
     ensures { result ≡ spec.is_calm_test (code.test_view t.now) }
 {
     match t {
-        Test::Compare(_, a, b) | Test::And(a, b) | Test::Or(a, b) => is_calm(a) && is_calm(b),
-        Test::Not(a) => is_calm(a),
-        Test::Match(_, a, Pattern::Fixed(_)) => is_calm(a),
-        Test::Match(_, a, Pattern::Value(p)) => is_calm(a) && is_calm(p),
+        Test::Compare(_, a, b)
+        | Test::And(a, b)
+        | Test::Or(a, b)
+        | Test::Match(_, a, Pattern::Value(b)) => is_calm(a) && is_calm(b),
+        Test::Not(a) | Test::Match(_, a, Pattern::Fixed(_)) => is_calm(a),
         Test::In(_, keys) => are_calm(keys),
     }
 }

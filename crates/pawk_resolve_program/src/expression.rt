@@ -1,8 +1,8 @@
 //! The code of expressions.
 
-ghost use Rattle.std.specs.Prelude.{◌≡◌, IfOk};
-ghost use Rattle.pawk_code.specs.Expressions.{exprs, arguments as codes_of};
-ghost use Rattle.pawk_code.specs.ExpressionViews.{view, views, argument_views, format_view};
+ghost use Rattle.std.specs.Prelude.{◌≡◌, IfOk, IsOkAnd, Ok};
+ghost use Rattle.pawk_code.specs.Expressions.{exprs, more, arguments as codes_of};
+ghost use Rattle.pawk_code.specs.ExpressionViews.{view, views, argument_view, argument_views, format_view};
 ghost use Rattle.pawk_syntax_tree.specs.Tree.{trees, view as tree_view, views as tree_views};
 ghost use Rattle.pawk_resolve.specs.ScopeViews.{scope_view};
 ghost use Rattle.pawk_resolve.specs.Sorted as spec;
@@ -22,6 +22,39 @@ use pawk_resolve::sorted::{format, nothing, unary};
 use pawk_syntax_parse::build::both;
 use pawk_syntax_tree::tree::ExpressionTree as Tree;
 use std::alloc::{AllocError, Global};
+
+/// A code in a box, unless memory was refused to it.
+fn boxed(alloc: Global, code: Result<Expr, AllocError>) -> Result<Box<Expr>, AllocError>
+    ensures { IfOk result (λ e. code ≡ Ok e.value) }
+{
+    Ok(Box::new(alloc, code?)?)
+}
+
+/// An argument of a call, unless memory was refused to its code.
+fn passed<'t>(
+    scope: &Scope<'_, 't>,
+    tree: &'t Tree,
+    code: Result<Expr, AllocError>,
+) -> Result<Argument, AllocError>
+    ensures { IfOk result (λ a. IsOkAnd code (λ e. argument_view a ≡
+        spec.argument_of (scope_view scope.now) (tree_view tree.now) (view e))) }
+{
+    Ok(argument(scope, tree, code?))
+}
+
+/// `sprintf` of a format and what it shows, unless memory was refused to them.
+fn sprintf_of(
+    alloc: Global,
+    first: Result<Box<Expr>, AllocError>,
+    values: Result<Vec<Expr>, AllocError>,
+) -> Result<Expr, AllocError>
+    ensures { IfOk result (λ e. IsOkAnd first (λ f. IsOkAnd values (λ v.
+        view e ≡ spec.sprintf_of (more (view f.value) (exprs (views v.items)))))) }
+{
+    let (first, values) = both(first, values)?;
+    let (format, values) = both(format(alloc, first), Ok(values))?;
+    Ok(formatted(format, values))
+}
 
 /// The code of an expression.
 #[cycle(expression)]
@@ -74,21 +107,7 @@ fn operand<'t>(
     ensures { IfOk result (λ e. view e.value ≡
         resolved (scope_view scope.now) (tree_view tree.now)) }
 {
-    let e = expression(scope, alloc, tree)?;
-    Ok(Box::new(alloc, e)?)
-}
-
-/// The format that an expression is.
-#[cycle(expression)]
-pub fn format_of<'t>(
-    scope: &Scope<'_, 't>,
-    alloc: Global,
-    tree: &'t Tree,
-) -> Result<Format, AllocError>
-    ensures { IfOk result (λ f. format_view f ≡
-        spec.format_by (resolved (scope_view scope.now) (tree_view tree.now))) }
-{
-    format(alloc, operand(scope, alloc, tree)?)
+    boxed(alloc, expression(scope, alloc, tree))
 }
 
 /// `sprintf` of these, of which the first is the format.
@@ -104,9 +123,8 @@ fn sprintf<'t>(
     match arguments {
         [] => Ok(nothing()),
         [first, others @ ..] => {
-            let first = format_of(scope, alloc, first);
-            let (format, others) = both(first, list(scope, alloc, others))?;
-            Ok(formatted(format, others))
+            let first = operand(scope, alloc, first);
+            sprintf_of(alloc, first, list(scope, alloc, others))
         }
     }
 }
@@ -185,8 +203,20 @@ fn arguments<'t>(
 {
     let mut codes = Vec::with_capacity(alloc, list.len())?;
     for tree in list {
-        let code = expression(scope, alloc, tree)?;
-        codes.push(argument(scope, tree, code))?;
+        let argument = passed(scope, tree, expression(scope, alloc, tree));
+        push_result(&mut codes, argument)?;
     }
     Ok(codes)
+}
+
+/// The format that an expression is.
+pub fn format_of<'t>(
+    scope: &Scope<'_, 't>,
+    alloc: Global,
+    tree: &'t Tree,
+) -> Result<Format, AllocError>
+    ensures { IfOk result (λ f. format_view f ≡
+        spec.format_by (resolved (scope_view scope.now) (tree_view tree.now))) }
+{
+    format(alloc, operand(scope, alloc, tree)?)
 }

@@ -1,6 +1,6 @@
 //! The tables of a program's names.
 
-ghost use Rattle.std.specs.Prelude.{◌≡◌, ◌++◌, OnOk, IfOk, map, filter};
+ghost use Rattle.std.specs.Prelude.{◌≡◌, ◌++◌, [], OnOk, IfOk, map, filter};
 ghost use Rattle.std.specs.List.{flat_map};
 ghost use Rattle.pawk_syntax_tree.specs.Item.{part};
 ghost use Rattle.pawk_syntax_check.specs.Demands.{KindsFit, AreKindsOf};
@@ -17,21 +17,30 @@ use pawk_resolve::scope::GlobalNames;
 use pawk_resolve::table::NameTable;
 use pawk_syntax_check::functions::Functions;
 use pawk_syntax_check::kinds::Kinds;
+use pawk_syntax_parse::build::both;
 use pawk_syntax_tree::item::ProgramItem;
 use std::alloc::{AllocError, Global};
 
-/// The scalars of the language that a program may assign.
-fn fixed_scalars<'t>(alloc: Global) -> Result<NameTable<'t>, AllocError>
-    ensures { IfOk result (λ t. table_names t ≡ first_scalars) }
+/// Adds the scalars of the language that a program may assign to a table that holds no names.
+fn add_fixed_scalars(table: &mut NameTable<'_>) -> Result<(), AllocError>
+    requires { table_names table.old ≡ [] }
+    ensures { OnOk result (table_names table.new ≡ first_scalars) }
 {
-    let mut table = NameTable::new(alloc);
     table.push(b"FS")?;
     table.push(b"OFS")?;
     table.push(b"ORS")?;
     table.push(b"RS")?;
     table.push(b"SUBSEP")?;
     table.push(b"CONVFMT")?;
-    table.push(b"OFMT")?;
+    table.push(b"OFMT")
+}
+
+/// The scalars of the language that a program may assign.
+fn fixed_scalars<'t>(alloc: Global) -> Result<NameTable<'t>, AllocError>
+    ensures { IfOk result (λ t. table_names t ≡ first_scalars) }
+{
+    let mut table = NameTable::new(alloc);
+    add_fixed_scalars(&mut table)?;
     Ok(table)
 }
 
@@ -107,9 +116,8 @@ fn variables<'t>(
         spec.array_names (kinds_in kinds.now) (map part items.now)) }
 {
     let names = global_names(alloc, items)?;
-    let scalars = scalars(alloc, kinds, names.as_slice())?;
-    let arrays = arrays(alloc, kinds, names.as_slice())?;
-    Ok((scalars, arrays))
+    let scalars = scalars(alloc, kinds, names.as_slice());
+    both(scalars, arrays(alloc, kinds, names.as_slice()))
 }
 
 /// The kinds of the names of a program.
@@ -132,10 +140,12 @@ pub fn globals_of<'t>(
     ensures names { IfOk result (λ g. globals_view g ≡
         spec.globals_of (kinds_in g.kinds) (map (λ x. x.items) texts.now) (map part items.now)) }
 {
-    let functions = functions(alloc, items)?;
-    let expressions = different(alloc, texts)?;
     let kinds = kinds(alloc, items)?;
-    let (scalars, arrays) = variables(alloc, &kinds, items)?;
+    let variables = variables(alloc, &kinds, items);
+    let others = both(functions(alloc, items), different(alloc, texts));
+    let (kinds, (variables, others)) = both(Ok(kinds), both(variables, others))?;
+    let (scalars, arrays) = variables;
+    let (functions, expressions) = others;
     Ok(GlobalNames {
         kinds,
         scalars,

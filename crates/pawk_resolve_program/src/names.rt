@@ -12,6 +12,7 @@ ghost use Rattle.pawk_resolve.specs.ResolvedPrograms as spec;
 use pawk_resolve::table::NameTable;
 use pawk_syntax_check::item::mentions;
 use pawk_syntax_check::mention::Mention;
+use pawk_syntax_parse::build::both;
 use pawk_syntax_tree::item::ProgramItem;
 use pawk_syntax_tree::tree::Name;
 use std::alloc::{AllocError, Global};
@@ -67,6 +68,22 @@ fn add_mention<'t>(
     Ok(())
 }
 
+/// Adds the names that are mentioned as variables, without parameters.
+fn add_mentions<'t>(
+    names: &mut Vec<&'t [u8]>,
+    parameters: &NameTable<'t>,
+    mentions: &[Mention<'t>],
+) -> Result<(), AllocError>
+    ensures { OnOk result (texts names.new.items ≡ texts names.old.items ++
+        filter (λ x. not (is_among (table_names parameters.now) x))
+        (flat_map spec.mentioned (map mention_view mentions.now))) }
+{
+    for mention in mentions {
+        add_mention(names, parameters, *mention)?;
+    }
+    Ok(())
+}
+
 /// Adds the global names of an item.
 fn add_item<'t>(
     names: &mut Vec<&'t [u8]>,
@@ -76,12 +93,8 @@ fn add_item<'t>(
     ensures { OnOk result (texts names.new.items ≡
         texts names.old.items ++ spec.global_names (part item.now)) }
 {
-    let parameters = parameters(alloc, item)?;
-    let mentions = mentions(alloc, item)?;
-    for mention in mentions.as_slice() {
-        add_mention(names, &parameters, *mention)?;
-    }
-    Ok(())
+    let (parameters, mentions) = both(parameters(alloc, item), mentions(alloc, item))?;
+    add_mentions(names, &parameters, mentions.as_slice())
 }
 
 /// The global names of these items.

@@ -11,6 +11,7 @@ ghost use Rattle.pawk_resolve_program.specs.Codes.{IsCodeOf};
 
 use crate::actions::{actions_of, functions};
 use crate::globals::globals_of;
+use crate::vectors::push_result;
 use pawk_code::program::Code;
 use pawk_resolve::scope::GlobalNames;
 use pawk_syntax::Program;
@@ -23,7 +24,7 @@ fn copied(alloc: Global, texts: &[&[u8]]) -> Result<Vec<Vec<u8>>, AllocError>
 {
     let mut all = Vec::new(alloc);
     for text in texts {
-        all.push(Vec::from_slice(alloc, text)?)?;
+        push_result(&mut all, Vec::from_slice(alloc, text))?;
     }
     Ok(all)
 }
