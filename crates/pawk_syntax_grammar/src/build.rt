@@ -11,19 +11,19 @@ ghost use Rattle.pawk_syntax_grammar.specs.Reads.{body_of, option_of, stmt_of};
 
 use crate::body::{Body, BodyStatement};
 use pawk_lex::refusal::SyntaxRefusal;
-use pawk_syntax_parse::build::fitted;
+use pawk_syntax_parse::build::{fitted, keep_if};
 use pawk_syntax_parse::cursor::Cursor;
 use pawk_syntax_parse::phrase::{Phrase, Phrases};
 use pawk_syntax_tree::statement::{Jump, StatementTree};
 use pawk_syntax_tree::tree::{ExpressionTree, Name};
 use std::alloc::{AllocError, Global};
 
-/// A list of one statement.
-fn list_of(alloc: Global, statement: StatementTree) -> Result<Vec<StatementTree>, AllocError>
-    ensures { IfOk result (λ list. list.items ≡ statement ∷ []) }
+/// A list of one value, of any type, so that the way out drops the value by one call.
+fn list_of<T: Drop>(alloc: Global, value: T) -> Result<Vec<T>, AllocError>
+    ensures { IfOk result (λ list. list.items ≡ value ∷ []) }
 {
     let mut list = Vec::with_capacity(alloc, 1)?;
-    list.push(statement)?;
+    list.push(value)?;
     Ok(list)
 }
 
@@ -39,8 +39,7 @@ pub fn low(
     ensures { Gives body_of (spec.low_stmt (stmt_view statement) (input ts.now)) result
         (input ts.now) }
 {
-    let list = list_of(alloc, statement)?;
-    ts.low(height)?;
+    let list = keep_if(list_of(alloc, statement)?, ts.low(height))?;
     Ok(Body {
         list,
         highest: height,
