@@ -83,7 +83,7 @@ fn deleted(alloc: Global, ts: &mut Cursor<'_>) -> Result<BodyStatement, SyntaxRe
     if !ts.eat(Mark::LeftBracket) {
         return Ok(build::line(alloc, build::clear(array), 1)?);
     }
-    let keys = list_up_to(alloc, ts, Mark::RightBracket)?;
+    let (array, keys) = both(Ok(array), list_up_to(alloc, ts, Mark::RightBracket))?;
     let height = keys.highest + 1;
     let statement = build::delete(array, keys.list);
     Ok(build::line(alloc, statement, height)?)
@@ -224,8 +224,7 @@ fn maybe_up_to(
 {
     let none_here = ts.sees(close);
     let e = maybe(alloc, ts, none_here)?;
-    ts.expect(close, true)?;
-    Ok(e)
+    keep_if(e, ts.expect(close, true))
 }
 
 #[tactic(auto, unfolding(pawk_syntax_tree::specs::StatementParse::walks))]
@@ -233,10 +232,9 @@ fn walks(alloc: Global, ts: &mut Cursor<'_>) -> Result<(Name, Name), SyntaxRefus
     ensures { Gives names_of (spec.walks (input ts.old)) result (input ts.new) }
 {
     let key = expect_name(alloc, ts, true)?;
-    ts.expect(Mark::In, true)?;
-    let array = expect_name(alloc, ts, true)?;
-    ts.expect(Mark::RightParenthesis, true)?;
-    Ok((key, array))
+    let key = keep_if(key, ts.expect(Mark::In, true))?;
+    let names = both(Ok(key), expect_name(alloc, ts, true))?;
+    keep_if(names, ts.expect(Mark::RightParenthesis, true))
 }
 
 /// The reading of statements, with a reader of those that are nested.
@@ -318,7 +316,7 @@ impl<F: Fn(Global, &mut Cursor<'_>, usize) -> Result<Body, SyntaxRefusal>> State
     {
         ts.skip_lines();
         let a = self.nested(ts)?;
-        let e = foot(self.alloc, ts)?;
+        let (a, e) = both(Ok(a), foot(self.alloc, ts))?;
         build::low_do(self.alloc, ts, a, e)
     }
 
@@ -329,7 +327,7 @@ impl<F: Fn(Global, &mut Cursor<'_>, usize) -> Result<Body, SyntaxRefusal>> State
             (input ts.old)) result (input ts.new) }
     {
         ts.skip_lines();
-        let body = self.nested(ts)?;
+        let (names, body) = both(Ok(names), self.nested(ts))?;
         build::low_walk(self.alloc, ts, names, body)
     }
 
@@ -340,8 +338,11 @@ impl<F: Fn(Global, &mut Cursor<'_>, usize) -> Result<Body, SyntaxRefusal>> State
             (input ts.new) }
     {
         let a = maybe_up_to(self.alloc, ts, Mark::Semicolon)?;
-        let b = maybe_up_to(self.alloc, ts, Mark::Semicolon)?;
-        let c = maybe_up_to(self.alloc, ts, Mark::RightParenthesis)?;
+        let (a, b) = both(Ok(a), maybe_up_to(self.alloc, ts, Mark::Semicolon))?;
+        let ((a, b), c) = both(
+            Ok((a, b)),
+            maybe_up_to(self.alloc, ts, Mark::RightParenthesis),
+        )?;
         ts.skip_lines();
         let (head, body) = both(Ok((a, b, c)), self.nested(ts))?;
         build::low_count(self.alloc, ts, head, body)
@@ -371,7 +372,7 @@ impl<F: Fn(Global, &mut Cursor<'_>, usize) -> Result<Body, SyntaxRefusal>> State
             (input ts.new) }
     {
         let line = simple(self.alloc, ts)?;
-        end(ts, compares)?;
+        let line = keep_if(line, end(ts, compares))?;
         build::low(self.alloc, ts, Box::into_inner(line.statement), line.height)
     }
 
