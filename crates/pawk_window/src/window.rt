@@ -125,7 +125,7 @@ impl Window {
 
     /// Takes the whole records out, in the buffer that they came in, with nothing after them; the tail goes to the front of `spare`,
     /// which is the window's buffer from then on. Records that come back as the next call's `spare` are overwritten, so that two
-    /// buffers do for all windows.
+    /// buffers do for all windows. Where neither has a byte the buffer stays, as long as it is, for another source.
     ///
     /// The error comes where memory was refused for a tail longer than `spare`; the window is then as it was.
     pub fn take_records(&mut self, spare: Vec<u8>) -> Result<Vec<u8>, AllocError>
@@ -134,6 +134,9 @@ impl Window {
         ensures ok { OnOk result (self.new ≡ forgotten self.old self.new.room) }
         ensures err { OnErr result (self.new ≡ self.old) }
     {
+        if self.filled == 0 && spare.is_empty() {
+            return Ok(spare);
+        }
         let mut buffer = copy_to_front(spare, &self.buffer, self.whole, self.filled)?;
         mem::swap(&mut self.buffer, &mut buffer);
         buffer.truncate(self.whole);
