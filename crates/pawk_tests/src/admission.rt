@@ -105,30 +105,38 @@ fn after_roles<'t>(
     Some(rest)
 }
 
-/// Whether a text says these roles of the globals of a program.
-fn are_roles(code: &Code, roles: &Roles, text: &[u8]) -> bool {
+/// What comes after the roles of the globals of a program.
+fn after_all_roles<'t>(code: &Code, roles: &Roles, text: &'t [u8]) -> Option<&'t [u8]> {
     let scalars = code.scalars.as_slice();
     let arrays = code.arrays.as_slice();
-    after_roles(scalars, roles.scalars.as_slice(), LANGUAGE, text)
-        .and_then(|rest| after_roles(arrays, roles.arrays.as_slice(), 0, rest))
-        .is_some_and(|rest| rest.is_empty())
+    let rest = after_roles(scalars, roles.scalars.as_slice(), LANGUAGE, text)?;
+    after_roles(arrays, roles.arrays.as_slice(), 0, rest)
 }
 
-/// Whether a program may run in chunks, and its globals have these roles.
-fn has_roles(alloc: Global, text: &[u8], wanted: &[u8]) -> Result<bool, Fail> {
+/// Whether a program may run in chunks, and a text says these roles of its globals.
+fn are_roles(alloc: Global, code: &Code, text: &[u8]) -> bool {
+    match admit(alloc, code) {
+        Ok(roles) => matches!(after_all_roles(code, &roles, text), Some([])),
+        Err(_) => false,
+    }
+}
+
+/// Whether a program's text may run in chunks, and its globals have these roles.
+fn has_roles(alloc: Global, text: &[u8], wanted: &[u8]) -> Result<bool, StreamRefusal> {
     let code = code_of(alloc, text)?;
-    let roles = admit(alloc, &code).map_err(|_| "not admitted")?;
-    Ok(are_roles(&code, &roles, wanted))
+    Ok(are_roles(alloc, &code, wanted))
+}
+
+/// Whether a row of roles is right.
+fn is_admitted_so(alloc: Global, row: &str) -> Result<bool, StreamRefusal> {
+    let (wanted, text) = row.split_once(':').unwrap_or((row, ""));
+    has_roles(alloc, text.as_bytes(), wanted.as_bytes())
 }
 
 #[test]
 fn globals_have_roles(rt: HostRuntime) -> Result<(), Fail> {
     for row in ROLES.lines() {
-        let (wanted, text) = row.split_once(':').unwrap_or((row, ""));
-        assert!(rt;
-            has_roles(rt.alloc(), text.as_bytes(), wanted.as_bytes())?,
-            "{row}"
-        );
+        assert!(rt; is_admitted_so(rt.alloc(), row)?, "{row}");
     }
     let lines = b"{ print $1 $2 }\n{ n++ }";
     assert!(rt; has_roles(rt.alloc(), lines, b"n=adder")?);
@@ -178,9 +186,9 @@ fn number_of(answer: &Result<(Code, Settings), StreamRefusal>) -> u64 {
 }
 
 /// Whether a row of settings is right for a program.
-fn is_set_so(alloc: Global, row: &str) -> Result<bool, Fail> {
-    let (wanted, row) = first_number(row)?;
-    let (budget, row) = first_number(row)?;
+fn is_set_so(alloc: Global, row: &str) -> Result<bool, AllocError> {
+    let (wanted, row) = first_number(row);
+    let (budget, row) = first_number(row);
     let assigns = all_assigned_in(alloc, row)?;
     let cutting = Cutting::Size(1);
     let request = Request {

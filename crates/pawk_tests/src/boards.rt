@@ -11,14 +11,21 @@ use std::test::Fail;
 use std::thread;
 
 /// A board with two seats.
-fn two_seats(alloc: Global, chunks: u64) -> Result<(Board, BoardSeat, BoardSeat), Fail>
+pub(crate) fn two_seats(
+    alloc: Global,
+    chunks: u64,
+) -> Result<(Board, BoardSeat, BoardSeat), AllocError>
     requires { chunks ≤ most_chunks }
     ensures { IfOk result (λ r. (r.0.chunks ≡ chunks) × (r.0.workers ≡ 2)
         × (r.1 ≡ fresh r.0.id) × (r.2 ≡ fresh r.0.id)) }
 {
     let (board, mut seats) = Board::new(alloc, chunks, 2)?;
-    let b = seats.pop().ok_or("no second seat")?;
-    let a = seats.pop().ok_or("no first seat")?;
+    let Some(b) = seats.pop() else {
+        return Err(AllocError);
+    };
+    let Some(a) = seats.pop() else {
+        return Err(AllocError);
+    };
     Ok((board, a, b))
 }
 

@@ -1,10 +1,10 @@
 //! Cuts by hand.
 
-use crate::fixtures::{SUM, chunks_show, one_file, runs};
+use crate::fixtures::{SUM, chunks_show, runs};
 use crate::gates::{Holding, seen_by};
 use crate::rows::first_number;
-use pawk_par::{Cutting, Way};
-use std::alloc::Global;
+use pawk_par::{Cutting, StreamRefusal, Way};
+use std::alloc::{AllocError, Global};
 use std::sync::Wait;
 use std::test::Fail;
 use std::thread::Threads;
@@ -19,10 +19,10 @@ const CUTS: &str = "\
 ";
 
 /// The cuts that a text says, all of them in the first file.
-fn cuts_of(alloc: Global, text: &str) -> Result<Vec<(usize, usize)>, Fail> {
+fn cuts_of(alloc: Global, text: &str) -> Result<Vec<(usize, usize)>, AllocError> {
     let mut cuts = Vec::new(alloc);
     for cell in text.split_terminator(' ') {
-        let (offset, _) = first_number(cell)?;
+        let (offset, _) = first_number(cell);
         cuts.push((0, offset as usize))?;
     }
     Ok(cuts)
@@ -33,18 +33,17 @@ fn is_cut_so<R: AllocGlobal + Threads + Wait>(
     rt: &R,
     row: &str,
     gate: &Holding<'_>,
-) -> Result<bool, Fail> {
-    let (has_plan, row) = first_number(row)?;
-    let (chunks, offsets) = first_number(row)?;
+) -> Result<bool, StreamRefusal> {
+    let (has_plan, row) = first_number(row);
+    let (chunks, offsets) = first_number(row);
     let cutting = Cutting::At(cuts_of(rt.alloc(), offsets)?);
     let way = Way {
         cutting: &cutting,
         workers: 2,
     };
-    let mut input = one_file(rt.alloc(), b"1\n2\n3\n")?;
-    let is_shown = runs(rt, SUM, &mut input, way, gate, chunks_show(b"6\n"))?;
+    let is_shown = runs(rt, SUM, b"1\n2\n3\n", way, gate, chunks_show(b"6\n"))?;
     let (_, _, entered, _) = seen_by(gate);
-    Ok(is_shown == Some(has_plan == 1) && entered == chunks)
+    Ok(is_shown == (has_plan == 1) && entered == chunks)
 }
 
 #[test]

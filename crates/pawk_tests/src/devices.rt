@@ -6,7 +6,6 @@ use pawk_par::{
     Cutting, Ending, Open, Reader, Report, Request, Seed, StreamRefusal, Writer, run_streams,
 };
 use std::sync::Wait;
-use std::test::Fail;
 use std::thread::Threads;
 
 /// The number of a refusal, and that of the program's or the setting's own cause, or how many bytes were written.
@@ -79,11 +78,11 @@ const READS: &str = "\
 ";
 
 /// Whether a row of reads is right.
-fn is_read_so<R: AllocGlobal + Threads + Wait>(rt: &R, row: &str) -> Result<bool, Fail> {
-    let (reads, row) = first_number(row)?;
-    let (budget, row) = first_number(row)?;
-    let (refusal, row) = first_number(row)?;
-    let (detail, row) = first_number(row)?;
+fn is_read_so<R: AllocGlobal + Threads + Wait>(rt: &R, row: &str) -> bool {
+    let (reads, row) = first_number(row);
+    let (budget, row) = first_number(row);
+    let (refusal, row) = first_number(row);
+    let (detail, row) = first_number(row);
     let (output, text) = first_cell(row);
     let trial = Trial {
         text,
@@ -93,15 +92,14 @@ fn is_read_so<R: AllocGlobal + Threads + Wait>(rt: &R, row: &str) -> Result<bool
         cause: (refusal, detail),
         output,
     };
-    Ok(is_right(rt, trial))
+    is_right(rt, trial)
 }
 
 #[test]
-fn a_read_fails(rt: HostRuntime) -> Result<(), Fail> {
+fn a_read_fails(rt: HostRuntime) {
     for row in READS.lines() {
-        assert!(rt; is_read_so(&rt, row)?, "{row}");
+        assert!(rt; is_read_so(&rt, row), "{row}");
     }
-    Ok(())
 }
 
 /// How many bytes are taken, whether the next write then fails (1) or takes nothing (0), why the run is refused, what is written,
@@ -120,11 +118,11 @@ const WRITES: &str = "\
 ";
 
 /// Whether a row of writes is right.
-fn is_written_so<R: AllocGlobal + Threads + Wait>(rt: &R, row: &str) -> Result<bool, Fail> {
-    let (writes, row) = first_number(row)?;
-    let (fails, row) = first_number(row)?;
-    let (refusal, row) = first_number(row)?;
-    let (detail, row) = first_number(row)?;
+fn is_written_so<R: AllocGlobal + Threads + Wait>(rt: &R, row: &str) -> bool {
+    let (writes, row) = first_number(row);
+    let (fails, row) = first_number(row);
+    let (refusal, row) = first_number(row);
+    let (detail, row) = first_number(row);
     let (output, text) = first_cell(row);
     let limits = Limits {
         writes,
@@ -139,13 +137,12 @@ fn is_written_so<R: AllocGlobal + Threads + Wait>(rt: &R, row: &str) -> Result<b
         cause: (refusal, detail),
         output,
     };
-    Ok(is_right(rt, trial))
+    is_right(rt, trial)
 }
 
 #[test]
-fn a_write_fails(rt: HostRuntime) -> Result<(), Fail> {
+fn a_write_fails(rt: HostRuntime) {
     for row in WRITES.lines() {
-        assert!(rt; is_written_so(&rt, row)?, "{row}");
+        assert!(rt; is_written_so(&rt, row), "{row}");
     }
-    Ok(())
 }

@@ -1,28 +1,33 @@
-//! What several tests need.
+//! What several tests need. Each function has one owned value at most where it can return early, and ends with it.
 
-ghost use Rattle.std.specs.Prelude.{◌≤◌};
+ghost use Rattle.std.specs.Prelude.{◌≤◌, [], ◌∷◌, IfOk};
 ghost use Rattle.pawk_chunks.specs.Task.{IsCrew};
+ghost use Rattle.pawk_input.specs.Input.{IsReady};
 ghost use Rattle.pawk_threads.specs.Cuttings.{IsSized};
 
 use pawk_code::program::Code;
 use pawk_input::Input;
 use pawk_par::{
-    Cutting, Ending, Gate, Job, Outcome, Place, Refusal, Request, Route, Seed, Way, prepare, run,
+    Cutting, Ending, Gate, Job, Outcome, Place, Refusal, Request, Route, Seed, StreamRefusal, Way,
+    prepare, run,
 };
 use pawk_value::Fault;
-use std::alloc::Global;
+use std::alloc::{AllocError, Global};
 use std::sync::Wait;
-use std::test::Fail;
 use std::thread::Threads;
 
 /// The program that adds up the first field.
 pub(crate) const SUM: &[u8] = b"{ n += $1 } END { print n }";
 
-/// An input of one file without a name.
-pub(crate) fn one_file(alloc: Global, bytes: &[u8]) -> Result<Input, Fail> {
-    let mut files = Vec::new(alloc);
-    files.push((Vec::new(alloc), Vec::from_slice(alloc, bytes)?))?;
-    Ok(Input::new(files).map_err(|_| "too large")?)
+/// An input of one file without a name; memory is refused for one that is too large.
+pub(crate) fn one_file(alloc: Global, bytes: &[u8]) -> Result<Input, AllocError>
+    ensures { IfOk result (λ input. IsReady (10 ∷ []) input) }
+{
+    let bytes = Vec::from_slice(alloc, bytes)?;
+    match Input::new(vec![in alloc; (Vec::new(alloc), bytes)]?) {
+        Ok(input) => Ok(input),
+        Err(_) => Err(AllocError),
+    }
 }
 
 /// The request of a run of a text by two workers.
@@ -38,10 +43,17 @@ pub(crate) fn request_of<'a>(text: &'a [u8], budget: u64, cutting: &'a Cutting) 
 }
 
 /// The code of a program's text.
-pub(crate) fn code_of(alloc: Global, text: &[u8]) -> Result<Code, Fail> {
-    match prepare(alloc, &request_of(text, 1000, &Cutting::Size(1))) {
-        Ok((code, _)) => Ok(code),
-        Err(_) => Err(Fail::from("refused")),
+pub(crate) fn code_of(alloc: Global, text: &[u8]) -> Result<Code, StreamRefusal> {
+    let (code, _) = prepare(alloc, &request_of(text, 1000, &Cutting::Size(1)))?;
+    Ok(code)
+}
+
+/// A program with 1,000 steps for each record.
+pub(crate) fn job_of(code: &Code) -> Job<'_> {
+    Job {
+        code,
+        budget: 1000,
+        seed: Seed::new(0),
     }
 }
 
@@ -91,16 +103,15 @@ fn is_shown(outcome: &Outcome, route: Route, shown: RunOutcome<'_>) -> bool {
         && route == shown.route
 }
 
-/// Whether a program's text shows this over an input, with 1,000 steps for each record: not where the cutting is refused.
-/// None where the run is refused for another reason.
-pub(crate) fn runs<R, G>(
+/// Whether a program shows this over these bytes: not where the cutting is refused.
+fn job_shows<R, G>(
     rt: &R,
-    text: &[u8],
-    input: &mut Input,
+    job: Job<'_>,
+    bytes: &[u8],
     way: Way<'_>,
     gate: &G,
     shown: RunOutcome<'_>,
-) -> Result<Option<bool>, Fail>
+) -> Result<bool, StreamRefusal>
 where
     R: AllocGlobal + Threads + Wait,
     G: Gate + Sync,
@@ -108,17 +119,31 @@ where
     requires workers { IsCrew way.workers }
 {
     let alloc = rt.alloc();
-    let code = code_of(alloc, text)?;
-    let job = Job {
-        code: &code,
-        budget: 1000,
-        seed: Seed::new(0),
-    };
-    Ok(match run(rt, alloc, job, &[], input, way, gate) {
-        Ok((outcome, report)) => Some(is_shown(&outcome, report.route, shown)),
-        Err(Refusal::Cutting) => Some(false),
-        Err(_) => None,
-    })
+    let mut input = one_file(alloc, bytes)?;
+    match run(rt, alloc, job, &[], &mut input, way, gate) {
+        Ok((outcome, report)) => Ok(is_shown(&outcome, report.route, shown)),
+        Err(Refusal::Cutting) => Ok(false),
+        Err(why) => Err(StreamRefusal::from(why)),
+    }
+}
+
+/// Whether a program's text shows this over these bytes, with 1,000 steps for each record: not where the cutting is refused.
+pub(crate) fn runs<R, G>(
+    rt: &R,
+    text: &[u8],
+    bytes: &[u8],
+    way: Way<'_>,
+    gate: &G,
+    shown: RunOutcome<'_>,
+) -> Result<bool, StreamRefusal>
+where
+    R: AllocGlobal + Threads + Wait,
+    G: Gate + Sync,
+    requires sized { IsSized way.cutting.now }
+    requires workers { IsCrew way.workers }
+{
+    let code = code_of(rt.alloc(), text)?;
+    job_shows(rt, job_of(&code), bytes, way, gate, shown)
 }
 
 /// Whether a program's text shows this over these bytes, cut into chunks of one byte or more.
@@ -129,7 +154,7 @@ pub(crate) fn shows<R, G>(
     workers: usize,
     gate: &G,
     shown: RunOutcome<'_>,
-) -> Result<bool, Fail>
+) -> Result<bool, StreamRefusal>
 where
     R: AllocGlobal + Threads + Wait,
     G: Gate + Sync,
@@ -140,6 +165,5 @@ where
         cutting: &cutting,
         workers,
     };
-    let mut input = one_file(rt.alloc(), bytes)?;
-    Ok(runs(rt, text, &mut input, way, gate, shown)? == Some(true))
+    runs(rt, text, bytes, way, gate, shown)
 }

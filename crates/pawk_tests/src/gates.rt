@@ -1,21 +1,9 @@
-//! Workers that a gate watches.
+//! Workers that a gate watches, which runs of a program start.
 
-ghost use Rattle.std.specs.Prelude.{◌≡◌, ◌≤◌, [], ◌∷◌, length, IfOk};
-ghost use Rattle.pawk_board.specs.Limits.{most_chunks};
-ghost use Rattle.pawk_board.specs.Views.{fresh};
-ghost use Rattle.pawk_input.specs.Input.{IsReady, files_of};
-ghost use Rattle.pawk_input.specs.Plan.{IsPlanOf};
-ghost use Rattle.pawk_chunks.specs.Task.{IsChunked, IsTask};
-
-use crate::fixtures::{RunOutcome, SUM, chunks_show, code_of, one_file, shows};
-use pawk_admit::admit;
-use pawk_board::{Board, BoardSeat};
-use pawk_code::program::Code;
-use pawk_input::{Input, Plan};
-use pawk_par::{ChunkResult, Chunked, Gate, Job, Left, Opening, Route, Task, work};
-use pawk_store::{Globals, RecordState, Seed};
+use crate::fixtures::{RunOutcome, SUM, chunks_show, shows};
+use pawk_par::{Gate, Route, StreamRefusal};
 use pawk_value::Fault;
-use std::alloc::{AllocError, Global};
+use std::sync::Wait;
 use std::sync::atomic::{AtomicU64, Ordering};
 use std::test::Fail;
 use std::thread;
@@ -24,7 +12,7 @@ use std::time::Duration;
 
 /// What another chunk must have done before the one that is held goes on.
 #[derive(Clone, Copy)]
-enum Until {
+pub(crate) enum Until {
     Entered,
     Left,
 }
@@ -75,13 +63,24 @@ impl<'a> Holding<'a> {
         }
     }
 
-    fn new(clock: &'a HostRuntime, held: u64, awaited: u64, until: Until) -> Holding<'a> {
+    /// A gate that holds a chunk until another has entered or left.
+    pub(crate) fn new(
+        clock: &'a HostRuntime,
+        held: u64,
+        awaited: u64,
+        until: Until,
+    ) -> Holding<'a> {
         Holding::of(clock, Watched::Chunks, held, awaited, until)
     }
 
     /// A gate that holds no chunk.
     pub(crate) fn none(clock: &'a HostRuntime) -> Holding<'a> {
         Holding::new(clock, 99, 99, Until::Left)
+    }
+
+    /// The first byte and the length of the output of each of the first four chunks, from the lowest 16 bits on.
+    pub(crate) fn lent(&self) -> u64 {
+        self.lent.load(Ordering::SeqCst)
     }
 
     fn is_free(&self) -> bool {
@@ -154,29 +153,54 @@ pub(crate) fn seen_by(gate: &Holding<'_>) -> (u64, u64, u64, u64) {
     )
 }
 
+/// Whether a run of two workers over two lines, each of which the gate lets in once, gives their sum.
+fn sums_at_once<R: AllocGlobal + Threads + Wait>(
+    rt: &R,
+    gate: &Holding<'_>,
+) -> Result<bool, StreamRefusal> {
+    let is_shown = shows(rt, SUM, b"1\n2\n", 2, gate, chunks_show(b"3\n"))?;
+    Ok(is_shown && seen_by(gate) == (0, 2, 3, 3))
+}
+
 // Two workers run at once: each chunk is held until the other has entered.
 #[test]
 fn two_workers_run_at_once(rt: HostRuntime) -> Result<(), Fail> {
-    for (held, awaited) in [(0, 1), (1, 0)] {
-        let gate = Holding::new(&rt, held, awaited, Until::Entered);
-        let is_shown = shows(&rt, SUM, b"1\n2\n", 2, &gate, chunks_show(b"3\n"))?;
-        assert!(rt; seen_by(&gate) == (0, 2, 3, 3), "chunk {held} was held");
-        assert!(rt; is_shown);
-    }
+    let zero = Holding::new(&rt, 0, 1, Until::Entered);
+    assert!(rt; sums_at_once(&rt, &zero)?, "chunk 0 was held");
+    let one = Holding::new(&rt, 1, 0, Until::Entered);
+    assert!(rt; sums_at_once(&rt, &one)?, "chunk 1 was held");
     Ok(())
+}
+
+/// Whether two workers count the record of a line of two blocks, each of which the gate lets in once.
+fn count_at_once<R: AllocGlobal + Threads + Wait>(
+    rt: &R,
+    line: &[u8],
+    gate: &Holding<'_>,
+) -> Result<bool, StreamRefusal> {
+    let is_shown = shows(rt, b"END { print NR }", line, 2, gate, chunks_show(b"1\n"))?;
+    Ok(is_shown && seen_by(gate) == (0, 2, 3, 3))
+}
+
+/// Whether two workers count a line of two blocks with each of two gates.
+fn count_twice<R: AllocGlobal + Threads + Wait>(
+    rt: &R,
+    zero: &Holding<'_>,
+    one: &Holding<'_>,
+) -> Result<(bool, bool), StreamRefusal> {
+    let line = vec![in rt.alloc(); b'x'; 131_072]?;
+    let is_counted = count_at_once(rt, &line, zero)?;
+    Ok((is_counted, count_at_once(rt, &line, one)?))
 }
 
 // Two workers count the records of blocks at once: each block is held until the other has entered.
 #[test]
 fn two_workers_count_at_once(rt: HostRuntime) -> Result<(), Fail> {
-    let line = vec![in rt.alloc(); b'x'; 131_072]?;
-    for (held, awaited) in [(0, 1), (1, 0)] {
-        let gate = Holding::of(&rt, Watched::Blocks, held, awaited, Until::Entered);
-        let shown = chunks_show(b"1\n");
-        let is_shown = shows(&rt, b"END { print NR }", &line, 2, &gate, shown)?;
-        assert!(rt; seen_by(&gate) == (0, 2, 3, 3), "block {held} was held");
-        assert!(rt; is_shown);
-    }
+    let zero = Holding::of(&rt, Watched::Blocks, 0, 1, Until::Entered);
+    let one = Holding::of(&rt, Watched::Blocks, 1, 0, Until::Entered);
+    let (with_zero, with_one) = count_twice(&rt, &zero, &one)?;
+    assert!(rt; with_zero, "block 0 was held");
+    assert!(rt; with_one, "block 1 was held");
     Ok(())
 }
 
@@ -207,118 +231,5 @@ fn a_chunk_past_a_fault_is_dropped(rt: HostRuntime) -> Result<(), Fail> {
     let is_shown = shows(&rt, SUM, FAULTY, 2, &gate, FAULT_AT_THREE)?;
     assert!(rt; seen_by(&gate) == (0, 4, 15, 15));
     assert!(rt; is_shown);
-    Ok(())
-}
-
-/// A plan with a chunk for each line.
-fn plan_of_lines(alloc: Global, input: &Input) -> Result<Plan, Fail>
-    requires { IsReady (10 ∷ []) input.now }
-    ensures plan { IfOk result (λ p. IsPlanOf (10 ∷ []) (files_of input.now) p) }
-    ensures few { IfOk result (λ p. length p ≤ most_chunks) }
-{
-    match Plan::by_size(alloc, input, b"\n", 1) {
-        Ok(plan) => Ok(plan),
-        Err(_) => Err(Fail::from("no plan")),
-    }
-}
-
-/// The number of the one chunk that a worker ran, and whether it was left through with an output of this byte and a newline.
-fn only_line(results: &Result<Vec<(u64, ChunkResult<'_>)>, AllocError>) -> Option<(u64, u8)> {
-    match results {
-        Ok(results) => match results.as_slice() {
-            [(chunk, result)] => match (result.left, result.output.as_slice()) {
-                (Left::Through, [byte, b'\n']) => Some((*chunk, *byte)),
-                _ => None,
-            },
-            _ => None,
-        },
-        Err(_) => None,
-    }
-}
-
-/// The work of one thread: the number and the line of the one chunk that it ran.
-fn work_alone<G: Gate>(
-    alloc: Global,
-    task: Task<'_, '_>,
-    mut seat: BoardSeat,
-    gate: &G,
-) -> Option<(u64, u8)>
-    requires task { IsTask task }
-    requires seat { seat ≡ fresh task.board.now.id }
-{
-    only_line(&work(alloc, &task, &mut seat, gate))
-}
-
-/// A board of two seats, and a thread for each of them: what each worker ran.
-fn both_work<G: Gate + Sync, R: AllocGlobal + Threads>(
-    rt: &R,
-    opening: Opening<'_, '_>,
-    source: Chunked<'_, '_>,
-    gate: &G,
-) -> Result<(Option<(u64, u8)>, Option<(u64, u8)>), Fail>
-    requires source { IsChunked source }
-    requires few { length source.plan.now ≤ most_chunks }
-{
-    let alloc = rt.alloc();
-    let (board, mut seats) = Board::new(alloc, source.plan.len() as u64, 2)?;
-    let b = seats.pop().ok_or("no second seat")?;
-    let a = seats.pop().ok_or("no first seat")?;
-    let task = Task {
-        opening,
-        source,
-        board: &board,
-    };
-    Ok(thread::join(
-        rt,
-        move || work_alone(alloc, task, a, gate),
-        move || work_alone(alloc, task, b, gate),
-    ))
-}
-
-/// Both threads run a program over an input with a chunk for each line.
-fn both_run<G: Gate + Sync, R: AllocGlobal + Threads>(
-    rt: &R,
-    code: &Code,
-    input: &Input,
-    gate: &G,
-) -> Result<(Option<(u64, u8)>, Option<(u64, u8)>), Fail>
-    requires { IsReady (10 ∷ []) input.now }
-{
-    let alloc = rt.alloc();
-    let plan = plan_of_lines(alloc, input)?;
-    let roles = admit(alloc, code).map_err(|_| "not admitted")?;
-    let state = RecordState::new(alloc, code.rules.len())?;
-    let names = code.scalars.as_slice();
-    let globals = Globals::open(alloc, Seed::new(0), names, code.arrays.len(), &[])?;
-    let opening = Opening {
-        job: Job {
-            code,
-            budget: 1000,
-            seed: Seed::new(0),
-        },
-        globals: &globals,
-        roles: &roles,
-        state: &state,
-    };
-    let source = Chunked {
-        input,
-        plan: &plan,
-        rs: b"\n",
-    };
-    both_work(rt, opening, source, gate)
-}
-
-// Two threads of the test's own, each with a seat: each runs one chunk, and the gate is lent its output.
-#[test]
-fn two_threads_work(rt: HostRuntime) -> Result<(), Fail> {
-    let mut input = one_file(rt.alloc(), b"5\n7\n")?;
-    input.mend(b"\n")?;
-    let gate = Holding::new(&rt, 0, 1, Until::Entered);
-    let code = code_of(rt.alloc(), b"{ print $1 }")?;
-    let lines = both_run(&rt, &code, &input, &gate)?;
-    let (zero, one) = (Some((0, b'5')), Some((1, b'7')));
-    assert!(rt; seen_by(&gate) == (0, 2, 3, 3));
-    assert!(rt; lines == (zero, one) || lines == (one, zero));
-    assert!(rt; gate.lent.load(Ordering::SeqCst) == 0x3702_3502);
     Ok(())
 }

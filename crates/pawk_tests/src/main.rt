@@ -1,5 +1,5 @@
-//! Tests of the program's crates that have to be written in Rattle: boards, gates, devices that fail, runs from feeds, cuts by
-//! hand, roles of globals.
+//! Tests of the program's crates that have to be written in Rattle: boards, gates, workers, devices that fail, runs from feeds,
+//! cuts by hand, roles of globals.
 //!
 //! What a run of the program shows is in `tests/rows` and `tests/programs` at the top of the repository.
 //!
@@ -29,6 +29,8 @@ mod matchers;
 mod rows;
 #[cfg(test)]
 mod taps;
+#[cfg(test)]
+mod workers;
 
 fn main(rt: HostRuntime) -> io::Result<()> {
     println!(rt; "rt test, in this folder, runs the tests")

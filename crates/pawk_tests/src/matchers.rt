@@ -9,10 +9,9 @@ use std::test::Fail;
 
 /// The expressions of a program: number 0 cannot be read, number 1 can.
 fn expressions(alloc: Global) -> Result<Vec<Vec<u8>>, AllocError> {
-    let mut expressions = Vec::new(alloc);
-    expressions.push(Vec::from_slice(alloc, b"(")?)?;
-    expressions.push(Vec::from_slice(alloc, b"a")?)?;
-    Ok(expressions)
+    let unreadable = Vec::from_slice(alloc, b"(")?;
+    let readable = Vec::from_slice(alloc, b"a")?;
+    Ok(vec![in alloc; unreadable, readable]?)
 }
 
 /// Whether a call gave the fault of an expression that cannot be read.
@@ -76,33 +75,44 @@ fn split_fails(matchers: &mut Matchers, eres: &[Vec<u8>], text: &[u8]) -> bool {
     }
 }
 
-// After the fault of one expression another is found.
-#[test]
-fn another_expression_is_found_after_a_fault(rt: HostRuntime) -> Result<(), Fail> {
-    let eres = expressions(rt.alloc())?;
-    let mut matchers = Matchers::new(rt.alloc(), eres.len())?;
-    let fails = search_fails(&mut matchers, eres.as_slice());
-    let found = find(&mut matchers, eres.as_slice(), 1, b"a").unwrap_or(None);
-    assert!(rt; fails && found == Some((0, 1)));
-    Ok(())
-}
-
-// The number 9 is that of no expression.
-#[test]
-fn unreadable_expressions_are_faults(rt: HostRuntime) -> Result<(), Fail> {
-    let alloc = rt.alloc();
+/// Whether a search by the first expression is the fault, and one by the second then finds where it matches.
+fn finds_after_a_fault(alloc: Global) -> Result<bool, AllocError> {
     let eres = expressions(alloc)?;
     let eres = eres.as_slice();
     let mut matchers = Matchers::new(alloc, eres.len())?;
-    let rows = [
-        (ReplacedMatches::First, 0),
-        (ReplacedMatches::All, 0),
-        (ReplacedMatches::All, 9),
-    ];
-    for (count, number) in rows {
-        assert!(rt; replacement_fails(alloc, &mut matchers, eres, count, number));
-    }
-    assert!(rt; split_fails(&mut matchers, eres, b"abc"));
-    assert!(rt; split_fails(&mut matchers, eres, b""));
+    let fails = search_fails(&mut matchers, eres);
+    let found = find(&mut matchers, eres, 1, b"a").unwrap_or(None);
+    Ok(fails && found == Some((0, 1)))
+}
+
+/// Whether replacements by the first expression, and by the number 9, which is that of no expression, are the fault.
+fn replacements_fail(alloc: Global, matchers: &mut Matchers, eres: &[Vec<u8>]) -> bool {
+    replacement_fails(alloc, matchers, eres, ReplacedMatches::First, 0)
+        && replacement_fails(alloc, matchers, eres, ReplacedMatches::All, 0)
+        && replacement_fails(alloc, matchers, eres, ReplacedMatches::All, 9)
+}
+
+/// Whether replacements are the fault, and then splits by the first expression.
+fn all_fail(alloc: Global) -> Result<bool, AllocError> {
+    let eres = expressions(alloc)?;
+    let eres = eres.as_slice();
+    let mut matchers = Matchers::new(alloc, eres.len())?;
+    Ok(
+        replacements_fail(alloc, &mut matchers, eres)
+            && split_fails(&mut matchers, eres, b"abc")
+            && split_fails(&mut matchers, eres, b""),
+    )
+}
+
+// After the fault of one expression another is found.
+#[test]
+fn another_expression_is_found_after_a_fault(rt: HostRuntime) -> Result<(), Fail> {
+    assert!(rt; finds_after_a_fault(rt.alloc())?);
+    Ok(())
+}
+
+#[test]
+fn unreadable_expressions_are_faults(rt: HostRuntime) -> Result<(), Fail> {
+    assert!(rt; all_fail(rt.alloc())?);
     Ok(())
 }

@@ -1,20 +1,16 @@
 //! Rows of tests: a line each, with cells that blanks part. They are one text, since an array of texts is built anew, piece by
 //! piece, where it is used, and the proof goes through all of that.
 
-use std::test::Fail;
-
 /// The first cell of a row, and what comes after it.
 pub(crate) fn first_cell(row: &str) -> (&str, &str) {
     row.split_once(' ').unwrap_or((row, ""))
 }
 
-/// The number in the first cell of a row, and what comes after it.
-pub(crate) fn first_number(row: &str) -> Result<(u64, &str), Fail> {
+/// The number in the first cell of a row, and what comes after it. A cell without one has the greatest number, which no row
+/// wants.
+pub(crate) fn first_number(row: &str) -> (u64, &str) {
     let (cell, rest) = first_cell(row);
-    match cell.parse::<u64>() {
-        Ok(number) => Ok((number, rest)),
-        Err(_) => Err(Fail::from("a cell has no number")),
-    }
+    (cell.parse().unwrap_or(u64::MAX), rest)
 }
 
 /// Whether a cell begins so: in a cell `/` stands for a newline, and `=` comes before the first byte.
