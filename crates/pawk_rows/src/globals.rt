@@ -41,7 +41,7 @@ const NAMES: [&[u8]; 9] = [
 ];
 
 /// The names of the scalars, by their slots.
-pub fn names(alloc: Global) -> Result<Vec<Vec<u8>>, AllocError> {
+fn names(alloc: Global) -> Result<Vec<Vec<u8>>, AllocError> {
     let mut names = Vec::new(alloc);
     for name in &NAMES {
         names.push(Vec::from_slice(alloc, *name)?)?;

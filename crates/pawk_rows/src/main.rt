@@ -9,7 +9,6 @@
 //! | `lex` | the tokens of a text, with their spans |
 //! | `record` | what a record has after a fault |
 //! | `value` | each fault's number and name |
-//! | `work` | what the gate of a worker is told |
 //!
 //! A topic is known by its first letter. A line of another is answered with `no topic`.
 #![tactic(auto)]
@@ -22,7 +21,6 @@ mod marks;
 mod pieces;
 mod record;
 mod text;
-mod work;
 
 use pawk_value::Fault;
 use std::alloc::{AllocError, Global};
@@ -69,7 +67,6 @@ fn push_answer(alloc: Global, line: &[u8], out: &mut Vec<u8>) -> Result<(), Allo
         Some(b'l') => lex::push_answer(alloc, row, out),
         Some(b'r') => record::push_answer(alloc, row, out),
         Some(b'v') => push_faults(out),
-        Some(b'w') => work::push_answer(alloc, row, out),
         _ => out.extend_from_slice(b"no topic"),
     }
 }
