@@ -10,7 +10,7 @@ use std::alloc::{AllocError, Global};
 use std::io::IsTerminal;
 
 /// The version that `--version` prints.
-const VERSION: &str = "1.3.0";
+const VERSION: &str = "1.3.1";
 
 /// What the program is, for `--help`.
 const ABOUT: &str = "awk in whole numbers, run over chunks of its input";
@@ -19,7 +19,7 @@ const ABOUT: &str = "awk in whole numbers, run over chunks of its input";
 const WORKERS: u8 = 4;
 
 /// The greatest size of a chunk in bytes where `-c` does not say.
-const CHUNK: u64 = 1_048_576;
+const CHUNK: u64 = 4_194_304;
 
 /// The least size of a chunk in bytes where `-c` does not say.
 const SMALL_CHUNK: u64 = 262_144;
@@ -161,7 +161,7 @@ fn chunk<'a>(alloc: Global) -> Arg<'a> {
         .short('c')
         .value_name("bytes")
         .help(
-            "The size of a chunk in bytes, 1 to 1073741824 [default: a worker's share of the window, 262144 to 1048576]",
+            "The size of a chunk in bytes, 1 to 1073741824 [default: a worker's share of the window, 262144 to 4194304]",
         )
         .value_parser(value_parser!(u64).range(1..=1_073_741_824))
 }

@@ -12,9 +12,6 @@ use pawk_code::expression::Format;
 use pawk_value::{Stop, ValueRef, format_into, template_into};
 use std::alloc::Global;
 
-/// The room that a text takes at first.
-const FIRST_ROOM: usize = 64;
-
 /// Makes a buffer the text of a format with lent values.
 fn write_format(
     out: &mut Vec<u8>,
@@ -32,57 +29,43 @@ fn write_format(
     }
 }
 
-/// The text that a format makes of lent values.
-#[inline(always)]
-fn text_of(
-    alloc: Global,
-    format: &Format,
-    text: &[u8],
-    values: &[ValueRef<'_>],
-) -> Result<Vec<u8>, Stop>
-    ensures { Settles (λ text. text.items)
-        (formatted_text (format_text (format_view format.now) text.now) (map lent_value values.now))
-        result }
-{
-    let mut out = Vec::with_capacity(alloc, FIRST_ROOM)?;
-    write_format(&mut out, format, text, values)?;
-    Ok(out)
-}
-
-/// The text that a format makes of many values.
+/// Makes a buffer the text of a format with many values.
 #[inline(never)]
-fn format_many(
+fn write_many(
+    out: &mut Vec<u8>,
     alloc: Global,
     format: &Format,
     text: &[u8],
     values: &Values,
-) -> Result<Vec<u8>, Stop>
-    ensures { Settles (λ text. text.items)
+) -> Result<(), Stop>
+    ensures { Settles (λ _. out.new.items)
         (formatted_text (format_text (format_view format.now) text.now) values.now) result }
 {
     let list = values.lend(alloc)?;
-    text_of(alloc, format, text, &list)
+    write_format(out, format, text, &list)
 }
 
-/// The text that a format makes of values, where the format that is a value has the text `text`.
+/// Makes a buffer the text that a format makes of values, where the format that is a value has the text `text`. What
+/// the buffer had goes; after a fault nothing is said of it.
 ///
 /// Faults `format`, `negative`, `length`, `numeral`, `overflow` as [`pawk_value::format`] has them.
 ///
 /// POSIX.1-2017, awk, "Output Statements" and "String Functions" (`sprintf`).
 pub fn format_values(
+    out: &mut Vec<u8>,
     alloc: Global,
     format: &Format,
     text: &[u8],
     values: &Values,
-) -> Result<Vec<u8>, Stop>
-    ensures { Settles (λ text. text.items)
+) -> Result<(), Stop>
+    ensures { Settles (λ _. out.new.items)
         (formatted_text (format_text (format_view format.now) text.now) values.now) result }
 {
     let count = values.count();
     if count > FEW {
-        return format_many(alloc, format, text, values);
+        return write_many(out, alloc, format, text, values);
     }
     let mut list = [ValueRef::Uninit; FEW];
     values.lend_few(&mut list);
-    text_of(alloc, format, text, &list[..count])
+    write_format(out, format, text, &list[..count])
 }

@@ -61,6 +61,14 @@ impl Values {
         }
     }
 
+    /// Takes all values away. Their room stays for those that come.
+    pub fn clear(&mut self)
+        ensures { self.new ≡ [] }
+    {
+        self.bytes.clear();
+        self.values.clear();
+    }
+
     /// Appends a copy of a value whose bytes are these. Where memory was refused nothing is said of the
     /// values.
     #[inline(always)]

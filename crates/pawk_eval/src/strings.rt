@@ -15,9 +15,9 @@ ghost use Rattle.pawk_eval.specs.Contexts.{enter_in, eres_in};
 use crate::expressions::{number, text, text_into};
 use crate::layer::Layer;
 use crate::operands::values;
-use pawk_builtins::{Values, both, push_letters, substring, suffix, within_limit};
+use pawk_builtins::{both, push_letters, substring, suffix, within_limit};
 use pawk_code::expression::{Expr, Format, Textual};
-use pawk_runtime::{Run, fill_format, give_back, quick_text};
+use pawk_runtime::{Run, fill_format, give_back, quick_text, take_buffer, take_values};
 use pawk_world::{Halt, World};
 
 /// Appends what gives a text. A leaf of which a part is taken, and a leaf or a field by a number whose letters change, are not
@@ -88,6 +88,7 @@ pub(crate) fn compose<W: World>(
         Textual::Format(format, es) => {
             let text = formatted(layer, format, es, world, run)?;
             out.extend_from_slice(&text)?;
+            give_back(&mut run.spare, text);
             Ok(())
         }
     }
@@ -114,10 +115,11 @@ pub(crate) fn formatted<W: World>(
         Format::Fixed(_) => Vec::new(run.alloc),
         Format::Value(e) => text(layer, e, world, run)?,
     };
-    let mut parts = Values::new(run.alloc);
-    let mut scratch = Vec::new(run.alloc);
+    let mut parts = take_values(run.alloc, &mut run.values);
+    let mut scratch = take_buffer(run.alloc, &mut run.spare);
     values(layer, es, &mut parts, &mut scratch, world, run)?;
-    fill_format(format, &text, &parts, world, run)
+    give_back(&mut run.spare, scratch);
+    fill_format(format, text, parts, world, run)
 }
 
 /// Appends the texts of expressions one after the other.

@@ -1,11 +1,11 @@
-//! Tests of fields that are found at once.
+//! Tests of fields and variables that are found at once.
 //!
 //! POSIX.1-2017, awk, "Expressions in awk".
 
 ghost use Rattle.std.specs.Prelude.{◌≡◌, ◌≤◌, ℕ, List, IfSome};
 ghost use Rattle.pawk_value.specs.Value.{Val};
 ghost use Rattle.pawk_code.specs.Expressions.{compare, field, leaf, matches, read, to_field};
-ghost use Rattle.pawk_code.specs.ExpressionViews.{pattern_view, view};
+ghost use Rattle.pawk_code.specs.ExpressionViews.{leaf_view, pattern_view, view};
 ghost use Rattle.pawk_builtins.specs.ExpressionViews.{texts_of};
 ghost use Rattle.pawk_semantics.specs.Meaning.{eval, truth_of};
 ghost use Rattle.pawk_semantics.specs.Parts.{Hold, Part, as_truth, bind, gives, settle};
@@ -14,11 +14,12 @@ ghost use Rattle.pawk_runtime.specs.Moments.{moment};
 use crate::operations::matches_field;
 use crate::quick::{LEVELS, quick_field};
 use crate::run::Run;
-use pawk_builtins::{EreReference, holds_for};
+use itoa::Buffer;
+use pawk_builtins::{EreReference, holds_for, same_truth};
 use pawk_code::expression::{Expr, Lvalue, Pattern, Test};
 use pawk_code::leaf::Leaf;
 use pawk_code::word::Relation;
-use pawk_value::{ValueRef, compare_lent};
+use pawk_value::{ValueRef, compare_lent, text_in};
 use pawk_world::World;
 
 /// Whether a field and a constant compare so, where that is found without a fault. Nothing is copied.
@@ -101,7 +102,42 @@ fn read_matches<W: World>(
     field_matches(eres, wanted, n, pattern, world, run)
 }
 
-/// Whether an expression is true that compares a field with a constant, or holds a field against an
+/// Whether an expression between slashes matches in the text of a variable, or, where no match is wanted, does not
+/// match, where that is found without a fault; none for another leaf. Nothing is copied.
+#[inline(never)]
+fn variable_matches<W: World>(
+    eres: &[Vec<u8>],
+    wanted: bool,
+    variable: &Leaf,
+    pattern: &Pattern,
+    world: &W,
+    run: &mut Run<'_>,
+) -> Option<bool>
+    ensures same { moment (W.state world.now) run.new ≡ moment (W.state world.now) run.old }
+    ensures left { run.new.left ≤ run.old.left }
+    ensures holds { IfSome result (λ holds. (enter : ℕ → List Hold → Part W.State Val)
+        → truth_of W.calls (texts_of eres.now) enter
+        (matches wanted (leaf (leaf_view variable.now)) (pattern_view pattern.now))
+        (moment (W.state world.now) run.old) ≡ gives holds (moment (W.state world.now) run.old)) }
+{
+    let Pattern::Fixed(_) = pattern else {
+        return None;
+    };
+    let Leaf::Global(slot) = variable else {
+        return None;
+    };
+    let expression = EreReference {
+        eres,
+        pattern,
+        text: &[],
+    };
+    let mut buffer = Buffer::new();
+    let text = text_in(world.scalar(*slot), &mut buffer);
+    let found = run.matchers.is_match(expression, text).ok()?;
+    Some(same_truth(wanted, found))
+}
+
+/// Whether an expression is true that compares a field with a constant, or holds a field or a variable against an
 /// expression between slashes, where that is found without a fault; then no moment changes.
 ///
 /// Where it is not found nothing is said of the expression.
@@ -128,6 +164,7 @@ pub fn quick_test<W: World>(
             Expr::Read(Lvalue::Field(index)) => {
                 read_matches(eres, *wanted, index, pattern, world, run)
             }
+            Expr::Leaf(leaf) => variable_matches(eres, *wanted, leaf, pattern, world, run),
             _ => None,
         },
         _ => None,

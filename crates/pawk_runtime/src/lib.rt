@@ -54,7 +54,7 @@ pub use reading::{
 };
 pub use run::{
     Parameter, Run, close_arrays, give_back, give_back_frame, give_back_value, parameters,
-    take_buffer, take_frame, value_with,
+    take_buffer, take_frame, take_values, value_with,
 };
 pub use shapes::{field_element, leaf_element, numeric_element};
 pub use target::{

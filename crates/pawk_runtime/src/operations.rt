@@ -137,22 +137,27 @@ pub fn matches_field<W: World>(
     Ok(same_truth(wanted, holds))
 }
 
-/// The text that a format makes of values, where the format that is a value has the text `text`.
+/// The text that a format makes of values, where the format that is a value has the text `text`. The buffer of that
+/// text and the room of the values are kept.
 ///
 /// POSIX.1-2017, awk, "Output Statements" and "String Functions" (`sprintf`).
 pub fn fill_format<W: World>(
     format: &Format,
-    text: &[u8],
-    values: &Values,
+    text: Vec<u8>,
+    values: Values,
     world: &W,
     run: &mut Run<'_>,
 ) -> Result<Vec<u8>, Halt>
     ensures left { run.new.left ≤ run.old.left }
-    ensures outcome { Yields (λ text. text.items)
-        (settle (formatted_text (format_text (format_view format.now) text.now) values.now)
+    ensures outcome { Yields (λ made. made.items)
+        (settle (formatted_text (format_text (format_view format.now) text.items) values)
         (moment (W.state world.now) run.old)) result (moment (W.state world.now) run.new) }
 {
-    Ok(format_values(run.alloc, format, text, values)?)
+    let mut made = take_buffer(run.alloc, &mut run.spare);
+    format_values(&mut made, run.alloc, format, &text, &values)?;
+    give_back(&mut run.spare, text);
+    run.values = values;
+    Ok(made)
 }
 
 /// Replaces matches in the text of a place, and gives how many.

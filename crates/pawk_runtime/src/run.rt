@@ -8,11 +8,12 @@ ghost use Rattle.pawk_store.specs.StateViews.{state_of};
 ghost use Rattle.pawk_runtime.specs.Moments.{hold_of, holds_of};
 
 use pawk_array::{AssociativeArray, Seed};
-use pawk_builtins::Matchers;
+use pawk_builtins::{Matchers, Values};
 use pawk_code::program::ParameterKind;
 use pawk_store::RecordState;
 use pawk_value::{Held, Value};
 use std::alloc::{AllocError, Global};
+use std::mem::replace;
 
 /// What a parameter of a function that runs holds.
 #[derive(Drop)]
@@ -40,6 +41,8 @@ pub struct Run<'a> {
     pub matchers: Matchers,
     /// Buffers that were given back.
     pub spare: Vec<Vec<u8>>,
+    /// Room for the values that a format takes.
+    pub values: Values,
     /// The frames of calls that have ended.
     pub frames: Vec<Vec<Parameter>>,
 }
@@ -65,6 +68,7 @@ impl<'a> Run<'a> {
             output: Vec::new(alloc),
             left,
             spare: Vec::new(alloc),
+            values: Values::new(alloc),
             frames: Vec::new(alloc),
         })
     }
@@ -91,6 +95,15 @@ pub fn give_back(spare: &mut Vec<Vec<u8>>, buffer: Vec<u8>) {
     if spare.len() < 64 && buffer.capacity() > 0 {
         let _ = spare.push(buffer);
     }
+}
+
+/// No values, in the room that was kept for them; none is kept then.
+pub fn take_values(alloc: Global, kept: &mut Values) -> Values
+    ensures { result ≡ [] }
+{
+    let mut values = replace(kept, Values::new(alloc));
+    values.clear();
+    values
 }
 
 /// Gives the buffer of a value back, if it has one.

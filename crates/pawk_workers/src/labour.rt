@@ -1,7 +1,8 @@
 //! Workers in threads.
 
-ghost use Rattle.std.specs.Prelude.{◌≡◌, All, IfOk, vec_len};
+ghost use Rattle.std.specs.Prelude.{◌≡◌, ◌<◌, All, IfErr, IfOk, vec_len};
 ghost use Rattle.pawk_board.specs.Views.{SeatView};
+ghost use Rattle.pawk_workers.specs.declared.labour.CrewRefusal.TheVariants.{Thread};
 
 use crate::gate::Gate;
 use core::thread::Stack;
@@ -70,14 +71,19 @@ fn in_scope<'s, E, S: Send + Drop + 's, L: Labour<S> + Copy + Sync, G: Gate + Sy
     requires seats { All (λ s. s ≡ L.first task.now) seats.items }
     ensures len { IfOk result (λ v. vec_len v ≡ vec_len seats) }
     ensures kept { IfOk result (λ v. All (L.kept_by task.now) v.items) }
+    ensures alone { IfErr result (λ e. e ≡ Thread → 1 < vec_len seats) }
 {
     let mut others = seats;
     let Some(own) = others.pop() else {
         return Ok(Vec::new(alloc));
     };
     let count = others.len() + 1;
-    let mut shifts = Vec::with_capacity(alloc, count)?;
-    let mut handles = Vec::with_capacity(alloc, count)?;
+    let Ok(mut shifts) = Vec::with_capacity(alloc, count) else {
+        return Err(CrewRefusal::Memory);
+    };
+    let Ok(mut handles) = Vec::with_capacity(alloc, count) else {
+        return Err(CrewRefusal::Memory);
+    };
     for seat in others {
         let stack = stack_of(task.stack_bytes());
         let started = stack.spawn_scoped_with(scope, *task, move || task.labour(alloc, seat, gate));
@@ -103,7 +109,7 @@ fn in_scope<'s, E, S: Send + Drop + 's, L: Labour<S> + Copy + Sync, G: Gate + Sy
 
 /// A worker for each seat, the last one on this thread, with the stack that it has, and each other in a thread of its own.
 /// Where a thread cannot be started the gate is asked whether its worker works on this thread; if not, that is reported as
-/// `Thread`. Each has ended when this returns. `Memory` comes where memory was refused before a thread was started.
+/// `Thread`, which one seat alone never is. Each has ended when this returns. `Memory` comes where memory was refused before a thread was started.
 pub fn all_labour<S: Send + Drop, L: Labour<S> + Copy + Sync, G: Gate + Sync, R: Threads + Wait>(
     rt: &R,
     alloc: Global,
@@ -115,14 +121,16 @@ pub fn all_labour<S: Send + Drop, L: Labour<S> + Copy + Sync, G: Gate + Sync, R:
     requires seats { All (λ s. s ≡ L.first task.now) seats.items }
     ensures len { IfOk result (λ v. vec_len v ≡ vec_len seats) }
     ensures kept { IfOk result (λ v. All (L.kept_by task.now) v.items) }
+    ensures alone { IfErr result (λ e. e ≡ Thread → 1 < vec_len seats) }
 {
     thread::scope(
         thread::scope_env(),
         rt,
         |scope| -> Result<Vec<S>, CrewRefusal>
             requires { L.IsReady task.now × All (λ s. s ≡ L.first task.now) seats.items }
-            ensures { IfOk result (λ v. (vec_len v ≡ vec_len seats)
+            ensures kept { IfOk result (λ v. (vec_len v ≡ vec_len seats)
                 × All (L.kept_by task.entry.now) v.items) }
+            ensures alone { IfErr result (λ e. e ≡ Thread → 1 < vec_len seats) }
         { in_scope(scope, rt, alloc, task, seats, gate) },
     )
 }

@@ -15,12 +15,13 @@ loop-handle-preserved g c =
     record {
       kept = All-tail K _ _ left;
       room = (let long = ap length steps in let len = c.push_reserved-in-loop-handle.ensures.len in let was = c.loop-handle.invariant.room in omega arith);
+      some = (let len = c.push_reserved-in-loop-handle.ensures.len in let was = c.loop-handle.invariant.some in omega arith);
       space = c.push_reserved-in-loop-handle.ensures.capacity ∙ c.loop-handle.invariant.space;
       shifts = subst (All W) (sym c.push_reserved-in-loop-handle.ensures.items) (All-push W c.loop-handle.shifts.items c.join.result c.loop-handle.invariant.shifts done);
     }
 
-pub loop-seat-preserved-in-Ok : goal.loop-seat-preserved-in-Ok
-loop-seat-preserved-in-Ok g c =
+pub loop-seat-preserved-in-Ok-started : goal.loop-seat-preserved-in-Ok-started
+loop-seat-preserved-in-Ok-started g c =
     let P = λ (s : SeatView). s ≡ g.L.Labour.first c.args.task.now in
     let K = λ (h : PromisedHandle g.row.S.Denot g.row.L.Denot). h.promise ≡ c.args.task.now in
     let steps = c.in-Some-seat.ensures.steps.0 in
@@ -30,7 +31,7 @@ loop-seat-preserved-in-Ok g c =
       room = (let long = ap length steps in let len = c.push_reserved.ensures.len in let was = c.loop-seat.invariant.room in omega arith);
       space = c.push_reserved.ensures.capacity ∙ c.loop-seat.invariant.space;
       space_of_shifts = c.loop-seat.invariant.space_of_shifts;
-      kept = subst (All K) (sym c.push_reserved.ensures.items) (All-push K c.loop-seat.handles.items c.in-Ok.handle c.loop-seat.invariant.kept c.in-Ok.ensures.ok);
+      kept = subst (All K) (sym c.push_reserved.ensures.items) (All-push K c.loop-seat.handles.items c.in-Ok-started.handle c.loop-seat.invariant.kept c.in-Ok-started.ensures.ok);
       shifts = c.loop-seat.invariant.shifts;
     }
 
@@ -69,6 +70,7 @@ loop-handle-init g c =
     record {
       kept = subst (All K) gives c.loop-seat.invariant.kept;
       room = (let len = c.push_reserved-2.ensures.len in let was = c.loop-seat.invariant.room in let long = ap length gives in omega arith);
+      some = (let len = c.push_reserved-2.ensures.len in omega arith);
       space = c.push_reserved-2.ensures.capacity ∙ c.loop-seat.invariant.space_of_shifts;
       shifts = subst (All W) (sym c.push_reserved-2.ensures.items) (All-push W c.loop-seat.shifts.items c.labour.result c.loop-seat.invariant.shifts c.labour.ensures);
     }

@@ -17,6 +17,7 @@ abbrev pub invariant-loop-handle : goal.invariant-loop-handle
 invariant-loop-handle g l = record {
   kept : All (λ h. h.promise ≡ l.task) l.handle-iterator.rest.items;
   room : vec_len l.shifts + length l.handle-iterator.rest.items ≤ l.count;
+  some : 1 ≤ vec_len l.shifts;
   space : vec_capacity l.shifts ≡ l.count;
   shifts : All (g.L.Promise.kept_by l.task) l.shifts.items;
 }
