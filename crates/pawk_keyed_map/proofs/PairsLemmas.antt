@@ -141,7 +141,7 @@ place_found k es i e h =
     let P : ℕ → Type 0 = λ n. HasKeyAt es n k in
     subst P same (first_place k es (rw same h))
 
--- the same of what may be a place
+-- a place that was looked for, if there is one, has the key
 pub place_if_found : {A : Type 0} (k : List ℕ) (es : List (Key × A)) (o : Option ℕ) → o ≡ position (has_bytes k) (keys_of es) → IfSome o (λ i. i < length es) → IfSome o (λ i. HasKeyAt es i k)
 place_if_found k es None e h = tt
 place_if_found k es (Some i) e h = place_found k es i (sym e) h
@@ -164,7 +164,7 @@ pub touched_there : {A B : Type 0} (view : A → B) (fresh : B) (k : List ℕ) (
     seen_by view es ≡ touched_by fresh k (seen_by view es)
 touched_there view fresh k es e = touched_found fresh k (seen_by view es) (rise-seen_by view es) (sym (contains_by view k es) ∙ e)
 
--- the same where the values by keys have it
+-- a value that the keys' values have stays
 pub touched_present : {A : Type 0} (fresh : A) (k : List ℕ) (es : List (Key × A)) → is_some (found k (by_key es)) ≡ true →
     by_key es ≡ touched_by fresh k (by_key es)
 touched_present fresh k es e = touched_found fresh k (by_key es) (rise-seen_by (λ v. v) es) e
@@ -196,7 +196,7 @@ view_or view fresh true None r = refl
 view_or view fresh true (Some v) r = refl
 view_or view fresh false o r = refl
 
--- the same for a key that is given a place
+-- what is seen after a key was given a place
 pub touched_seen : {A B : Type 0} (view : A → B) (fresh : A) (k : List ℕ) (old new : List (Key × A)) → by_key new ≡ touched_by fresh k (by_key old) →
     seen_by view new ≡ touched_by (view fresh) k (seen_by view old)
 touched_seen view fresh k old new e =

@@ -109,7 +109,8 @@ fn in_scope<'s, E, S: Send + Drop + 's, L: Labour<S> + Copy + Sync, G: Gate + Sy
 
 /// A worker for each seat, the last one on this thread, with the stack that it has, and each other in a thread of its own.
 /// Where a thread cannot be started the gate is asked whether its worker works on this thread; if not, that is reported as
-/// `Thread`, which one seat alone never is. Each has ended when this returns. `Memory` comes where memory was refused before a thread was started.
+/// `Thread`, which one seat alone never is. Each has ended when this returns. `Memory` comes where memory was refused
+/// before a thread was started.
 pub fn all_labour<S: Send + Drop, L: Labour<S> + Copy + Sync, G: Gate + Sync, R: Threads + Wait>(
     rt: &R,
     alloc: Global,
