@@ -55,7 +55,7 @@ demo:
 	@printf '1\n2\n3\n' | build/pawk -j 2 -c 1 '{ n += $$1 } END { print n }'
 
 test: program
-	@tests/run rows programs tables devices flows threads bounds cookbook completions memory
+	@tests/run rows programs tables devices flows threads bounds requests cookbook completions memory
 
 prove: toolchain
 	@release/gate always

@@ -8,6 +8,9 @@
  * REFUSE_NOTE names, so that a driver knows when it has seen them all: "start"
  * where it was made to start a thread, within pthread_create, else "request".
  *
+ * Where REQUESTS names a file, its first eight bytes are at each moment the
+ * number of requests so far, as a long of this machine.
+ *
  * A program that runs on for 100 seconds is ended by a signal.
  */
 #define _GNU_SOURCE
@@ -19,6 +22,7 @@
 #include <stddef.h>
 #include <stdlib.h>
 #include <string.h>
+#include <sys/mman.h>
 #include <unistd.h>
 
 extern void *__libc_malloc(size_t size);
@@ -30,25 +34,42 @@ typedef int create(pthread_t *thread, const pthread_attr_t *attributes, void *(*
 
 static long refused_request;
 static const char *note;
-static atomic_long requests;
+static atomic_long own_requests;
+static atomic_long *requests = &own_requests;
 static create *start_thread;
 static _Thread_local int is_starting;
+
+/* The number of requests in a file of this name, from 0. */
+static atomic_long *requests_in(const char *name)
+{
+    int file = open(name, O_RDWR | O_CREAT | O_TRUNC, 0600);
+    if (file < 0 || ftruncate(file, sizeof *requests) != 0)
+        _exit(99);
+    void *place = mmap(NULL, sizeof *requests, PROT_READ | PROT_WRITE, MAP_SHARED, file, 0);
+    close(file);
+    if (place == MAP_FAILED)
+        _exit(99);
+    return place;
+}
 
 /* Runs before main. What the loader asked for before is not counted. */
 __attribute__((constructor)) static void read_environment(void)
 {
     const char *number = getenv("REFUSE");
+    const char *name = getenv("REQUESTS");
     start_thread = (create *)dlsym(RTLD_NEXT, "pthread_create");
     note = getenv("REFUSE_NOTE");
     refused_request = number ? strtol(number, NULL, 10) : 0;
     alarm(100);
-    atomic_store(&requests, 0);
+    atomic_store(&own_requests, 0);
+    if (name)
+        requests = requests_in(name);
 }
 
 /* Whether this request is the one to refuse. */
 static int is_refused(void)
 {
-    if (refused_request == 0 || atomic_fetch_add(&requests, 1) + 1 != refused_request)
+    if (atomic_fetch_add(requests, 1) + 1 != refused_request)
         return 0;
     if (note) {
         const char *line = is_starting ? "start\n" : "request\n";

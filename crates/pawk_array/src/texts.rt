@@ -37,6 +37,14 @@ impl Texts {
         }
     }
 
+    /// Takes all texts away. Their room stays for those that come.
+    pub fn clear(&mut self)
+        ensures { self.new ≡ [] }
+    {
+        self.bytes.clear();
+        self.ranges.clear();
+    }
+
     /// Appends a copy of a text. Where memory was refused nothing is said of the texts.
     pub fn push(&mut self, text: &[u8]) -> Result<(), AllocError>
         ensures { OnOk result (self.new ≡ self.old ++ text.now ∷ []) }

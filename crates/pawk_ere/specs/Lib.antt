@@ -6,5 +6,6 @@ pub use Rattle.pawk_ere_syntax.specs.Spelled
 pub mod Runs
 pub mod Words
 pub mod Holding
+pub mod Coding
 pub mod Answers
 pub mod Caches

@@ -26,18 +26,16 @@ pub struct Matcher {
 }
 
 impl Model for Matcher {
-    ghost use Rattle.pawk_ere_automaton.specs.declared.node.Node.{Node};
-    ghost use Rattle.pawk_ere_automaton.specs.contracts.node.Node as tree;
-    ghost use Rattle.std.specs.Coded.{codes};
-
-    ghost Value = { Node };
-
-    ghost coded = { Prim.hlevel (codes, tree.the_row.coded) };
-
+    ghost use Rattle.pawk_ere_automaton.specs.Regex.{Regex};
     ghost use Rattle.pawk_ere_automaton.specs.Tree.{regex_of};
+    ghost use Rattle.pawk_ere.specs.Coding.{regex_code};
     ghost use Rattle.pawk_ere.specs.Holding.{IsMatcher};
 
-    ghost view = { λ m. m.node };
+    ghost Value = { Regex };
+
+    ghost coded = { regex_code };
+
+    ghost view = { λ m. regex_of m.node };
 
     ghost invariant = { λ m. IsMatcher (regex_of m.node) m.table m.first m.prefilter };
 }

@@ -24,7 +24,7 @@ use pawk_code::name::Array;
 use pawk_code::word::Relation;
 use pawk_runtime::{
     Run, compare_leaves, compare_number, element_exists, find_first, give_back, leaf_member,
-    plain_number, quick_test, related_numbers, table_of, take_buffer,
+    plain_number, quick_match, quick_test, related_numbers, table_of, take_buffer,
 };
 use pawk_value::lend_held;
 use pawk_world::{Halt, World};
@@ -145,7 +145,7 @@ pub(crate) fn compare_values<W: World>(
     Ok(holds)
 }
 
-/// Whether a text matches, or, where no match is wanted, does not match.
+/// Whether a text matches, or, where no match is wanted, does not match. Nothing of a field or a variable is copied.
 ///
 /// POSIX.1-2017, awk, "Regular Expressions".
 #[cycle(evaluate)]
@@ -164,10 +164,14 @@ pub(crate) fn matches<W: World>(
         (codes.matches wanted (view e.now) (pattern_view pattern.now))
         (moment (W.state world.old) run.old)) result (moment (W.state world.new) run.new) }
 {
+    let eres = layer.context.code.expressions.as_slice();
+    if let Some(holds) = quick_match(eres, wanted, e, pattern, world, run) {
+        return Ok(holds);
+    }
     let text = text(layer, e, world, run)?;
     let ere = operand(layer, pattern, world, run)?;
     let expression = EreReference {
-        eres: layer.context.code.expressions.as_slice(),
+        eres,
         pattern,
         text: &ere,
     };

@@ -13,11 +13,12 @@ ghost use Rattle.pawk_eval.specs.Contexts.{enter_in, eres_in};
 use crate::expressions::{number, text};
 use crate::layer::Layer;
 use crate::operands::texts;
-use pawk_array::Texts;
 use pawk_builtins::field_index;
 use pawk_code::expression::{Expr, Lvalue};
 use pawk_code::name::Array;
-use pawk_runtime::{Run, Target, element_target, key_of_texts, table_of};
+use pawk_runtime::{
+    Run, Target, element_target, give_back, key_of_texts, table_of, take_buffer, take_texts,
+};
 use pawk_world::{Halt, World};
 
 /// The array and the subscripts of a place that is an element.
@@ -81,8 +82,9 @@ pub(crate) fn key<W: World>(
     if let [only] = keys {
         return text(layer, only, world, run);
     }
-    let mut parts = Texts::new(run.alloc);
-    let mut scratch = Vec::new(run.alloc);
+    let mut parts = take_texts(run.alloc, &mut run.texts);
+    let mut scratch = take_buffer(run.alloc, &mut run.spare);
     texts(layer, keys, &mut parts, &mut scratch, world, run)?;
-    key_of_texts(&parts, world, run)
+    give_back(&mut run.spare, scratch);
+    key_of_texts(parts, world, run)
 }

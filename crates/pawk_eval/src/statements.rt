@@ -33,14 +33,13 @@ use crate::loops::{turns, walk};
 use crate::operands::texts;
 use crate::places::key;
 use crate::strings::formatted;
-use pawk_array::Texts;
 use pawk_builtins::{exit_status, step_sign};
 use pawk_code::expression::{Expr, Format};
 use pawk_code::name::Array;
 use pawk_code::statement::{Leave, Simple, Statement};
 use pawk_runtime::{
     Run, are_plain, clear_array, give_back, print_alone, print_bytes, print_line, print_plain,
-    remove_element, table_of, take_buffer, tick,
+    remove_element, table_of, take_buffer, take_texts, tick,
 };
 use pawk_value::Value;
 use pawk_world::{Halt, World};
@@ -263,11 +262,11 @@ pub(crate) fn print_values<W: World>(
         give_back(&mut run.spare, text);
         return Ok(());
     }
-    let mut parts = Texts::new(run.alloc);
+    let mut parts = take_texts(run.alloc, &mut run.texts);
     let mut scratch = take_buffer(run.alloc, &mut run.spare);
     texts(layer, es, &mut parts, &mut scratch, world, run)?;
     give_back(&mut run.spare, scratch);
-    print_line(&parts, world, run)
+    print_line(parts, world, run)
 }
 
 /// Prints the values of expressions by a format.

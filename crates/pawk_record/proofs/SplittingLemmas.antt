@@ -6,7 +6,7 @@ use Rattle.pawk_scalar.specs.Value.{Maybe}
 use Rattle.pawk_value.specs.Fault.{Fault}
 use Rattle.pawk_value.specs.Stop.{Stop}
 use Rattle.pawk_value.specs.Stop.TheVariants as stops
-use Rattle.pawk_ere_automaton.specs.declared.node.Node.{Node}
+use Rattle.pawk_ere_automaton.specs.Regex.{Regex}
 use Rattle.pawk_fields.specs.FieldSeparator.{range_of, ranges_by, ranges_from}
 use Rattle.pawk_fields.specs.declared.separator.FieldSeparator.{FieldSeparator}
 use Rattle.pawk_fields.specs.declared.separator.FieldSeparator.TheVariants.{Blanks, Byte, ByteOrNewline}
@@ -42,7 +42,7 @@ plain_left [] paragraph separator (b ∷ s) by some = absurd by
 plain_left (c ∷ []) paragraph separator (b ∷ s) by some = ap (λ x. Ok (ranges_by x (b ∷ s))) (sym by)
 plain_left (c ∷ d ∷ fs) paragraph separator (b ∷ s) by some = absurd by
 
-expression_left : (fs : List ℕ) (paragraph : Bool) (matcher : Node) (text : List ℕ) → IsBy fs paragraph (Expression matcher) → (text ≡ [] → ⊥) → fields_of fs paragraph text ≡ Ok (ranges_or_none (fields_of fs paragraph text))
+expression_left : (fs : List ℕ) (paragraph : Bool) (matcher : Regex) (text : List ℕ) → IsBy fs paragraph (Expression matcher) → (text ≡ [] → ⊥) → fields_of fs paragraph text ≡ Ok (ranges_or_none (fields_of fs paragraph text))
 unfolding fields_of
 expression_left fs paragraph matcher [] by some = absurd (some refl)
 expression_left [] paragraph matcher (b ∷ s) by some = absurd by
@@ -62,7 +62,7 @@ plain_is_left s text separator is whole some =
     plain_left s.fs.items s.paragraph separator text (subst (IsBy s.fs.items s.paragraph) is whole.right) some
     ∙ ap (λ by. Ok (ranges_left s.fs.items s.paragraph by text (first_place text))) (sym is)
 
-pub expression_is_left : (s : Splitter) (text : List ℕ) (matcher : Node) → s.by ≡ Expression matcher → IsSplitter s → (text ≡ [] → ⊥) → fields_of s.fs.items s.paragraph text ≡ Ok (left s text (first_place text))
+pub expression_is_left : (s : Splitter) (text : List ℕ) (matcher : Regex) → s.by ≡ Expression matcher → IsSplitter s → (text ≡ [] → ⊥) → fields_of s.fs.items s.paragraph text ≡ Ok (left s text (first_place text))
 unfolding left
 expression_is_left s text matcher is whole some =
     expression_left s.fs.items s.paragraph matcher text (subst (IsBy s.fs.items s.paragraph) is whole.right) some
@@ -113,7 +113,7 @@ left_plain s separator text next is = ap (λ by. ranges_left s.fs.items s.paragr
     go None = sym (from_none separator text)
     go (Some place) = refl
 
-pub left_expression : (s : Splitter) (matcher : Node) (text : List ℕ) (next : Option ℕ) → s.by ≡ Expression matcher → is_none next ≡ false → left s text next ≡ ranges_or_none (fields_of s.fs.items s.paragraph text)
+pub left_expression : (s : Splitter) (matcher : Regex) (text : List ℕ) (next : Option ℕ) → s.by ≡ Expression matcher → is_none next ≡ false → left s text next ≡ ranges_or_none (fields_of s.fs.items s.paragraph text)
 unfolding left
 left_expression s matcher text next is some = ap (λ by. ranges_left s.fs.items s.paragraph by text next) is ∙ go next some
   where

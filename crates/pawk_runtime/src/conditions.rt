@@ -137,8 +137,36 @@ fn variable_matches<W: World>(
     Some(same_truth(wanted, found))
 }
 
-/// Whether an expression is true that compares a field with a constant, or holds a field or a variable against an
-/// expression between slashes, where that is found without a fault; then no moment changes.
+/// Whether an expression between slashes matches in the text of a field or of a variable, or, where no match is wanted,
+/// does not match, where that is found without a fault; none for another expression. Nothing is copied.
+///
+/// POSIX.1-2017, awk, "Regular Expressions".
+#[inline(never)]
+pub fn quick_match<W: World>(
+    eres: &[Vec<u8>],
+    wanted: bool,
+    e: &Expr,
+    pattern: &Pattern,
+    world: &W,
+    run: &mut Run<'_>,
+) -> Option<bool>
+    ensures same { moment (W.state world.now) run.new ≡ moment (W.state world.now) run.old }
+    ensures left { run.new.left ≤ run.old.left }
+    ensures holds { IfSome result (λ holds. (enter : ℕ → List Hold → Part W.State Val)
+        → truth_of W.calls (texts_of eres.now) enter
+        (matches wanted (view e.now) (pattern_view pattern.now))
+        (moment (W.state world.now) run.old) ≡ gives holds (moment (W.state world.now) run.old)) }
+{
+    match e {
+        Expr::Leaf(Leaf::Field(n)) => field_matches(eres, wanted, *n, pattern, world, run),
+        Expr::Leaf(variable) => variable_matches(eres, wanted, variable, pattern, world, run),
+        Expr::Read(Lvalue::Field(index)) => read_matches(eres, wanted, index, pattern, world, run),
+        _ => None,
+    }
+}
+
+/// Whether an expression is true that compares a field with a constant, or holds a field against an expression between
+/// slashes, where that is found without a fault; then no moment changes.
 ///
 /// Where it is not found nothing is said of the expression.
 #[inline(always)]
@@ -161,10 +189,6 @@ pub fn quick_test<W: World>(
         },
         Expr::Test(Test::Match(wanted, a, pattern)) => match a.as_ref() {
             Expr::Leaf(Leaf::Field(n)) => field_matches(eres, *wanted, *n, pattern, world, run),
-            Expr::Read(Lvalue::Field(index)) => {
-                read_matches(eres, *wanted, index, pattern, world, run)
-            }
-            Expr::Leaf(leaf) => variable_matches(eres, *wanted, leaf, pattern, world, run),
             _ => None,
         },
         _ => None,

@@ -35,7 +35,7 @@ pub use at_once::{
     leaf_add, leaf_find, leaf_function, leaf_member, leaf_read, leaf_read_number, leaf_read_text,
     leaf_set, leaf_tally,
 };
-pub use conditions::quick_test;
+pub use conditions::{quick_match, quick_test};
 pub use leaves::{
     arithmetic_after, compare_leaves, compare_number, leaf_copy, leaf_length, leaf_number,
     leaf_text, leaf_truth, leaf_value, lent_number, place_in, place_in_leaf, plain_number,
@@ -54,7 +54,7 @@ pub use reading::{
 };
 pub use run::{
     Parameter, Run, close_arrays, give_back, give_back_frame, give_back_value, parameters,
-    take_buffer, take_frame, take_values, value_with,
+    take_buffer, take_frame, take_texts, take_values, value_with,
 };
 pub use shapes::{field_element, leaf_element, numeric_element};
 pub use target::{

@@ -6,7 +6,7 @@ ghost use Rattle.pawk_semantics.specs.Parts.{tick};
 ghost use Rattle.pawk_runtime.specs.Moments.{moment};
 ghost use Rattle.pawk_runtime.specs.Yields.{Yields};
 
-use crate::run::Run;
+use crate::run::{Run, take_buffer};
 use crate::scalars::{push_joined, push_separator, scalar_text};
 use itoa::Buffer;
 use pawk_array::Texts;
@@ -32,18 +32,14 @@ pub fn tick<W: World>(world: &W, run: &mut Run<'_>) -> Result<(), Halt>
     Ok(())
 }
 
-/// The key that subscripts spell: several are joined by SUBSEP.
-///
-/// Fault `length` where it is longer than a text may be.
-///
-/// POSIX.1-2017, awk, "Variables and Special Variables" (`SUBSEP`).
-pub fn key_of_texts<W: World>(texts: &Texts, world: &W, run: &mut Run<'_>) -> Result<Vec<u8>, Halt>
+/// The key that these texts are together: several are joined by SUBSEP.
+fn joined_key<W: World>(texts: &Texts, world: &W, run: &mut Run<'_>) -> Result<Vec<u8>, Halt>
     ensures left { run.new.left ≤ run.old.left }
     ensures outcome { Yields (λ key. key.items)
         (key_of W.calls texts.now
         (moment (W.state world.now) run.old)) result (moment (W.state world.now) run.new) }
 {
-    let mut key = Vec::new(run.alloc);
+    let mut key = take_buffer(run.alloc, &mut run.spare);
     if texts.len() == 0 {
         return Ok(key);
     }
@@ -59,10 +55,24 @@ pub fn key_of_texts<W: World>(texts: &Texts, world: &W, run: &mut Run<'_>) -> Re
     Ok(key)
 }
 
-/// Prints texts with OFS between them and ORS after them.
+/// The key that subscripts spell: several are joined by SUBSEP. The room of the texts is kept.
 ///
-/// POSIX.1-2017, awk, "Output Statements" (`print`).
-pub fn print_line<W: World>(texts: &Texts, world: &W, run: &mut Run<'_>) -> Result<(), Halt>
+/// Fault `length` where it is longer than a text may be.
+///
+/// POSIX.1-2017, awk, "Variables and Special Variables" (`SUBSEP`).
+pub fn key_of_texts<W: World>(texts: Texts, world: &W, run: &mut Run<'_>) -> Result<Vec<u8>, Halt>
+    ensures left { run.new.left ≤ run.old.left }
+    ensures outcome { Yields (λ key. key.items)
+        (key_of W.calls texts
+        (moment (W.state world.now) run.old)) result (moment (W.state world.now) run.new) }
+{
+    let key = joined_key(&texts, world, run);
+    run.texts = texts;
+    key
+}
+
+/// Prints texts with OFS between them and ORS after them.
+fn print_joined<W: World>(texts: &Texts, world: &W, run: &mut Run<'_>) -> Result<(), Halt>
     ensures left { run.new.left ≤ run.old.left }
     ensures outcome { Yields (λ _. tt)
         (print_line W.calls texts.now
@@ -77,6 +87,20 @@ pub fn print_line<W: World>(texts: &Texts, world: &W, run: &mut Run<'_>) -> Resu
     )?;
     push_separator(scalar_text(ORS, world, &mut behind), &mut run.output)?;
     Ok(())
+}
+
+/// Prints texts with OFS between them and ORS after them. Their room is kept.
+///
+/// POSIX.1-2017, awk, "Output Statements" (`print`).
+pub fn print_line<W: World>(texts: Texts, world: &W, run: &mut Run<'_>) -> Result<(), Halt>
+    ensures left { run.new.left ≤ run.old.left }
+    ensures outcome { Yields (λ _. tt)
+        (print_line W.calls texts
+        (moment (W.state world.now) run.old)) result (moment (W.state world.now) run.new) }
+{
+    let printed = print_joined(&texts, world, run);
+    run.texts = texts;
+    printed
 }
 
 /// Prints a text with ORS after it.

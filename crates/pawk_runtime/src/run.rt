@@ -7,7 +7,7 @@ ghost use Rattle.pawk_value.specs.Value.{shown};
 ghost use Rattle.pawk_store.specs.StateViews.{state_of};
 ghost use Rattle.pawk_runtime.specs.Moments.{hold_of, holds_of};
 
-use pawk_array::{AssociativeArray, Seed};
+use pawk_array::{AssociativeArray, Seed, Texts};
 use pawk_builtins::{Matchers, Values};
 use pawk_code::program::ParameterKind;
 use pawk_store::RecordState;
@@ -43,6 +43,8 @@ pub struct Run<'a> {
     pub spare: Vec<Vec<u8>>,
     /// Room for the values that a format takes.
     pub values: Values,
+    /// Room for the texts that are joined.
+    pub texts: Texts,
     /// The frames of calls that have ended.
     pub frames: Vec<Vec<Parameter>>,
 }
@@ -69,6 +71,7 @@ impl<'a> Run<'a> {
             left,
             spare: Vec::new(alloc),
             values: Values::new(alloc),
+            texts: Texts::new(alloc),
             frames: Vec::new(alloc),
         })
     }
@@ -104,6 +107,15 @@ pub fn take_values(alloc: Global, kept: &mut Values) -> Values
     let mut values = replace(kept, Values::new(alloc));
     values.clear();
     values
+}
+
+/// No texts, in the room that was kept for them; none is kept then.
+pub fn take_texts(alloc: Global, kept: &mut Texts) -> Texts
+    ensures { result ≡ [] }
+{
+    let mut texts = replace(kept, Texts::new(alloc));
+    texts.clear();
+    texts
 }
 
 /// Gives the buffer of a value back, if it has one.

@@ -7,16 +7,15 @@ use Rattle.pawk_ere.specs.Runs.{IsRun, IsTurns}
 use Rattle.pawk_ere.specs.Words.{IsPrefilter}
 use Rattle.pawk_ere_syntax.specs.Sets.{IsOnlyMember}
 use Rattle.pawk_ere_automaton.specs.declared.members.Members.{Members}
-use Rattle.pawk_ere_automaton.specs.Regex.{Takes}
+use Rattle.pawk_ere_automaton.specs.Regex.{Regex, Takes}
 use Rattle.pawk_ere_automaton.specs.Tree.{regex_of}
-use Rattle.pawk_ere_automaton.specs.declared.node.Node.{Node}
 use Rattle.pawk_ere_automaton.proofs.Leftmost.{found_map, found_none}
 use Rattle.pawk_ere.proofs.Needed.{none_filtered}
 use Rattle.pawk_ere.proofs.matcher.Matcher.find_next.Goals as goal
 
-answers : (r : Result (Option (ℕ × ℕ)) AllocError) (e : Pattern) (node : Node) (text : List ℕ) (start : ℕ) → IsFor e node → IfOk r (λ found. IsFound (Takes (regex_of node) text) start found) → IfOk r (λ found. IsAnswer e text start found)
-answers (Ok found) e node text start for h = found_map (Takes (regex_of node) text) (Matches e text) start found (for.same text) h
-answers (Err why) e node text start for h = tt
+answers : (r : Result (Option (ℕ × ℕ)) AllocError) (e : Pattern) (own : Regex) (text : List ℕ) (start : ℕ) → IsFor e own → IfOk r (λ found. IsFound (Takes own text) start found) → IfOk r (λ found. IsAnswer e text start found)
+answers (Ok found) e own text start for h = found_map (Takes own text) (Matches e text) start found (for.same text) h
+answers (Err why) e own text start for h = tt
 
 pub returns-in-Literal-clause-answer : goal.returns-in-Literal-clause-answer
 returns-in-Literal-clause-answer c = λ e for.
@@ -31,7 +30,7 @@ returns-then-lacks_words-clause-answer c = λ e for.
 
 pub returns-clause-answer : goal.returns-clause-answer
 returns-clause-answer c = λ e for.
-    answers c.search.result e c.self.inside.node c.args.text.now c.args.from (subst (λ n. IsFor e n) (sym c.self.view_is) for) c.search.ensures.found
+    answers c.search.result e (regex_of c.self.inside.node) c.args.text.now c.args.from (subst (λ n. IsFor e n) (sym c.self.view_is) for) c.search.ensures.found
 
 pub search_run-requires-clause-some : goal.search_run-requires-clause-some
 search_run-requires-clause-some c =

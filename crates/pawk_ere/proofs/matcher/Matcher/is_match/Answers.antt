@@ -7,16 +7,15 @@ use Rattle.pawk_ere.specs.Runs.{IsRun, IsTurns}
 use Rattle.pawk_ere.specs.Words.{IsPrefilter}
 use Rattle.pawk_ere_syntax.specs.Sets.{IsOnlyMember}
 use Rattle.pawk_ere_automaton.specs.declared.members.Members.{Members}
-use Rattle.pawk_ere_automaton.specs.Regex.{Takes}
+use Rattle.pawk_ere_automaton.specs.Regex.{Regex, Takes}
 use Rattle.pawk_ere_automaton.specs.Tree.{regex_of}
-use Rattle.pawk_ere_automaton.specs.declared.node.Node.{Node}
 use Rattle.pawk_ere_automaton.proofs.Leftmost.{match_map}
 use Rattle.pawk_ere.proofs.Needed.{none_filtered}
 use Rattle.pawk_ere.proofs.matcher.Matcher.is_match.Goals as goal
 
-answers : (r : Result Bool AllocError) (e : Pattern) (node : Node) (text : List ℕ) (start : ℕ) → IsFor e node → IfOk r (λ told. IsTrue told ↔ HasMatch (Takes (regex_of node) text) start) → IfOk r (λ told. IsTrue told ↔ HasMatch (Matches e text) start)
-answers (Ok told) e node text start for h = match_map (Takes (regex_of node) text) (Matches e text) start told (for.same text) h
-answers (Err why) e node text start for h = tt
+answers : (r : Result Bool AllocError) (e : Pattern) (own : Regex) (text : List ℕ) (start : ℕ) → IsFor e own → IfOk r (λ told. IsTrue told ↔ HasMatch (Takes own text) start) → IfOk r (λ told. IsTrue told ↔ HasMatch (Matches e text) start)
+answers (Ok told) e own text start for h = match_map (Takes own text) (Matches e text) start told (for.same text) h
+answers (Err why) e own text start for h = tt
 
 -- nothing is reported where there is no match
 no_match : (R : ℕ → ℕ → Type 0) (start : ℕ) → NoneFrom R start → IsTrue false ↔ HasMatch R start
@@ -35,7 +34,7 @@ returns-then-lacks_words-clause-answer c = λ e for.
 
 pub returns-clause-answer : goal.returns-clause-answer
 returns-clause-answer c = λ e for.
-    answers c.has_match.result e c.self.inside.node c.args.text.now c.args.from (subst (λ n. IsFor e n) (sym c.self.view_is) for) c.has_match.ensures.told
+    answers c.has_match.result e (regex_of c.self.inside.node) c.args.text.now c.args.from (subst (λ n. IsFor e n) (sym c.self.view_is) for) c.has_match.ensures.told
 
 pub has_run-requires-clause-some : goal.has_run-requires-clause-some
 has_run-requires-clause-some c =
