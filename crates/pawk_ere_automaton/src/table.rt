@@ -339,11 +339,11 @@ pub fn close(
         × HasKey t false s.marks.items) }
 {
     let state = &table.states[place];
-    let marks = Vec::from_slice(alloc, &state.marks)?;
-    let hash = hash_of(false, &marks);
-    if let Some(found) = position_of(table, false, hash, &marks) {
+    let hash = hash_of(false, &state.marks);
+    if let Some(found) = position_of(table, false, hash, &state.marks) {
         return Ok(found);
     }
+    let marks = Vec::from_slice(alloc, &state.marks)?;
     Ok(put_state(alloc, node, table, false, marks)?.place)
 }
 

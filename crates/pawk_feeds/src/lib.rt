@@ -5,6 +5,7 @@ mod feed;
 mod flowed;
 mod law;
 mod order;
+mod pace;
 mod reading;
 mod run;
 mod stream;

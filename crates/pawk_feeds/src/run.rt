@@ -15,6 +15,7 @@ ghost use Rattle.pawk_feeds.specs.Streams.{route_from};
 use crate::feed::Feed;
 use crate::flowed::{Flowed, LastPiece};
 use crate::order::Order;
+use crate::pace::Pace;
 use crate::stream::{Setting, Stream, run_all};
 use crate::write::write_on;
 use pawk_admit::{Reason, Roles};
@@ -147,6 +148,7 @@ fn run_on<S: Source, K: Sink, G: Gate + Sync, R: Threads + Wait>(
         window: Window::new(alloc, Separator::of(rs.as_slice()), order.window),
         spare: Vec::new(alloc),
         before: 0,
+        pace: Pace::new(),
     };
     let (stream, left) = run_all(rt, setting, stream, feeds, sink, gate)?;
     let Stream {
@@ -155,6 +157,7 @@ fn run_on<S: Source, K: Sink, G: Gate + Sync, R: Threads + Wait>(
         window: _,
         spare,
         before,
+        pace: _,
     } = stream;
     let outcome = finish_flow(order.job, flow, left)?;
     let last = LastPiece {

@@ -15,6 +15,7 @@ ghost use Rattle.pawk_feeds.specs.Streams.{Tells, course_of, is_over, with_file,
 
 use crate::feed::Feed;
 use crate::law::{routes_go_on, runs_go_on};
+use crate::pace::Pace;
 use crate::reading::next_records;
 use crate::write::write_on;
 use pawk_admit::Roles;
@@ -56,6 +57,8 @@ pub(crate) struct Stream {
     pub spare: Vec<u8>,
     /// How many records of its file came before that piece.
     pub before: u64,
+    /// Whether the next piece is run in chunks, where it may be.
+    pub pace: Pace,
 }
 
 /// The refusal of a run for a piece that was not run.
@@ -67,14 +70,15 @@ fn refusal_of_piece(refusal: PieceRefusal) -> StreamRefusal {
     }
 }
 
-/// Runs a piece of a program that may run in chunks: by several workers in chunks, by one worker in turn, which finds out
-/// whether all chunks could be merged.
+/// Runs a piece of a program that may run in chunks: by several workers in chunks, unless the pace says otherwise; else by one
+/// worker in turn, which finds out whether all chunks could be merged.
 fn run_admitted_piece<G: Gate + Sync, R: Threads + Wait>(
     rt: &R,
     setting: Setting<'_>,
     flow: Flow,
     roles: &Roles,
     piece: Piece<'_>,
+    pace: Pace,
     gate: &G,
 ) -> Result<(Flow, PieceEnd), PieceRefusal>
     requires usable { IsUsable setting }
@@ -87,10 +91,10 @@ fn run_admitted_piece<G: Gate + Sync, R: Threads + Wait>(
         (roles_view roles.now) setting.entry.job.budget piece.entry flow r.0 r.1.is_stopped) }
 {
     let Setting { job, way, .. } = setting;
-    if way.workers == 1 {
-        run_piece_noting(job, flow, roles, piece)
-    } else {
+    if way.workers > 1 && pace.is_in_chunks() {
         run_piece_in_chunks(rt, job, flow, roles, piece, way, gate)
+    } else {
+        run_piece_noting(job, flow, roles, piece)
     }
 }
 
@@ -101,6 +105,7 @@ fn run_piece<G: Gate + Sync, R: Threads + Wait>(
     flow: Flow,
     roles: Option<Roles>,
     piece: Piece<'_>,
+    pace: Pace,
     gate: &G,
 ) -> Result<(Flow, Option<Roles>, PieceEnd), StreamRefusal>
     requires usable { IsUsable setting }
@@ -116,7 +121,7 @@ fn run_piece<G: Gate + Sync, R: Threads + Wait>(
         (piece_items piece.entry)) (λ roles. ⊥) roles r.1) }
 {
     match roles {
-        Some(roles) => match run_admitted_piece(rt, setting, flow, &roles, piece, gate) {
+        Some(roles) => match run_admitted_piece(rt, setting, flow, &roles, piece, pace, gate) {
             Ok((flow, end)) => {
                 let roles = if end.is_stopped { None } else { Some(roles) };
                 Ok((flow, roles, end))
@@ -166,6 +171,7 @@ fn step<S: Source, K: Sink, G: Gate + Sync, R: Threads + Wait>(
         window,
         spare,
         before: _,
+        pace,
     } = stream;
     let mut window = window;
     let piece = Piece {
@@ -174,13 +180,15 @@ fn step<S: Source, K: Sink, G: Gate + Sync, R: Threads + Wait>(
         fnr,
         bytes: next_records(&mut window, spare, &mut feed.source)?,
     };
-    let (flow, roles, end) = run_piece(rt, setting, flow, roles, piece, gate)?;
+    let (flow, roles, end) = run_piece(rt, setting, flow, roles, piece, pace, gate)?;
+    let pace = pace.after(&end, end.fnr.saturating_sub(fnr), setting.way.cutting);
     let PieceEnd {
         outputs,
         left,
         fnr: now_fnr,
         bytes,
         is_stopped: _,
+        noted: _,
     } = end;
     write_on(sink, outputs)?;
     let stream = Stream {
@@ -189,6 +197,7 @@ fn step<S: Source, K: Sink, G: Gate + Sync, R: Threads + Wait>(
         window,
         spare: bytes,
         before: fnr,
+        pace,
     };
     Ok((stream, Progress { left, fnr: now_fnr }))
 }

@@ -121,7 +121,7 @@ module _ (code : Code) (budget : ℕ) (source : Chunked) (before after : Globals
   goes_on_by : (m : Merged) (r : Remnant) (stop : Option MergeStop) → is_some stop ≡ true →
       (records_from calls code.expressions code budget None (end_view before m)
       (flat_map (chunk_items source.rs.now (files_of source.input.now)) (drop (length m.outputs.items) source.plan.now))
-      ≡ remnant_end after r) → r.is_stopped ≡ true → RunsOn code budget source before (record { merged = m; stop = stop }) after r
+      ≡ remnant_end after r) → r.is_stopped ≡ true → RunsOn code budget source before (record { merged = m; stop = stop; noted = 0 }) after r
   goes_on_by m r None some ends is = absurd cc
   goes_on_by m r (Some s) some ends is = (ends, is)
 

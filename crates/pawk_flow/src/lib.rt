@@ -21,6 +21,7 @@ pub use law::results_merge_far;
 pub use noting::run_piece_noting;
 pub use operands::{assign, assignments_follow, assignments_keep_ready, plain_operands_run};
 pub use piece::{Piece, PieceEnd};
+pub use plan::{bytes_of, input_of, plan_after};
 pub use refusal::PieceRefusal;
 pub use turn::run_piece_in_turn;
 pub use window::run_piece_in_chunks;

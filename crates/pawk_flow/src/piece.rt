@@ -28,4 +28,6 @@ pub struct PieceEnd {
     pub bytes: Vec<u8>,
     /// Whether records that were to be run in chunks were run one after the other, from some record on.
     pub is_stopped: bool,
+    /// Of how many elements the chunks that were merged noted something, each for itself.
+    pub noted: usize,
 }

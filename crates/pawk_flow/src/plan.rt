@@ -13,7 +13,7 @@ use std::alloc::{AllocError, Global};
 /// The bytes of a piece as the one file of an input.
 ///
 /// `Memory` comes where memory was refused, `Input` where the piece has more bytes than an input may have.
-pub(crate) fn input_of(alloc: Global, name: &[u8], bytes: Vec<u8>) -> Result<Input, PieceRefusal>
+pub fn input_of(alloc: Global, name: &[u8], bytes: Vec<u8>) -> Result<Input, PieceRefusal>
     ensures file { IfOk result (λ input.
         files_of input ≡ record { name = name.now; bytes = bytes.items } ∷ []) }
     ensures ready { IfOk result (λ input. (rs : List ℕ) → IsReady rs input) }
@@ -27,7 +27,7 @@ pub(crate) fn input_of(alloc: Global, name: &[u8], bytes: Vec<u8>) -> Result<Inp
 }
 
 /// The bytes of an input's one file, if it still has them.
-pub(crate) fn bytes_of(alloc: Global, input: Input) -> Vec<u8> {
+pub fn bytes_of(alloc: Global, input: Input) -> Vec<u8> {
     match input.into_files() {
         Some(files) => {
             let mut files = files;
@@ -43,7 +43,7 @@ pub(crate) fn bytes_of(alloc: Global, input: Input) -> Vec<u8> {
 /// The plan of a piece whose records come after so many, `fnr` of them in their file.
 ///
 /// `Input` comes where they cannot be counted on from there.
-pub(crate) fn plan_after(
+pub fn plan_after(
     plan: Plan,
     input: &Input,
     rs: &[u8],

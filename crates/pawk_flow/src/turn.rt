@@ -61,6 +61,7 @@ fn run_in_turn<'a, W: World>(
         fnr,
         bytes: Vec::new(alloc),
         is_stopped: false,
+        noted: 0,
     };
     Ok((run.state.keep(alloc)?, end))
 }

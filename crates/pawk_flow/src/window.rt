@@ -60,7 +60,11 @@ fn run_on<'a>(
     ensures { IfOk result (RunsOn (code_view job.entry.code.now) job.entry.budget source.entry
         prologue.old.globals extent.entry prologue.new.globals) }
 {
-    let Extent { merged, stop } = extent;
+    let Extent {
+        merged,
+        stop,
+        noted: _,
+    } = extent;
     let Merged {
         outputs,
         left,
@@ -122,6 +126,7 @@ pub(crate) fn close(alloc: Global, end: PieceEnd, input: Input, chunks: usize, f
         fnr,
         bytes: bytes_of(alloc, input),
         is_stopped: end.is_stopped,
+        noted: end.noted,
     }
 }
 
@@ -157,6 +162,7 @@ fn run_in_chunks<'a, G: Gate + Sync, R: Threads + Wait>(
     let alloc = prologue.run.alloc;
     let mut prologue = prologue;
     let extent = merge_chunks(rt, job, &mut prologue, roles, source, workers, gate)?;
+    let noted = extent.noted;
     let remnant = run_on(job, &mut prologue, source, extent)?;
     let fnr = remnant.state.fnr;
     let flow = Flow {
@@ -170,6 +176,7 @@ fn run_in_chunks<'a, G: Gate + Sync, R: Threads + Wait>(
         fnr,
         bytes: Vec::new(alloc),
         is_stopped: remnant.is_stopped,
+        noted,
     };
     Ok((flow, end))
 }

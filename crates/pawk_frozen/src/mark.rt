@@ -118,6 +118,13 @@ impl CellMark {
         }
     }
 
+    /// Notes this in place of what was noted before.
+    pub(crate) fn set(&mut self, mark: CellMark)
+        ensures { mark_view self.new ≡ mark_view mark }
+    {
+        *self = mark;
+    }
+
     /// Notes that a value is set, in the space that the one before has for its text.
     pub(crate) fn put(&mut self, alloc: Global, value: ValueRef<'_>) -> Result<(), AllocError>
         ensures { OnOk result (mark_view self.new ≡ last_put (lent_value value.entry)) }

@@ -1,13 +1,14 @@
 //! What a chunk notes of the elements of an array.
 
-ghost use Rattle.std.specs.Prelude.{◌≡◌, [], None, IfOk, MatchOption, OnErr, OnOk};
+ghost use Rattle.std.specs.Prelude.{◌≡◌, ◌≢◌, [], None, IfOk, MatchOption, OnErr, OnOk};
+ghost use Rattle.std.specs.Bool.{MatchBool};
 ghost use Rattle.std.specs.Borrow.{sem};
 ghost use Rattle.std.specs.FinMap.Entries.{find};
 ghost use Rattle.pawk_value.specs.Value.{lent_value};
 ghost use Rattle.pawk_keyed_map.specs.Keyed.{Rise, order};
 ghost use Rattle.pawk_keyed_map.specs.Keys.{text_of};
 ghost use Rattle.pawk_world.specs.Answers.{Answers};
-ghost use Rattle.pawk_frozen.specs.Marks.{created, last_put, mark_found, put_mark, with_amount};
+ghost use Rattle.pawk_frozen.specs.Marks.{blank, created, last_put, mark_found, put_mark, with_amount};
 ghost use Rattle.pawk_frozen.specs.Frozens.{signed_amount};
 ghost use Rattle.pawk_frozen.specs.MarkViews.{kept, mark_view};
 ghost use Rattle.pawk_frozen.specs.MarkLending.{LendsMark};
@@ -111,6 +112,11 @@ impl ElementMarks {
         }
     }
 
+    /// How many keys there are.
+    pub(crate) fn len(&self) -> usize {
+        self.map.len()
+    }
+
     /// The keys and their marks, to be taken out one after the other. Takes no memory.
     pub fn into_pairs(self) -> MarkPairs
         ensures { result ≡ self }
@@ -162,6 +168,23 @@ impl ElementMarks {
         let alloc = self.alloc;
         let mark = self.entry(key)?;
         mark.put(alloc, value)
+    }
+
+    /// Notes this mark of an element of which nothing is noted, and says whether that was so; where
+    /// something was, the mark is dropped.
+    pub(crate) fn note(&mut self, key: &[u8], mark: CellMark) -> Result<bool, AllocError>
+        ensures { IfOk result (λ is_first. MatchBool is_first ((mark_found key.now self.old ≡ blank)
+            × (self.new ≡ put_mark key.now (mark_view mark) self.old))
+            (mark_found key.now self.old ≢ blank)) }
+    {
+        let before = self.entry(key)?;
+        match before {
+            CellMark::Blank => {
+                *before = mark;
+                Ok(true)
+            }
+            CellMark::Summed(_) | CellMark::Put(_) | CellMark::Created => Ok(false),
+        }
     }
 
     /// Notes that an element is created.

@@ -1,6 +1,7 @@
 //! The table of what a chunk notes.
 
-ghost use Rattle.std.specs.Prelude.{◌≡◌, ◌++◌, map, replicate, [], IfOk, OnOk};
+ghost use Rattle.std.specs.Prelude.{◌≡◌, ◌≢◌, ◌++◌, map, replicate, [], IfOk, OnOk};
+ghost use Rattle.std.specs.Bool.{MatchBool};
 ghost use Rattle.pawk_value.specs.Conversion.{text_of};
 ghost use Rattle.pawk_value.specs.Value.{Text, lent_value};
 ghost use Rattle.pawk_world.specs.Answers.{Answers};
@@ -64,7 +65,7 @@ fn empty_marks(alloc: Global, seed: Seed, count: usize) -> Result<Vec<ElementMar
 
 impl Table {
     /// Nothing noted of the scalars and arrays of these numbers; keys are hashed by `seed`.
-    pub(crate) fn blank(
+    pub fn blank(
         alloc: Global,
         seed: Seed,
         scalars: usize,
@@ -91,6 +92,15 @@ impl Table {
         ensures { result.now ≡ self.now.arrays }
     {
         self.arrays.as_slice()
+    }
+
+    /// Of how many elements something is noted, where a merge looks each of them up.
+    pub fn element_count(&self) -> usize {
+        let mut count: usize = 0;
+        for marks in &self.arrays {
+            count = count.saturating_add(marks.len());
+        }
+        count
     }
 
     /// The marks of the scalars, and those of the elements of each array, by their slots.
@@ -178,6 +188,36 @@ impl Table {
             self.arrays[array].put(key, value)?;
         }
         Ok(())
+    }
+
+    /// Notes this mark of a scalar, in place of the one before. A slot past the last one keeps nothing.
+    pub fn set_scalar(&mut self, slot: usize, mark: CellMark)
+        ensures { self.new ≡ with_mark (scalar slot) (mark_view mark) self.old }
+    {
+        if slot < self.scalars.len() {
+            self.scalars[slot].set(mark);
+        }
+    }
+
+    /// Notes this mark of an element of which nothing is noted, and says whether that was so; where
+    /// something was, the mark is dropped. An array past the last one keeps nothing.
+    ///
+    /// The error comes where memory was refused; then nothing is said of the table.
+    pub fn note_element(
+        &mut self,
+        array: usize,
+        key: &[u8],
+        mark: CellMark,
+    ) -> Result<bool, AllocError>
+        ensures { IfOk result (λ is_first. MatchBool is_first
+            ((mark_at (element array key.now) self.old ≡ blank)
+            × (self.new ≡ with_mark (element array key.now) (mark_view mark) self.old))
+            (mark_at (element array key.now) self.old ≢ blank)) }
+    {
+        if array < self.arrays.len() {
+            return self.arrays[array].note(key, mark);
+        }
+        Ok(true)
     }
 
     /// Notes that an element is created.

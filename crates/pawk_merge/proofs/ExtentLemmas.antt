@@ -117,9 +117,9 @@ not_merged_at old c o s is at cs =
 
 pub not_merged : (g : Globals) (m : Merged) (before : Option MergeStop) (stop : Option MergeStop) (c : Chunk) → is_some stop ≡ true
     → option_map stop_view stop ≡ stop_at c.table c.left g
-    → Advances (extent_view g (record { merged = m; stop = before })) c (extent_view g (record { merged = m; stop = stop })) false
+    → Advances (extent_view g (record { merged = m; stop = before; noted = 0 })) c (extent_view g (record { merged = m; stop = stop; noted = 0 })) false
 not_merged g m before None c is at = cc
-not_merged g m before (Some s) c is at = not_merged_at (extent_view g (record { merged = m; stop = before })) c (Some (stop_view s)) (stop_view s) refl at
+not_merged g m before (Some s) c is at = not_merged_at (extent_view g (record { merged = m; stop = before; noted = 0 })) c (Some (stop_view s)) (stop_view s) refl at
 
 -- a chunk that is merged
 pub merged_too : (old new : Extent) (c : Chunk) (on : Bool) → stop_at c.table c.left old.end.world ≡ None → (IsTrue on ↔ (c.left ≡ through))

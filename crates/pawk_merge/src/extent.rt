@@ -28,6 +28,8 @@ pub struct Extent<'a> {
     pub merged: Merged<'a>,
     /// Why the chunk after them is not merged; none where no chunk is left out for such a reason.
     pub stop: Option<MergeStop>,
+    /// Of how many elements they noted something, each chunk for itself.
+    pub noted: usize,
 }
 
 /// Why a chunk with this table, which was left so, is not merged; none where it can be. It changes
@@ -87,6 +89,7 @@ impl<'a> Extent<'a> {
         }
         self.merged.left = left;
         self.merged.state = state;
+        self.noted = self.noted.saturating_add(table.element_count());
         join_taken(globals, table)?;
         self.merged.outputs.push(output)?;
         Ok(is_through(left))
@@ -123,6 +126,7 @@ pub fn merge_far<'a>(
             state,
         },
         stop: None,
+        noted: 0,
     };
     for chunk in chunks {
         if !extent.add(globals, chunk)? {

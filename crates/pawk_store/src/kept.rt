@@ -92,6 +92,20 @@ impl RecordState<'_> {
 }
 
 impl KeptState {
+    /// How many records were read (`NR`).
+    pub fn count(&self) -> u64
+        ensures { result ≡ self.now.nr }
+    {
+        self.nr
+    }
+
+    /// Says that this many records were read; all else stays.
+    pub fn set_count(&mut self, count: u64)
+        ensures { self.new ≡ record self.old { nr = count } }
+    {
+        self.nr = count;
+    }
+
     /// The state with which a run goes on. Its `FILENAME` is lent from here, and all else is taken out; what
     /// stays is to be replaced by what the run leaves. Takes no memory.
     pub fn lend(&mut self) -> RecordState<'_>

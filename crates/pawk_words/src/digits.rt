@@ -13,11 +13,11 @@ const PAST_LIMIT: u128 = SIZE_LIMIT + 1;
 
 /// The digits in front of bytes.
 #[derive(Clone, Copy)]
-pub(crate) struct Digits {
+pub struct Digits {
     /// How many they are.
-    pub(crate) count: usize,
+    pub count: usize,
     /// The number that they write, or one more than the limit where it is above that.
-    pub(crate) size: u128,
+    pub size: u128,
 }
 
 /// The number that a digit makes of the one that the digits before it write.
@@ -48,7 +48,7 @@ fn leading_digits(bytes: &[u8]) -> Digits
 
 /// The digits in front of the bytes, if these may begin with a number in decimal: with digits, none of them a zero in
 /// front of others, whose number is within the limit. Bytes that end before the first digit have none.
-pub(crate) fn decimal_front(bytes: &[u8]) -> Option<Digits>
+pub fn decimal_front(bytes: &[u8]) -> Option<Digits>
     ensures { MatchOption result (IsNoDecimalFront bytes.now)
         (λ digits. IsDecimalFront bytes.now digits.count digits.size) }
 {

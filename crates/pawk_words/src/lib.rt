@@ -11,6 +11,7 @@ mod read;
 mod word;
 mod write;
 
+pub use digits::{Digits, decimal_front};
 pub use limits::{NAME_LIMIT, SIZE_LIMIT, limits_law};
 pub use read::{Damage, ReadWord, read_word};
 pub use word::{Gap, Word};

@@ -11,7 +11,7 @@ use Rattle.pawk_feeds.proofs.stream.run_feed.Goals as goal
 
 pub loop-init : goal.loop-init
 loop-init g c =
-    let s : Stream = record { flow = c.args.stream.flow; roles = c.args.stream.roles; window = c.clear.new.self; spare = c.args.stream.spare; before = c.args.stream.before } in
+    let s : Stream = record { flow = c.args.stream.flow; roles = c.args.stream.roles; window = c.clear.new.self; spare = c.args.stream.spare; before = c.args.stream.before; pace = c.args.stream.pace } in
     let goes = ap (λ (w : Contents). w.ended) c.clear.ensures in
     record {
       ran = runs_none (course_of c.args.setting) _ _ _ s 0 goes;
@@ -23,7 +23,7 @@ loop-init g c =
 pub returns-in_err-next-clause-refused : goal.returns-in_err-next-clause-refused
 returns-in_err-next-clause-refused g c =
     let u : Course = course_of c.args.setting in
-    let s : Stream = record { flow = c.args.stream.flow; roles = c.args.stream.roles; window = c.clear.new.self; spare = c.args.stream.spare; before = c.args.stream.before } in
+    let s : Stream = record { flow = c.args.stream.flow; roles = c.args.stream.roles; window = c.clear.new.self; spare = c.args.stream.spare; before = c.args.stream.before; pace = c.args.stream.pace } in
     if_err _ _ (file_refuses g.S.Source.left u c.args.feed.now _ _ c.args.stream s refl (ap (λ (w : Contents). w.tail) c.clear.ensures)
     (refuses_then u _ _ _ _ _ _ s 0 c.loop.stream c.loop.fnr c.loop.invariant.ran c.loop.invariant.goes
     (subst (λ (n : Vec ℕ Global). RefusesIn u (g.S.Source.left c.loop.feed.source) (g.K.Sink.taken c.loop.sink) (g.K.Sink.taken c.step.new.sink) n.items c.loop.stream c.loop.fnr) c.loop.invariant.name c.in_err-next.ensures.refused)))
@@ -31,7 +31,7 @@ returns-in_err-next-clause-refused g c =
 pub returns-then-is_ended-clause-ran : goal.returns-then-is_ended-clause-ran
 returns-then-is_ended-clause-ran g c =
     let u : Course = course_of c.args.setting in
-    let s : Stream = record { flow = c.args.stream.flow; roles = c.args.stream.roles; window = c.clear.new.self; spare = c.args.stream.spare; before = c.args.stream.before } in
+    let s : Stream = record { flow = c.args.stream.flow; roles = c.args.stream.roles; window = c.clear.new.self; spare = c.args.stream.spare; before = c.args.stream.before; pace = c.args.stream.pace } in
     let last = subst (λ (n : Vec ℕ Global). RunsOn u (g.S.Source.left c.loop.feed.source) (g.S.Source.left c.step.new.feed.source) (g.K.Sink.taken c.loop.sink) (g.K.Sink.taken c.step.new.sink) n.items c.loop.stream c.loop.fnr (left_view c.in_ok-next.progress.left) c.in_ok-next.next c.in_ok-next.progress.fnr) c.loop.invariant.name c.in_ok-next.ensures.ran in
     let last_on = subst (λ (l : CodeLeft). RunsOn u (g.S.Source.left c.loop.feed.source) (g.S.Source.left c.step.new.feed.source) (g.K.Sink.taken c.loop.sink) (g.K.Sink.taken c.step.new.sink) c.args.feed.now.name.items c.loop.stream c.loop.fnr (left_view l) c.in_ok-next.next c.in_ok-next.progress.fnr) c.in-Through.is last in
     file_runs g.S.Source.left u c.args.feed.now _ _ c.args.stream _ s through c.in_ok-next.next c.in_ok-next.progress.fnr refl refl (ap (λ (w : Contents). w.tail) c.clear.ensures)
@@ -41,7 +41,7 @@ returns-then-is_ended-clause-ran g c =
 pub returns-in_default : goal.returns-in_default
 returns-in_default g c =
     let u : Course = course_of c.args.setting in
-    let s : Stream = record { flow = c.args.stream.flow; roles = c.args.stream.roles; window = c.clear.new.self; spare = c.args.stream.spare; before = c.args.stream.before } in
+    let s : Stream = record { flow = c.args.stream.flow; roles = c.args.stream.roles; window = c.clear.new.self; spare = c.args.stream.spare; before = c.args.stream.before; pace = c.args.stream.pace } in
     let last = subst (λ (n : Vec ℕ Global). RunsOn u (g.S.Source.left c.loop.feed.source) (g.S.Source.left c.step.new.feed.source) (g.K.Sink.taken c.loop.sink) (g.K.Sink.taken c.step.new.sink) n.items c.loop.stream c.loop.fnr (left_view c.in_ok-next.progress.left) c.in_ok-next.next c.in_ok-next.progress.fnr) c.loop.invariant.name c.in_ok-next.ensures.ran in
     record {
       ran = file_runs g.S.Source.left u c.args.feed.now _ _ c.args.stream _ s (left_view c.in_ok-next.progress.left) c.in_ok-next.next c.in_ok-next.progress.fnr refl refl (ap (λ (w : Contents). w.tail) c.clear.ensures)
@@ -54,7 +54,7 @@ returns-in_default g c =
 pub loop-preserved : goal.loop-preserved
 loop-preserved g c =
     let u : Course = course_of c.args.setting in
-    let s : Stream = record { flow = c.args.stream.flow; roles = c.args.stream.roles; window = c.clear.new.self; spare = c.args.stream.spare; before = c.args.stream.before } in
+    let s : Stream = record { flow = c.args.stream.flow; roles = c.args.stream.roles; window = c.clear.new.self; spare = c.args.stream.spare; before = c.args.stream.before; pace = c.args.stream.pace } in
     let last = subst (λ (n : Vec ℕ Global). RunsOn u (g.S.Source.left c.loop.feed.source) (g.S.Source.left c.step.new.feed.source) (g.K.Sink.taken c.loop.sink) (g.K.Sink.taken c.step.new.sink) n.items c.loop.stream c.loop.fnr (left_view c.in_ok-next.progress.left) c.in_ok-next.next c.in_ok-next.progress.fnr) c.loop.invariant.name c.in_ok-next.ensures.ran in
     let last_on = subst (λ (l : CodeLeft). RunsOn u (g.S.Source.left c.loop.feed.source) (g.S.Source.left c.step.new.feed.source) (g.K.Sink.taken c.loop.sink) (g.K.Sink.taken c.step.new.sink) c.args.feed.now.name.items c.loop.stream c.loop.fnr (left_view l) c.in_ok-next.next c.in_ok-next.progress.fnr) c.in-Through.is last in
     record {
@@ -67,6 +67,6 @@ loop-preserved g c =
 pub returns-clause-refused : goal.returns-clause-refused
 returns-clause-refused g c =
     let u : Course = course_of c.args.setting in
-    let s : Stream = record { flow = c.args.stream.flow; roles = c.args.stream.roles; window = c.clear.new.self; spare = c.args.stream.spare; before = c.args.stream.before } in
+    let s : Stream = record { flow = c.args.stream.flow; roles = c.args.stream.roles; window = c.clear.new.self; spare = c.args.stream.spare; before = c.args.stream.before; pace = c.args.stream.pace } in
     file_refuses g.S.Source.left u c.args.feed.now _ _ c.args.stream s refl (ap (λ (w : Contents). w.tail) c.clear.ensures)
     (refuses_then u _ _ _ _ _ _ s 0 c.loop.stream c.loop.fnr c.loop.invariant.ran c.loop.invariant.goes (refuses_unwritten u _ _ _ _ _))

@@ -17,7 +17,7 @@ returns-in_err-write_on-clause-refused g c =
     let x = c.in_ok-flow.end in
     let come = c.in_ok-next_records.ensures.come in
     let piece : Piece = record { rs = c.args.setting.rs; name = c.as_slice.result; fnr = c.args.fnr; bytes = c.in_ok-next_records.field-0 } in
-    let new : Stream = record { flow = c.in_ok-flow.flow; roles = c.in_ok-flow.roles; window = c.next_records.new.window; spare = x.bytes; before = c.args.fnr } in
+    let new : Stream = record { flow = c.in_ok-flow.flow; roles = c.in_ok-flow.roles; window = c.next_records.new.window; spare = x.bytes; before = c.args.fnr; pace = c.after-pace.result } in
     if_err _ _ (piece_refuses u c.runs_go_on.ensures.pieces c.runs_go_on.ensures.output c.runs_go_on.ensures.behind _ _ _ _ _ c.args.stream new c.args.fnr (with_records c.next_records.new.window c.in_ok-next_records.field-0.items) piece x
     come.bytes come.whole come.end (come.same ∙ c.requires.ready.by_rs)
     c.in_ok-flow.ensures.runs refl c.as_slice.ensures.value refl refl refl refl
@@ -29,7 +29,7 @@ returns-clause-ran g c =
     let x = c.in_ok-flow.end in
     let come = c.in_ok-next_records.ensures.come in
     let piece : Piece = record { rs = c.args.setting.rs; name = c.as_slice.result; fnr = c.args.fnr; bytes = c.in_ok-next_records.field-0 } in
-    let new : Stream = record { flow = c.in_ok-flow.flow; roles = c.in_ok-flow.roles; window = c.next_records.new.window; spare = x.bytes; before = c.args.fnr } in
+    let new : Stream = record { flow = c.in_ok-flow.flow; roles = c.in_ok-flow.roles; window = c.next_records.new.window; spare = x.bytes; before = c.args.fnr; pace = c.after-pace.result } in
     piece_runs u c.runs_go_on.ensures.pieces c.runs_go_on.ensures.output c.runs_go_on.ensures.behind _ _ _ _ _ c.args.stream new c.args.fnr (with_records c.next_records.new.window c.in_ok-next_records.field-0.items) piece x
     come.bytes come.whole come.end (come.same ∙ c.requires.ready.by_rs)
     c.in_ok-flow.ensures.runs refl c.as_slice.ensures.value refl refl refl refl

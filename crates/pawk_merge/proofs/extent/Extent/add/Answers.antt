@@ -25,5 +25,5 @@ returns c =
     let text = c.args.chunk.output in
     let count = ap length c.in_ok-push.ensures.items ∙ length-append texts (text ∷ []) in
     let end = same_end chunk old.end c.join_taken.new.globals c.push.new.self.items texts text c.in_ok-join_taken.ensures c.in_ok-push.ensures.items refl refl in
-    merged_too old (extent_view c.join_taken.new.globals record { merged = record { outputs = c.push.new.self; left = c.args.chunk.left; state = c.args.chunk.state }; stop = c.stop_at-self.result }) chunk
+    merged_too old (extent_view c.join_taken.new.globals record { merged = record { outputs = c.push.new.self; left = c.args.chunk.left; state = c.args.chunk.state }; stop = c.stop_at-self.result; noted = 0 }) chunk
     c.is_through.result (sym c.stop_at-self.ensures ∙ none) c.is_through.ensures count end none

@@ -1,0 +1,4 @@
+pub mod Apart
+pub mod Steps
+pub mod Numbers
+pub mod Joined
