@@ -19,6 +19,7 @@
 #   make wrong       the wrong bodies that the gate leaves out (tests/wrong)
 #   make bench       compare build/pawk's user time with that of mawk and gawk, its elapsed time by workers, the times of
 #                    expressions and of fields, and 24 programs beside mawk, gawk and original-awk
+#   make engines     run shards of a file by GNU parallel, Slurm, Dask and Open MPI on this machine (docs/engines.md)
 #
 #   make clean       remove what was built and what checks keep here (what the gate passed stays kept)
 
@@ -30,7 +31,7 @@ MAKEFLAGS += --no-print-directory
 export RT_JOBS ?= $(shell jobs=$$(nproc); echo $$((jobs < 4 ? jobs : 4)))
 export CC
 
-.PHONY: all build fetch program demo test prove release static deb install uninstall wrong bench clean toolchain
+.PHONY: all build fetch program demo test prove release static deb install uninstall wrong bench engines clean toolchain
 
 all: build
 
@@ -106,6 +107,9 @@ bench: toolchain program
 	@test -e $(BENCH_DATA)/paragraphs.txt || bench/words $(BENCH_DATA)
 	bench/fields $(BENCH_DATA)
 	bench/suite $(BENCH_DATA)/suite
+
+engines: program
+	@PAWK=$${PAWK:-build/pawk} engines/run
 
 clean:
 	rm -rf build crates/*/out $(BENCH_DATA)

@@ -13,7 +13,7 @@ _pawk_answer() {
 }
 
 _pawk() {
-    local options='-F -v -f -j -c -w --whole -s -m --why --explain --check --show --globals --statistics -h --help -V --version --'
+    local options='-F -v -f -j -c -w --whole -s -m --why --explain --check --show --globals --statistics --map --shard --before --line --count --merge --show-table --shards -h --help -V --version --'
     local words=() word rest line=$COMP_LINE i files='' ended='' operands=0
 
     # bash parts words at = and colons, too: they are joined again.
@@ -40,8 +40,12 @@ _pawk() {
             files=yes
             i=$((i + 1))
             ;;
-        -f*) files=yes ;;
-        -[Fvjcswm]) i=$((i + 1)) ;;
+        -f* | --merge | --show-table) files=yes ;;
+        --shards)
+            files=yes
+            i=$((i + 1))
+            ;;
+        -[Fvjcswm] | --shard | --before) i=$((i + 1)) ;;
         - | [!-]*) operands=$((operands + 1)) ;;
         esac
     done

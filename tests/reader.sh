@@ -98,6 +98,13 @@ repeat() {
     text=$2 awk -v count="$1" 'BEGIN { for (at = 0; at < count; at++) printf "%s", ENVIRON["text"] }' </dev/null
 }
 
+# Writes these lines and the last line of a table, which has their digest, for a shell command that writes a part.
+sealed() {
+    printf '%s\n' "$@" >"$work/lines"
+    cat "$work/lines"
+    printf 'end 64:%s\n' "$(sha256sum <"$work/lines" | cut -d ' ' -f 1)"
+}
+
 # A part with key $1 and name $2, its bytes written by the shell command $3.
 part_of() {
     eval "$3" >"$work/part"

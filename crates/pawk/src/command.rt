@@ -1,11 +1,14 @@
 //! What the command does.
 
-use crate::command_line::{CommandLine, read_words};
+use crate::command_line::{CommandLine, Task, read_words};
 use crate::explanations::explain_stop;
 use crate::host::Host;
+use crate::merging::merge_tables;
 use crate::outlet::Outlet;
 use crate::reports::{End, RunFailure, UNWRITTEN, report_end, report_stop, report_words};
 use crate::script::read_script;
+use crate::shards::cut_file;
+use crate::table_listing::show_tables;
 use crate::whole::run_whole;
 use crate::words::unambiguous;
 use clap::Error;
@@ -33,7 +36,14 @@ where
     I: Read + Copy + Send + Drop + 'static,
     O: Write,
 {
-    let end = run_whole(rt, line, script.text(), explains, input, output)?;
+    let end = match line.task {
+        Task::Run | Task::Map(_) | Task::Count => {
+            run_whole(rt, line, script.text(), explains, input, output)?
+        }
+        Task::Merge => merge_tables(rt, line, input, output)?,
+        Task::ShowTables => show_tables(rt, line, input, output)?,
+        Task::Cut(count) => cut_file(rt, line, count, input, output)?,
+    };
     if output.flush().is_err() {
         return Err(RunFailure::from(UNWRITTEN));
     }

@@ -2,15 +2,17 @@
 
 ghost use Rattle.std.specs.Prelude.{◌<◌, ◌≤◌};
 
+use crate::base64_line::TableForm;
 use crate::host::Host;
 use crate::operands::Operands;
 use clap::error::ErrorKind;
 use clap::{Arg, ArgAction, ArgMatches, Command, Error, value_parser};
+use pawk_tables::Shard;
 use std::alloc::{AllocError, Global};
 use std::io::IsTerminal;
 
 /// The version that `--version` prints.
-const VERSION: &str = "1.3.3";
+const VERSION: &str = "1.4.0";
 
 /// What the program is, for `--help`.
 const ABOUT: &str = "awk in whole numbers, run over chunks of its input";
@@ -43,6 +45,8 @@ pub(crate) enum ProgramSource<'a> {
     Word(&'a str),
     /// In the files of these names, one after the other.
     Files(Vec<&'a str>),
+    /// In the tables that are merged, or nowhere, since none is run.
+    Elsewhere,
 }
 
 /// When causes are explained in words.
@@ -52,6 +56,33 @@ pub(crate) enum Explaining {
     Never,
     /// Where standard error is a terminal.
     OnTerminal,
+}
+
+/// Where a shard lies in the input, and how its table is written.
+#[derive(Clone, Copy)]
+pub(crate) struct ShardPlace {
+    /// Which shard of how many, where that is said.
+    pub(crate) shard: Option<Shard>,
+    /// How many records the shards before it have.
+    pub(crate) before: u64,
+    pub(crate) form: TableForm,
+}
+
+/// What is done with the program and the files.
+#[derive(Clone, Copy)]
+pub(crate) enum Task {
+    /// The program is run over them.
+    Run,
+    /// The program is run over them as a shard of an input, and its table is written.
+    Map(ShardPlace),
+    /// The records that it would read are counted.
+    Count,
+    /// They are tables of shards, which are merged.
+    Merge,
+    /// They are tables, and what they say is written in words.
+    ShowTables,
+    /// There is one file, which is cut in so many shards.
+    Cut(u64),
 }
 
 /// What is reported beside the output, and what is done in place of a run.
@@ -91,6 +122,7 @@ pub(crate) struct CommandLine<'a> {
     pub(crate) separator: Option<&'a str>,
     /// How many steps BEGIN, each record and END may take.
     pub(crate) steps: u64,
+    pub(crate) task: Task,
     /// The files, and what is assigned before, between and after them.
     pub(crate) operands: Operands<'a>,
     /// How many workers there are.
@@ -255,6 +287,66 @@ fn operands<'a>(alloc: Global) -> Arg<'a> {
         .num_args(0..)
 }
 
+fn shard<'a>(alloc: Global) -> Arg<'a> {
+    Arg::new(alloc, "shard")
+        .long("shard")
+        .value_name("number/of")
+        .help("Beside --map: which shard of how many the files are, as 3/40")
+}
+
+fn before<'a>(alloc: Global) -> Arg<'a> {
+    Arg::new(alloc, "before")
+        .long("before")
+        .value_name("records")
+        .help(
+            "Beside --map: how many records the shards before this one have, for a program that reads NR",
+        )
+        .value_parser(value_parser!(u64).range(0..=9_223_372_036_854_775_807))
+}
+
+fn shards<'a>(alloc: Global) -> Arg<'a> {
+    Arg::new(alloc, "shards")
+        .long("shards")
+        .value_name("count")
+        .help(
+            "Print where the file may be cut in this many shards, 1 to 1000000: the offset and the length of each in bytes",
+        )
+        .value_parser(value_parser!(u64).range(1..=1_000_000))
+}
+
+/// The options for runs over shards.
+fn with_shards<'a>(alloc: Global, command: Command<'a>) -> Result<Command<'a>, AllocError> {
+    command
+        .arg(flag(
+            alloc,
+            "map",
+            "Run the program over a shard of an input, and write its table",
+        ))?
+        .arg(shard(alloc))?
+        .arg(before(alloc))?
+        .arg(flag(
+            alloc,
+            "line",
+            "Beside --map: write the table as one line of base64",
+        ))?
+        .arg(flag(
+            alloc,
+            "count",
+            "Print how many records the program reads of the files, as --before wants it, and run no record",
+        ))?
+        .arg(flag(
+            alloc,
+            "merge",
+            "Merge the tables of all shards, which the operands name in order, and write what the run over all shards writes",
+        ))?
+        .arg(flag(
+            alloc,
+            "show-table",
+            "Print in words what the tables say that the operands name",
+        ))?
+        .arg(shards(alloc))
+}
+
 /// The options that report beside the output, or in its place.
 fn with_tools<'a>(alloc: Global, command: Command<'a>) -> Result<Command<'a>, AllocError> {
     command
@@ -303,7 +395,8 @@ fn definition<'a>(alloc: Global) -> Result<Command<'a>, AllocError> {
         ))?
         .arg(steps(alloc))?
         .arg(memory(alloc))?;
-    with_tools(alloc, command)?
+    let command = with_tools(alloc, command)?;
+    with_shards(alloc, command)?
         .arg(program(alloc))?
         .arg(operands(alloc))
 }
@@ -316,25 +409,98 @@ fn is_plain(matches: &ArgMatches<'_>, id: &str) -> bool {
     }
 }
 
+/// The number that digits alone spell, if it is at least 1.
+fn ordinal(text: &str) -> Option<u64> {
+    if !text.bytes().all(|byte| byte.is_ascii_digit()) {
+        return None;
+    }
+    match text.parse::<u64>() {
+        Ok(number) if number > 0 => Some(number),
+        _ => None,
+    }
+}
+
+/// The shard that `number/of` says.
+fn shard_of(text: &str) -> Option<Shard> {
+    let (number, of) = text.split_once('/')?;
+    let (number, of) = (ordinal(number)?, ordinal(of)?);
+    if number > of {
+        return None;
+    }
+    Some(Shard { number, of })
+}
+
+/// The run over a shard that is asked for; nothing where its number is no shard.
+fn map_task(matches: &ArgMatches<'_>) -> Option<Task> {
+    let shard = match matches.get_str("shard") {
+        Some(text) => Some(shard_of(text)?),
+        None => None,
+    };
+    let form = if matches.get_flag("line") {
+        TableForm::Line
+    } else {
+        TableForm::Bytes
+    };
+    Some(Task::Map(ShardPlace {
+        shard,
+        before: matches.get_one::<u64>("before").unwrap_or(0),
+        form,
+    }))
+}
+
+/// Whether there is an option that stands beside `--map` alone.
+fn describes_shard(matches: &ArgMatches<'_>) -> bool {
+    matches.get_flag("line")
+        || matches.get_str("shard").is_some()
+        || matches.get_one::<u64>("before").is_some()
+}
+
+/// What is to be done; nothing where options contradict each other.
+fn task_of(matches: &ArgMatches<'_>) -> Option<Task> {
+    let is_map = matches.get_flag("map");
+    if !is_map && describes_shard(matches) {
+        return None;
+    }
+    let (is_merge, is_count) = (matches.get_flag("merge"), matches.get_flag("count"));
+    let is_table_shown = matches.get_flag("show-table");
+    let shards = matches.get_one::<u64>("shards");
+    match (is_map, is_count, is_merge, is_table_shown, shards) {
+        (false, false, false, false, None) => Some(Task::Run),
+        (true, false, false, false, None) => map_task(matches),
+        (false, true, false, false, None) => Some(Task::Count),
+        (false, false, true, false, None) => Some(Task::Merge),
+        (false, false, false, true, None) => Some(Task::ShowTables),
+        (false, false, false, false, Some(count)) => Some(Task::Cut(count)),
+        _ => None,
+    }
+}
+
 /// Where the program's text is, if the words say.
 fn program_source<'a>(
     alloc: Global,
     matches: &ArgMatches<'a>,
+    task: Task,
 ) -> Result<Option<ProgramSource<'a>>, AllocError> {
+    if let Task::Merge | Task::ShowTables | Task::Cut(_) = task {
+        return Ok(Some(ProgramSource::Elsewhere));
+    }
     match matches.get_strs("program-file") {
         Some(names) => Ok(Some(ProgramSource::Files(Vec::from_slice(alloc, names)?))),
         None => Ok(matches.get_str("program").map(ProgramSource::Word)),
     }
 }
 
-/// The operands: all words that are no options where the program's text is in files, else those after the text.
+/// The operands: all words that are no options where the program's text is in files or in none, else those after the text.
 fn read_operands<'a>(
     alloc: Global,
     matches: &ArgMatches<'a>,
     program: &ProgramSource<'a>,
 ) -> Result<Operands<'a>, AllocError> {
     let mut words = Vec::new(alloc);
-    if let (ProgramSource::Files(_), Some(first)) = (program, matches.get_str("program")) {
+    if let (ProgramSource::Files(_) | ProgramSource::Elsewhere, Some(first)) = (
+        program,
+        matches.get_str("program"),
+    ) {
         words.push(first)?;
     }
     words.extend_from_slice(matches.get_strs("operand").unwrap_or(&[]))?;
@@ -343,9 +509,11 @@ fn read_operands<'a>(
 
 /// Whether the values of all options that are numbers are written in digits alone.
 fn are_plain(matches: &ArgMatches<'_>) -> bool {
-    ["workers", "chunk", "window", "steps", "memory"]
-        .iter()
-        .all(|id| is_plain(matches, *id))
+    [
+        "workers", "chunk", "window", "steps", "memory", "before", "shards",
+    ]
+    .iter()
+    .all(|id| is_plain(matches, *id))
 }
 
 /// What is reported of words at fault, or that memory was refused.
@@ -382,12 +550,14 @@ fn line_of<'a>(
     alloc: Global,
     matches: &ArgMatches<'a>,
     program: ProgramSource<'a>,
+    task: Task,
     host: Host,
 ) -> Result<CommandLine<'a>, AllocError> {
     let operands = read_operands(alloc, matches, &program)?;
     let assignments = Vec::from_slice(alloc, matches.get_strs("assignment").unwrap_or(&[]))?;
     Ok(CommandLine {
         program,
+        task,
         assignments,
         separator: matches.get_str("separator"),
         steps: matches.get_one::<u64>("steps").unwrap_or(STEPS),
@@ -413,8 +583,13 @@ fn read_by<'a>(
     host: Host,
 ) -> Result<CommandLine<'a>, Error> {
     let matches = command.try_get_matches_from_mut(words)?;
-    match program_source(alloc, &matches)? {
-        Some(program) if are_plain(&matches) => Ok(line_of(alloc, &matches, program, host)?),
+    let Some(task) = task_of(&matches) else {
+        let text =
+            "--map (with --shard number/of, --before, --line), --count, --merge, --show-table and --shards stand alone";
+        return Err(fault(command, ErrorKind::ValueValidation, text));
+    };
+    match program_source(alloc, &matches, task)? {
+        Some(program) if are_plain(&matches) => Ok(line_of(alloc, &matches, program, task, host)?),
         Some(_) => {
             let text = "a number is written in digits alone";
             Err(fault(command, ErrorKind::ValueValidation, text))

@@ -21,7 +21,8 @@ pub(crate) struct HeldInput<D> {
 
 /// Copies bytes from this place on, as many as there are and there is room for, and gives their count.
 pub(crate) fn copy_from(bytes: &[u8], place: usize, buffer: &mut [u8]) -> usize
-    ensures { result ≤ length buffer.new }
+    ensures room { result ≤ length buffer.new }
+    ensures given { result ≤ length bytes.now }
 {
     let rest = bytes.get(place..).unwrap_or(&[]);
     let count = rest.len().min(buffer.len());

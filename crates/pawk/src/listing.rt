@@ -7,14 +7,14 @@ use pawk_value::ValueRef;
 use std::alloc::AllocError;
 
 /// Appends a number in decimal digits.
-fn append_number<N: Integer>(lines: &mut Vec<u8>, number: N) -> Result<(), AllocError> {
+pub(crate) fn append_number<N: Integer>(lines: &mut Vec<u8>, number: N) -> Result<(), AllocError> {
     let mut digits = Buffer::new();
     lines.extend_from_slice(digits.format(number).as_bytes())
 }
 
 /// Appends a byte as it is written in a string: a quote and a backslash after a backslash, a printable
 /// byte itself, any other one by three octal digits.
-fn append_byte(lines: &mut Vec<u8>, byte: u8) -> Result<(), AllocError> {
+pub(crate) fn append_byte(lines: &mut Vec<u8>, byte: u8) -> Result<(), AllocError> {
     match byte {
         b'"' | b'\\' => lines.extend_from_slice(&[b'\\', byte]),
         b' '..=b'~' => lines.extend_from_slice(&[byte]),
@@ -28,7 +28,7 @@ fn append_byte(lines: &mut Vec<u8>, byte: u8) -> Result<(), AllocError> {
 /// Appends a text as a string of awk.
 ///
 /// POSIX.1-2017, awk, "Lexical Conventions" (STRING).
-fn append_string(lines: &mut Vec<u8>, text: &[u8]) -> Result<(), AllocError> {
+pub(crate) fn append_string(lines: &mut Vec<u8>, text: &[u8]) -> Result<(), AllocError> {
     lines.extend_from_slice(b"\"")?;
     for byte in text {
         append_byte(lines, *byte)?;

@@ -2,8 +2,10 @@
 #![tactic(auto)]
 
 mod ahead;
+mod base64_line;
 mod command;
 mod command_line;
+mod count;
 mod deep;
 mod device;
 mod explanations;
@@ -12,13 +14,18 @@ mod files;
 mod held;
 mod host;
 mod listing;
+mod map;
+mod merging;
 mod messages;
 mod operands;
 mod outlet;
 mod reports;
 mod script;
+mod shards;
 mod statistics;
 mod stripes;
+mod table_failure;
+mod table_listing;
 mod whole;
 mod words;
 

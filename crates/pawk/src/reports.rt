@@ -2,8 +2,10 @@
 
 use crate::outlet::Outlet;
 use crate::statistics::Statistics;
+use crate::table_failure::TableFailure;
 use clap::Error;
 use clap::error::ErrorKind;
+use pawk_admit::Reason;
 use pawk_explain::Script;
 use pawk_par::{SettingsRefusal, StreamRefusal, SyntaxRefusal};
 use pawk_threads::{Ending, Place, Route};
@@ -42,6 +44,12 @@ pub(crate) enum RunFailure<'a> {
     Refused(StreamRefusal),
     /// The file of this name could not be read, for this cause.
     Read(&'a str, ReadCause),
+    /// The records may not be run in chunks, for this reason, so there is no table of them.
+    NotAdmitted(Reason),
+    /// An operand after a file assigns, where a table is written.
+    LateAssignment,
+    /// The tables of shards are not merged.
+    Table(TableFailure<'a>),
 }
 
 impl<'a> From<StreamRefusal> for RunFailure<'a> {
@@ -91,6 +99,13 @@ pub(crate) fn report_stop<O: Write, E: Write>(
         RunFailure::Refused(StreamRefusal::Write(_)) if output.is_closed() => return Ok(CLOSED),
         RunFailure::Refused(refusal) => report_refusal(refusal, script, errors)?,
         RunFailure::Read(name, _) => report_unread(name, errors)?,
+        RunFailure::NotAdmitted(reason) => {
+            writeln!(errors, "pawk: not admitted {}", reason.number())?;
+        }
+        RunFailure::LateAssignment => {
+            errors.write_all(b"pawk: an assignment after a file has no place in a table\n")?;
+        }
+        RunFailure::Table(failure) => failure.report(errors)?,
     }
     Ok(2)
 }
@@ -203,6 +218,18 @@ pub(crate) struct End {
     pub(crate) lines: Vec<u8>,
     /// Figures, where they are asked for.
     pub(crate) statistics: Option<Statistics>,
+}
+
+impl End {
+    /// The end of what was done in place of a run.
+    pub(crate) fn of(alloc: Global, ending: Ending) -> End {
+        End {
+            ending,
+            route: None,
+            lines: Vec::new(alloc),
+            statistics: None,
+        }
+    }
 }
 
 /// Writes which way a run went, and ends the line.

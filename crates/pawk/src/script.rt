@@ -54,5 +54,6 @@ pub(crate) fn read_script<'a, R: Files + AllocGlobal, I: Read>(
             }
             Ok(script)
         }
+        ProgramSource::Elsewhere => Ok(Script::new(alloc)),
     }
 }

@@ -3,12 +3,14 @@
 ghost use Rattle.std.specs.Prelude.{◌<◌};
 ghost use Rattle.pawk_threads.specs.Task.{IsCrew};
 
-use crate::command_line::{CommandLine, Tools};
+use crate::command_line::{CommandLine, ShardPlace, Task, Tools};
+use crate::count::{Beginning, count_records};
 use crate::deep::Depth;
 use crate::explanations::{Remains, explain_end};
 use crate::feeds::{FeedSource, failure_of, hold_feeds, limit_of, open_feeds, traffic_of};
 use crate::held::HeldOutput;
 use crate::listing::append_globals;
+use crate::map::{ShardRun, run_shard};
 use crate::reports::{End, RunFailure, UNWRITTEN};
 use crate::statistics::{Moment, Statistics, Tally, Timed, Traffic};
 use pawk_feeds::{Feed, Flowed, Order, run_feeds};
@@ -285,12 +287,55 @@ fn check<O: Write>(
     {
         return Err(UNWRITTEN);
     }
-    Ok(End {
-        ending: Ending::Status(0),
-        route: None,
-        lines: Vec::new(alloc),
-        statistics: None,
-    })
+    Ok(End::of(alloc, Ending::Status(0)))
+}
+
+/// Runs what is ready over a shard, the files that are named or standard input, and writes its table.
+fn map_ready<'a, R, I, O>(
+    rt: &'a R,
+    line: &'a CommandLine<'a>,
+    ready: Ready<'_>,
+    text: &[u8],
+    place: ShardPlace,
+    input: I,
+    output: &mut O,
+) -> Result<End, RunFailure<'a>>
+where
+    R: Files<File = File> + AllocGlobal + Threads + Wait + Clock + Copy + Send + Drop + 'static,
+    I: Read + Copy + Send + Drop + 'static,
+    O: Write,
+{
+    let program = canonical(rt.alloc(), text)?;
+    let run = ShardRun {
+        job: ready.job,
+        program: program.as_slice(),
+        options: ready.options,
+        operands: ready.operands,
+        place,
+    };
+    run_shard(rt, line, run, input, output)
+}
+
+/// Writes how many records the files have that are named, or standard input, where what is ready reads them.
+fn count_ready<'a, R, I, O>(
+    rt: &'a R,
+    line: &'a CommandLine<'a>,
+    ready: Ready<'_>,
+    input: I,
+    output: &mut O,
+) -> Result<End, RunFailure<'a>>
+where
+    R: Files<File = File> + AllocGlobal + Threads + Wait + Clock + Copy + Send + Drop + 'static,
+    I: Read + Copy + Send + Drop + 'static,
+    O: Write,
+{
+    let mut feeds = open_input(rt, line, ready, input)?;
+    let beginning = Beginning {
+        job: ready.job,
+        options: ready.options,
+        first: line.operands.first(ready.operands),
+    };
+    count_records(rt.alloc(), line, beginning, feeds.as_mut_slice(), output)
 }
 
 /// Does with the program of a request what is asked for: reads it alone, or runs it over the files that are named, or where
@@ -320,17 +365,22 @@ where
     }
     let assigned = settings.assignments();
     let (options, operands) = assigned.split_at(line.option_count().min(assigned.len()));
+    let job = Job {
+        code: &code,
+        budget: request.budget,
+        seed: request.seed,
+    };
     let ready = Ready {
         wishes,
-        job: Job {
-            code: &code,
-            budget: request.budget,
-            seed: request.seed,
-        },
+        job,
         options,
         operands,
     };
-    run_ready(rt, line, ready, input, output)
+    match line.task {
+        Task::Map(place) => map_ready(rt, line, ready, request.text, place, input, output),
+        Task::Count => count_ready(rt, line, ready, input, output),
+        _ => run_ready(rt, line, ready, input, output),
+    }
 }
 
 /// Does with the program of this text what is asked for: reads it alone, or runs it over the files that are

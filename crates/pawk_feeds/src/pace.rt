@@ -6,12 +6,18 @@ use pawk_threads::Cutting;
 /// The least size of a chunk, in bytes, by which it is judged whether chunks are worth their merge.
 const LEAST_CHUNK: u64 = 262_144;
 
-/// Of how many elements chunks may note something for each four records. Where they note more, and also more than one for each
-/// `BYTES_FOR_ELEMENT` bytes, to merge what they noted, which one thread does, takes longer than the other threads save.
-const ELEMENTS_FOR_FOUR: u64 = 3;
+/// Of how many elements chunks may note something for each four records. Where they note more, about one for each record, its merge,
+/// which one thread does, costs as much as the record.
+const FEW_FOR_FOUR: u64 = 3;
 
-/// How many bytes chunks have to have for each element: a longer record, or one of many words, is more work than an element.
+/// From how many elements for each four records on a record is more work than their merge: it has several that are new.
+const MANY_FOR_FOUR: u64 = 6;
+
+/// How many bytes chunks have to have for each element: a longer record is more work than the merge of one.
 const BYTES_FOR_ELEMENT: u64 = 64;
+
+/// How many bytes chunks have to have for each element, however many there are for a record.
+const LEAST_BYTES_FOR_ELEMENT: u64 = 16;
 
 /// How many pieces are run one record after the other before chunks are tried again.
 const PIECES_IN_TURN: u32 = 15;
@@ -31,6 +37,13 @@ fn chunk_size(cutting: &Cutting) -> Option<u64> {
     }
 }
 
+/// Whether the merge of so many elements costs about as much as the records, of this size together, of which they were noted.
+fn is_dense(noted: u64, records: u64, bytes: u64) -> bool {
+    let for_four = noted.saturating_mul(4) / records.max(1);
+    let is_one_each = FEW_FOR_FOUR < for_four && for_four < MANY_FOR_FOUR;
+    (is_one_each && noted > bytes / BYTES_FOR_ELEMENT) || noted > bytes / LEAST_BYTES_FOR_ELEMENT
+}
+
 /// Whether the chunks of a piece, which were of about the size that the cutting asks for, noted too many elements for its
 /// records.
 fn notes_too_much(end: &PieceEnd, records: u64, cutting: &Cutting) -> bool {
@@ -41,8 +54,7 @@ fn notes_too_much(end: &PieceEnd, records: u64, cutting: &Cutting) -> bool {
     if size < LEAST_CHUNK || bytes / 2 < chunks.saturating_mul(size / 4) {
         return false;
     }
-    let noted = end.noted as u64;
-    noted / ELEMENTS_FOR_FOUR > records / 4 && noted > bytes / BYTES_FOR_ELEMENT
+    is_dense(end.noted as u64, records, bytes)
 }
 
 impl Pace {

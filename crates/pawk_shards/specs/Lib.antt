@@ -2,3 +2,4 @@ pub mod Apart
 pub mod Steps
 pub mod Numbers
 pub mod Joined
+pub mod Told

@@ -41,7 +41,7 @@ fn paragraphs_length(bytes: &[u8], known: usize) -> usize
 /// first `known` bytes; they are not looked at again, but for one.
 ///
 /// POSIX.1-2017, awk, "Variables and Special Variables" (RS).
-pub(crate) fn whole_length(bytes: &[u8], known: usize, separator: Separator) -> usize
+pub fn whole_length(bytes: &[u8], known: usize, separator: Separator) -> usize
     requires within { known ≤ length bytes.now }
     requires open { NoneEnds (rs_of separator) (take known bytes.now) }
     ensures cut { MayCut (rs_of separator) bytes.now result }

@@ -5,4 +5,5 @@ mod buffer;
 mod cut;
 mod window;
 
+pub use cut::whole_length;
 pub use window::{FillError, Window};

@@ -1,0 +1,10 @@
+pub mod ApartLemmas
+pub mod EndLemmas
+pub mod FileLemmas
+pub mod MapLemmas
+pub mod OrderLemmas
+pub mod PartLemmas
+pub mod RanLemmas
+pub mod SayLemmas
+pub mod StreamLemmas
+pub mod TellLemmas

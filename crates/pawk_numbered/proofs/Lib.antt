@@ -1,0 +1,4 @@
+pub mod Blind
+pub mod InExpressions
+pub mod InStatements
+pub mod InRecords

@@ -1,0 +1,7 @@
+pub mod LaterLemmas
+pub mod PartLemmas
+pub mod KeptLemmas
+pub mod TableLemmas
+pub mod RunLemmas
+pub mod RefusalLemmas
+pub mod WholeLemmas

@@ -1,0 +1,4 @@
+pub mod TableMerges
+pub mod Sections
+pub mod Later
+pub mod Runs
