@@ -13,8 +13,8 @@
 # With the Rattle kit (the command rt) too:
 #
 #   make             prove and build build/pawk, and keep in build/proved what was proved (release/gate)
-#   make prove       the whole gate, then `make test`, what the gate's programs do where memory is refused, chosen keys, the
-#                    scripts of the release, and the comparison of the proved object with the released one
+#   make prove       the whole gate, then `make test`, what the gate's programs do where memory is refused, chosen keys, runs
+#                    over shards, the scripts of the release, and the comparison of the proved object with the released one
 #   make release     make release/ of what the gate proved (release/README.md)
 #   make wrong       the wrong bodies that the gate leaves out (tests/wrong)
 #   make bench       compare build/pawk's user time with that of mawk and gawk, its elapsed time by workers, the times of
@@ -63,6 +63,7 @@ prove: toolchain
 	@$(MAKE) fetch
 	@$(MAKE) test
 	@tests/run pieces crates flood
+	@tests/shards quick
 	@tests/release
 	@release/compare
 
