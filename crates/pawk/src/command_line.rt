@@ -12,7 +12,7 @@ use std::alloc::{AllocError, Global};
 use std::io::IsTerminal;
 
 /// The version that `--version` prints.
-const VERSION: &str = "1.4.0";
+const VERSION: &str = "1.3.3";
 
 /// What the program is, for `--help`.
 const ABOUT: &str = "awk in whole numbers, run over chunks of its input";

@@ -1,5 +1,6 @@
 //! The tables of shards, merged.
 
+ghost use Rattle.std.specs.Prelude.{IfOk};
 ghost use Rattle.pawk_code.specs.ProgramViews.{code_view};
 ghost use Rattle.pawk_table_merge.specs.TableMerges.{IsMergeOf};
 
@@ -174,16 +175,14 @@ impl Sequence {
 
 /// How far tables of a program were merged.
 #[derive(Drop)]
-struct Progress<'p> {
-    job: Job<'p>,
+struct Progress {
     merging: Merging,
     /// How the records of the last table were left.
     left: Left,
     sequence: Sequence,
-    ghost of: { IsMergeOf (code_view job.code.now) merging },
 }
 
-impl<'p> Progress<'p> {
+impl Progress {
     /// Whether another table follows.
     fn goes_on(&self) -> bool {
         matches!(self.left, Left::Through)
@@ -192,13 +191,16 @@ impl<'p> Progress<'p> {
     /// The progress with the sections of the table of this name, which has this header.
     fn with<'a, O: Write>(
         self,
+        job: Job<'_>,
         name: &'a str,
         header: &ReadHeader<'_>,
         sections: &[u8],
         sink: &mut Writer<O>,
-    ) -> Result<Progress<'p>, RunFailure<'a>> {
+    ) -> Result<Progress, RunFailure<'a>>
+        requires of { IsMergeOf (code_view job.code.now) self.merging }
+        ensures of { IfOk result (λ p. IsMergeOf (code_view job.entry.code.now) p.merging) }
+    {
         let Progress {
-            job,
             merging,
             left: _,
             sequence,
@@ -220,7 +222,6 @@ impl<'p> Progress<'p> {
             }
         };
         Ok(Progress {
-            job,
             merging,
             left,
             sequence,
@@ -237,20 +238,22 @@ struct FirstTable<'a, 'b> {
 }
 
 /// Merges the first table and the others, which are read one after the other.
-fn merge_all<'a, 'p, R, I, O>(
+fn merge_all<'a, R, I, O>(
     rt: &R,
-    progress: Progress<'p>,
+    job: Job<'_>,
+    progress: Progress,
     first: FirstTable<'a, '_>,
     others: &[FileTurn<'a, '_>],
     input: &mut I,
     sink: &mut Writer<O>,
-) -> Result<Progress<'p>, RunFailure<'a>>
+) -> Result<Progress, RunFailure<'a>>
 where
     R: Files<File = File> + AllocGlobal,
     I: Read,
     O: Write,
+    requires of { IsMergeOf (code_view job.code.now) progress.merging }
 {
-    let mut progress = progress.with(first.name, first.header, first.sections, sink)?;
+    let mut progress = progress.with(job, first.name, first.header, first.sections, sink)?;
     for turn in others {
         if !progress.goes_on() {
             break;
@@ -260,7 +263,7 @@ where
         if let Some(difference) = difference(first.header, &header) {
             return Err(RunFailure::Table(TableFailure::Differs(turn.name, difference)));
         }
-        progress = progress.with(turn.name, &header, sections, sink)?;
+        progress = progress.with(job, turn.name, &header, sections, sink)?;
     }
     match progress.sequence.lack() {
         Some(failure) if progress.goes_on() => Err(RunFailure::Table(failure)),
@@ -295,12 +298,11 @@ where
         Err(refusal) => return Err(failure_of(first.name, refusal)),
     };
     let progress = Progress {
-        job,
         merging,
         left: Left::Through,
         sequence: Sequence { last: 0, of: None },
     };
-    let progress = merge_all(rt, progress, first, others, input, &mut sink)?;
+    let progress = merge_all(rt, job, progress, first, others, input, &mut sink)?;
     match end_merge(job, progress.merging, progress.left, &mut sink) {
         Ok(end) => Ok(End::of(alloc, end.ending)),
         Err(refusal) => Err(failure_of(first.name, refusal)),
