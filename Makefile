@@ -13,8 +13,9 @@
 # With the Rattle kit (the command rt) too:
 #
 #   make             prove and build build/pawk, and keep in build/proved what was proved (release/gate)
-#   make prove       the whole gate, then `make test`, what the gate's programs do where memory is refused, chosen keys, runs
-#                    over shards, the scripts of the release, and the comparison of the proved object with the released one
+#   make prove       the whole gate, then what `make test` tries, what the gate's programs do where memory is refused, chosen
+#                    keys, runs over shards, the scripts of the release, and the comparison of the proved object with the
+#                    released one
 #   make release     make release/ of what the gate proved (release/README.md)
 #   make wrong       the wrong bodies that the gate leaves out (tests/wrong)
 #   make bench       compare build/pawk's user time with that of mawk and gawk, its elapsed time by workers, the times of
@@ -26,9 +27,6 @@
 PREFIX = /usr/local
 BENCH_DATA = bench/files
 MAKEFLAGS += --no-print-directory
-# How many crates the gate proves side by side, each by one job: at most four, since one takes 1 to 4 GB. Without a number
-# `rt` gives several jobs to a crate that nothing else can be proved beside, and each job loads what is below once more.
-export RT_JOBS ?= $(shell jobs=$$(nproc); echo $$((jobs < 4 ? jobs : 4)))
 export CC
 
 .PHONY: all build fetch program demo test prove release static deb install uninstall wrong bench engines clean toolchain
@@ -61,11 +59,26 @@ test: program
 prove: toolchain
 	@release/gate always
 	@$(MAKE) fetch
-	@$(MAKE) test
-	@tests/run pieces crates flood
-	@tests/shards quick
-	@tests/release
+	@$(MAKE) --jobs="$$(nproc)" --output-sync=target $(BESIDE)
+	@tests/run devices flows threads flood
 	@release/compare
+
+# What `make prove` tries side by side: all that measures no time.
+BESIDE = beside-programs beside-memory beside-pieces beside-crates beside-shards beside-release
+.PHONY: $(BESIDE)
+
+beside-programs:
+	@tests/run rows programs tables bounds requests cookbook completions
+
+beside-memory beside-pieces beside-crates:
+	@tests/run $(@:beside-%=%)
+
+beside-shards:
+	@tests/shards quick
+
+# (it calls make itself)
+beside-release:
+	@env -u MAKEFLAGS -u MFLAGS tests/release
 
 release: toolchain
 	@release/make

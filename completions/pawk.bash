@@ -13,7 +13,7 @@ _pawk_answer() {
 }
 
 _pawk() {
-    local options='-F -v -f -j -c -w --whole -s -m --why --explain --check --show --globals --statistics --map --shard --before --line --count --merge --show-table --shards -h --help -V --version --'
+    local options='-F -v -f -j -c -w --whole -s -m --why --explain --check --show --globals --statistics --map --shard --before --line --count --merge --join --show-table --shards -h --help -V --version --'
     local words=() word rest line=$COMP_LINE i files='' ended='' operands=0
 
     # bash parts words at = and colons, too: they are joined again.
@@ -40,7 +40,7 @@ _pawk() {
             files=yes
             i=$((i + 1))
             ;;
-        -f* | --merge | --show-table) files=yes ;;
+        -f* | --merge | --join | --show-table) files=yes ;;
         --shards)
             files=yes
             i=$((i + 1))

@@ -1,17 +1,18 @@
 //! What the command does.
 
-use crate::command_line::{CommandLine, Task, read_words};
 use crate::explanations::explain_stop;
-use crate::host::Host;
+use crate::joining::join_tables;
 use crate::merging::merge_tables;
-use crate::outlet::Outlet;
-use crate::reports::{End, RunFailure, UNWRITTEN, report_end, report_stop, report_words};
-use crate::script::read_script;
 use crate::shards::cut_file;
-use crate::table_listing::show_tables;
 use crate::whole::run_whole;
-use crate::words::unambiguous;
 use clap::Error;
+use pawk_command::command_line::{CommandLine, Task, read_words};
+use pawk_command::host::Host;
+use pawk_command::outlet::Outlet;
+use pawk_command::reports::{End, RunFailure, UNWRITTEN, report_end, report_stop, report_words};
+use pawk_command::script::read_script;
+use pawk_command::table_listing::show_tables;
+use pawk_command::words::unambiguous;
 use pawk_explain::Script;
 use pawk_par::StreamRefusal;
 use std::alloc::{AllocError, Global};
@@ -41,6 +42,7 @@ where
             run_whole(rt, line, script.text(), explains, input, output)?
         }
         Task::Merge => merge_tables(rt, line, input, output)?,
+        Task::Join(form) => join_tables(rt, line, form, input, output)?,
         Task::ShowTables => show_tables(rt, line, input, output)?,
         Task::Cut(count) => cut_file(rt, line, count, input, output)?,
     };

@@ -2,16 +2,15 @@
 
 ghost use Rattle.std.specs.Prelude.{◌<◌};
 
-use crate::command_line::CommandLine;
 use crate::feeds::{FeedSource, failure_of, limit_of};
-use crate::reports::{End, RunFailure, UNWRITTEN};
 use crate::shards::separator_by;
+use pawk_command::command_line::CommandLine;
+use pawk_command::reports::{End, RunFailure, UNWRITTEN};
 use pawk_feeds::Feed;
 use pawk_flow::{Begun, begin_flow};
-use pawk_par::{Source, StreamRefusal};
+use pawk_par::{Ending, Job, Place, Source, StreamRefusal};
 use pawk_records::Separator;
 use pawk_settings::Assignment;
-use pawk_threads::{Ending, Job, Place};
 use pawk_window::{FillError, Window};
 use std::alloc::Global;
 use std::fs::File;

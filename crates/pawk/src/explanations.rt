@@ -1,19 +1,18 @@
 //! Explanations of how a run ended, where they are asked for.
 
-use crate::command_line::CommandLine;
-use crate::reports::{ReadCause, RunFailure};
 use crate::whole::{Pair, assignments};
+use pawk_command::command_line::CommandLine;
+use pawk_command::reports::{ReadCause, RunFailure};
 use pawk_explain::{
     Origin, RecordPlace, Script, explain_fault, explain_no_main, explain_parallel, explain_program,
     explain_reason, explain_redo, explain_setting,
 };
 use pawk_feeds::LastPiece;
 use pawk_input::{Blocks, Input, TooLarge};
-use pawk_par::StreamRefusal;
+use pawk_par::{Ending, Place, Route, StreamRefusal};
 use pawk_settings::{Settings, SettingsRefusal};
 use pawk_store::Specials;
 use pawk_syntax::{Program, parse};
-use pawk_threads::{Ending, Place, Route};
 use pawk_value::{Fault, Value};
 use std::alloc::{AllocError, Global};
 

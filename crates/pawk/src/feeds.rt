@@ -1,11 +1,11 @@
 //! The feeds of the input, and what comes of each.
 
-use crate::device::{Device, failure_by};
-use crate::held::HeldInput;
-use crate::operands::FileTurn;
-use crate::reports::RunFailure;
-use crate::script::STANDARD_INPUT;
-use crate::statistics::{Timed, Traffic};
+use pawk_command::device::{Device, failure_by};
+use pawk_command::held::HeldInput;
+use pawk_command::operands::FileTurn;
+use pawk_command::reports::RunFailure;
+use pawk_command::script::STANDARD_INPUT;
+use pawk_command::statistics::{Timed, Traffic};
 use pawk_feeds::Feed;
 use pawk_par::{Reader, StreamRefusal};
 use pawk_settings::Assignment;

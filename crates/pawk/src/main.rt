@@ -1,38 +1,23 @@
 //! `pawk`: awk in whole numbers, whose main rules run over chunks of the input.
 #![tactic(auto)]
 
-mod ahead;
-mod base64_line;
 mod command;
-mod command_line;
 mod count;
-mod deep;
-mod device;
 mod explanations;
 mod feeds;
-mod files;
-mod held;
-mod host;
-mod listing;
+mod joining;
 mod map;
 mod merging;
 mod messages;
-mod operands;
-mod outlet;
-mod reports;
-mod script;
+mod seed;
 mod shards;
-mod statistics;
-mod stripes;
-mod table_failure;
-mod table_listing;
 mod whole;
-mod words;
 
 use command::command;
-use deep::{Depth, do_in};
-use host::{Host, seed_of};
 use messages::Messages;
+use pawk_command::deep::{Depth, do_in};
+use pawk_command::host::Host;
+use seed::seed_of;
 use std::process::ExitCode;
 use std::{io, thread};
 

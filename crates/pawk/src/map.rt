@@ -1,14 +1,13 @@
 //! Runs over shards, whose tables are written.
 
-use crate::base64_line::TableWriter;
-use crate::command_line::{CommandLine, ShardPlace};
 use crate::feeds::{failure_of, limit_of, open_feeds};
-use crate::reports::{End, RunFailure, UNWRITTEN};
-use crate::statistics::Tally;
+use pawk_command::base64_line::TableWriter;
+use pawk_command::command_line::{CommandLine, ShardPlace};
+use pawk_command::reports::{End, RunFailure, UNWRITTEN};
+use pawk_command::statistics::Tally;
 use pawk_map::{MapOrder, MapRefusal, map_feeds};
-use pawk_par::{StreamRefusal, Writer};
+use pawk_par::{Ending, Job, StreamRefusal, Writer};
 use pawk_settings::Assignment;
-use pawk_threads::{Ending, Job};
 use std::fs::File;
 use std::io::{Read, Write};
 use std::rt::{Clock, Files};
@@ -30,7 +29,7 @@ pub(crate) struct ShardRun<'p> {
 }
 
 /// The refusal of a run over a shard as one of a run.
-fn refusal_of(refusal: MapRefusal) -> Result<StreamRefusal, RunFailure<'static>> {
+pub(crate) fn refusal_of(refusal: MapRefusal) -> Result<StreamRefusal, RunFailure<'static>> {
     match refusal {
         MapRefusal::Memory | MapRefusal::Damage => Ok(StreamRefusal::Memory),
         MapRefusal::Thread => Ok(StreamRefusal::Thread),

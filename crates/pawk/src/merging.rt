@@ -1,29 +1,29 @@
 //! The tables of shards, merged.
 
-ghost use Rattle.std.specs.Prelude.{IfOk};
+ghost use Rattle.std.specs.Prelude.{◌<◌, IfOk};
 ghost use Rattle.pawk_code.specs.ProgramViews.{code_view};
 ghost use Rattle.pawk_table_merge.specs.TableMerges.{IsMergeOf};
 
-use crate::base64_line::{begins_as_table, bytes_of_table};
-use crate::command_line::CommandLine;
-use crate::deep::Depth;
-use crate::files::{read_file, read_stream};
-use crate::operands::FileTurn;
-use crate::reports::{End, RunFailure, UNWRITTEN};
-use crate::script::STANDARD_INPUT;
-use crate::table_failure::{Difference, TableFailure};
-use pawk_code::program::Code;
-use pawk_par::{Cutting, Request, Seed, StreamRefusal, Writer, prepare};
-use pawk_settings::Assignment;
+use pawk_command::checked_table::CheckedTable;
+use pawk_command::coming_tables::read_ahead;
+use pawk_command::command_line::CommandLine;
+use pawk_command::deep::Depth;
+use pawk_command::first_table::{FirstTable, code_of, compare};
+use pawk_command::operands::FileTurn;
+use pawk_command::reports::{End, RunFailure, UNWRITTEN};
+use pawk_command::sequence::Sequence;
+use pawk_command::table_failure::{OrderCause, TableFailure};
+use pawk_par::{Job, Left, StreamRefusal, Writer};
 use pawk_table_merge::{
-    MergeOrder, MergeRefusal, MergeStart, Merging, TableEnd, begin_merge, end_merge, merge_table,
+    MergeOrder, MergeRefusal, MergeStart, Merging, StopCause, TableEnd, begin_merge, end_merge,
+    merge_table,
 };
-use pawk_tables::{ReadHeader, Shard, checked, read_header};
-use pawk_threads::{Job, Left};
-use std::alloc::Global;
+use pawk_tables::ReadHeader;
 use std::fs::File;
 use std::io::{Read, Write};
 use std::rt::Files;
+use std::sync::Wait;
+use std::thread::Threads;
 
 /// The refusal of a merge of the table of this name.
 pub(crate) fn failure_of<'a>(name: &'a str, refusal: MergeRefusal) -> RunFailure<'a> {
@@ -39,137 +39,12 @@ pub(crate) fn failure_of<'a>(name: &'a str, refusal: MergeRefusal) -> RunFailure
     }
 }
 
-/// The bytes of a file of this name.
-fn read_bytes<'a, R: Files<File = File> + AllocGlobal, I: Read>(
-    rt: &R,
-    name: &'a str,
-    input: &mut I,
-) -> Result<Vec<u8>, RunFailure<'a>> {
-    if name == STANDARD_INPUT {
-        return Ok(read_stream(rt.alloc(), input)?);
-    }
-    match read_file(rt, name) {
-        Ok(bytes) => Ok(bytes),
-        Err(error) => Err(RunFailure::read(name, &error)),
-    }
-}
-
-/// The bytes of the table of this name, which its file may have as one line of base64.
-pub(crate) fn read_table<'a, R: Files<File = File> + AllocGlobal, I: Read>(
-    rt: &R,
-    name: &'a str,
-    input: &mut I,
-) -> Result<Vec<u8>, RunFailure<'a>> {
-    Ok(bytes_of_table(rt.alloc(), read_bytes(rt, name, input)?)?)
-}
-
-/// What a table of this name begins with, and its sections.
-pub(crate) fn parted<'a, 'b>(
-    alloc: Global,
-    name: &'a str,
-    bytes: &'b [u8],
-) -> Result<(ReadHeader<'b>, &'b [u8]), RunFailure<'a>> {
-    if !begins_as_table(bytes) {
-        return Err(RunFailure::Table(TableFailure::NoTable(name)));
-    }
-    let body = match checked(bytes) {
-        Ok(body) => body,
-        Err(refusal) => return Err(failure_of(name, MergeRefusal::from(refusal))),
-    };
-    match read_header(alloc, body) {
-        Ok(parts) => Ok(parts),
-        Err(refusal) => Err(failure_of(name, MergeRefusal::from(refusal))),
-    }
-}
-
-/// The program of the table of this name, which has this header.
-pub(crate) fn code_of<'a>(
-    alloc: Global,
-    name: &'a str,
-    header: &ReadHeader<'_>,
-    seed: Seed,
-) -> Result<Code, RunFailure<'a>> {
-    let cutting = Cutting::AtLeast(1);
-    let request = Request {
-        text: header.program,
-        assigns: &[],
-        budget: header.budget,
-        cutting: &cutting,
-        workers: 1,
-        seed,
-    };
-    match prepare(alloc, &request) {
-        Ok((code, _)) => Ok(code),
-        Err(StreamRefusal::Memory) => Err(RunFailure::from(StreamRefusal::Memory)),
-        Err(_) => Err(RunFailure::Table(TableFailure::Damaged(name))),
-    }
-}
-
-/// Whether these are the same assignments.
-fn are_same(some: &[Assignment], others: &[Assignment]) -> bool {
-    some.len() == others.len()
-        && some.iter().zip(others.iter()).all(|(one, other)| {
-            one.name.as_slice() == other.name.as_slice()
-                && one.value.as_slice() == other.value.as_slice()
-        })
-}
-
-/// What the second of two tables says otherwise than the first, if anything.
-fn difference(first: &ReadHeader<'_>, header: &ReadHeader<'_>) -> Option<Difference> {
-    if first.program != header.program {
-        return Some(Difference::Program);
-    }
-    if !are_same(&first.assignments, &header.assignments)
-        || !are_same(&first.first, &header.first)
-    {
-        return Some(Difference::Assignments);
-    }
-    if first.budget != header.budget {
-        return Some(Difference::Budget);
-    }
-    None
-}
-
-/// Which shards have come.
-#[derive(Clone, Copy)]
-struct Sequence {
-    /// The number of the shard that came last; 0 before the first.
-    last: u64,
-    /// How many shards there are, where a table said so.
-    of: Option<u64>,
-}
-
-impl Sequence {
-    /// The shards with that of a table, or why it is not the next one.
-    fn with(self, shard: Option<Shard>) -> Result<Sequence, TableFailure<'static>> {
-        let next = self.last.saturating_add(1);
-        let Some(shard) = shard else {
-            return Ok(Sequence {
-                last: next,
-                of: self.of,
-            });
-        };
-        if shard.number == self.last {
-            return Err(TableFailure::Twice(shard.number));
-        }
-        if shard.number < self.last || self.of.is_some_and(|of| of != shard.of) {
-            return Err(TableFailure::OutOfOrder(shard.number));
-        }
-        if shard.number > next {
-            return Err(TableFailure::Missing(next));
-        }
-        Ok(Sequence {
-            last: shard.number,
-            of: Some(shard.of),
-        })
-    }
-
-    /// Why these are not all shards, if they are not.
-    fn lack(self) -> Option<TableFailure<'static>> {
-        match self.of {
-            Some(of) if self.last < of => Some(TableFailure::Missing(self.last.saturating_add(1))),
-            _ => None,
-        }
+/// What the records of a table do that has to be done in order.
+fn order_cause(cause: StopCause) -> OrderCause {
+    match cause {
+        StopCause::Sum => OrderCause::Sum,
+        StopCause::Fault(fault) => OrderCause::Fault(fault.name()),
+        StopCause::Element => OrderCause::Element,
     }
 }
 
@@ -217,8 +92,12 @@ impl Progress {
             TableEnd::Through => Left::Through,
             TableEnd::Ended(left) => left,
             TableEnd::Stopped(stop) => {
-                let shard = sequence.last;
-                return Err(RunFailure::Table(TableFailure::InOrder { name, shard, stop }));
+                return Err(RunFailure::Table(TableFailure::InOrder {
+                    name,
+                    shard: sequence.first(),
+                    record: stop.record,
+                    cause: order_cause(stop.cause),
+                }));
             }
         };
         Ok(Progress {
@@ -229,41 +108,58 @@ impl Progress {
     }
 }
 
-/// The first table.
-#[derive(Clone, Copy)]
-struct FirstTable<'a, 'b> {
-    name: &'a str,
-    header: &'b ReadHeader<'b>,
-    sections: &'b [u8],
-}
-
-/// Merges the first table and the others, which are read one after the other.
-fn merge_all<'a, R, I, O>(
+/// Merges some of the tables after the first one, which are read at once.
+fn merge_some<'a, R, I, O>(
     rt: &R,
     job: Job<'_>,
     progress: Progress,
     first: FirstTable<'a, '_>,
-    others: &[FileTurn<'a, '_>],
+    turns: &[FileTurn<'a, '_>],
     input: &mut I,
     sink: &mut Writer<O>,
 ) -> Result<Progress, RunFailure<'a>>
 where
-    R: Files<File = File> + AllocGlobal,
+    R: Files<File = File> + AllocGlobal + Threads + Wait,
+    I: Read,
+    O: Write,
+    requires of { IsMergeOf (code_view job.code.now) progress.merging }
+    ensures of { IfOk result (λ p. IsMergeOf (code_view job.entry.code.now) p.merging) }
+{
+    let mut progress = progress;
+    for (turn, table) in turns.iter().zip(read_ahead(rt, turns)?) {
+        if !progress.goes_on() {
+            break;
+        }
+        let table = table.take(rt, turn.name, input)?;
+        let (header, sections) = table.parted(rt.alloc(), turn.name)?;
+        compare(first.header, turn.name, &header)?;
+        progress = progress.with(job, turn.name, &header, sections, sink)?;
+    }
+    Ok(progress)
+}
+
+/// Merges the first table and the others, of which so many are read at once.
+fn merge_all<'a, R, I, O>(
+    rt: &R,
+    job: Job<'_>,
+    first: FirstTable<'a, '_>,
+    progress: Progress,
+    others: Others<'a, '_>,
+    input: &mut I,
+    sink: &mut Writer<O>,
+) -> Result<Progress, RunFailure<'a>>
+where
+    R: Files<File = File> + AllocGlobal + Threads + Wait,
     I: Read,
     O: Write,
     requires of { IsMergeOf (code_view job.code.now) progress.merging }
 {
     let mut progress = progress.with(job, first.name, first.header, first.sections, sink)?;
-    for turn in others {
+    for turns in others.turns.chunks(others.readers) {
         if !progress.goes_on() {
             break;
         }
-        let bytes = read_table(rt, turn.name, input)?;
-        let (header, sections) = parted(rt.alloc(), turn.name, bytes.as_slice())?;
-        if let Some(difference) = difference(first.header, &header) {
-            return Err(RunFailure::Table(TableFailure::Differs(turn.name, difference)));
-        }
-        progress = progress.with(job, turn.name, &header, sections, sink)?;
+        progress = merge_some(rt, job, progress, first, turns, input, sink)?;
     }
     match progress.sequence.lack() {
         Some(failure) if progress.goes_on() => Err(RunFailure::Table(failure)),
@@ -271,17 +167,26 @@ where
     }
 }
 
+/// The tables after the first one.
+#[derive(Clone, Copy)]
+struct Others<'a, 't> {
+    turns: &'t [FileTurn<'a, 't>],
+    /// How many are read at once at most.
+    readers: usize,
+    ghost some: { 0 < readers },
+}
+
 /// Merges tables of which the first one is this, and writes what the run over all shards writes.
 fn merge_from<'a, R, I, O>(
     rt: &R,
     job: Job<'_>,
     first: FirstTable<'a, '_>,
-    others: &[FileTurn<'a, '_>],
+    others: Others<'a, '_>,
     input: &mut I,
     output: &mut O,
 ) -> Result<End, RunFailure<'a>>
 where
-    R: Files<File = File> + AllocGlobal,
+    R: Files<File = File> + AllocGlobal + Threads + Wait,
     I: Read,
     O: Write,
 {
@@ -300,9 +205,9 @@ where
     let progress = Progress {
         merging,
         left: Left::Through,
-        sequence: Sequence { last: 0, of: None },
+        sequence: Sequence::NONE,
     };
-    let progress = merge_all(rt, job, progress, first, others, input, &mut sink)?;
+    let progress = merge_all(rt, job, first, progress, others, input, &mut sink)?;
     match end_merge(job, progress.merging, progress.left, &mut sink) {
         Ok(end) => Ok(End::of(alloc, end.ending)),
         Err(refusal) => Err(failure_of(first.name, refusal)),
@@ -317,7 +222,7 @@ pub(crate) fn merge_tables<'a, R, I, O>(
     output: &mut O,
 ) -> Result<End, RunFailure<'a>>
 where
-    R: Files<File = File> + AllocGlobal,
+    R: Files<File = File> + AllocGlobal + Threads + Wait,
     I: Read + Drop,
     O: Write,
 {
@@ -330,8 +235,8 @@ where
     let Some((turn, others)) = turns.as_slice().split_first() else {
         return Err(RunFailure::Table(TableFailure::Missing(1)));
     };
-    let bytes = read_table(rt, turn.name, &mut input)?;
-    let (header, sections) = parted(alloc, turn.name, bytes.as_slice())?;
+    let table = CheckedTable::read(rt, turn.name, &mut input)?;
+    let (header, sections) = table.parted(alloc, turn.name)?;
     let code = code_of(alloc, turn.name, &header, line.host.seed)?;
     if line.host.depth == Depth::Flat && !code.functions.is_empty() {
         return Err(RunFailure::from(StreamRefusal::Thread));
@@ -345,6 +250,10 @@ where
         name: turn.name,
         header: &header,
         sections,
+    };
+    let others = Others {
+        turns: others,
+        readers: usize::from(line.workers),
     };
     merge_from(rt, job, first, others, &mut input, output)
 }

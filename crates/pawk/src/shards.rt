@@ -2,12 +2,11 @@
 
 ghost use Rattle.std.specs.Prelude.{◌<◌};
 
-use crate::command_line::CommandLine;
 use crate::feeds::{failure_of, limit_of, open_feeds};
-use crate::reports::{End, RunFailure, UNWRITTEN};
-use pawk_par::{Source, StreamRefusal};
+use pawk_command::command_line::CommandLine;
+use pawk_command::reports::{End, RunFailure, UNWRITTEN};
+use pawk_par::{Ending, Source, StreamRefusal};
 use pawk_records::Separator;
-use pawk_threads::Ending;
 use pawk_window::{FillError, Window};
 use std::alloc::{AllocError, Global};
 use std::fs::File;

@@ -1,24 +1,23 @@
 //! Whole runs: from a program's text to its output.
 
 ghost use Rattle.std.specs.Prelude.{◌<◌};
-ghost use Rattle.pawk_threads.specs.Task.{IsCrew};
+ghost use Rattle.pawk_routes.specs.Limits.{IsCrew};
 
-use crate::command_line::{CommandLine, ShardPlace, Task, Tools};
 use crate::count::{Beginning, count_records};
-use crate::deep::Depth;
 use crate::explanations::{Remains, explain_end};
 use crate::feeds::{FeedSource, failure_of, hold_feeds, limit_of, open_feeds, traffic_of};
-use crate::held::HeldOutput;
-use crate::listing::append_globals;
 use crate::map::{ShardRun, run_shard};
-use crate::reports::{End, RunFailure, UNWRITTEN};
-use crate::statistics::{Moment, Statistics, Tally, Timed, Traffic};
+use pawk_command::command_line::{CommandLine, ShardPlace, Task, Tools};
+use pawk_command::deep::Depth;
+use pawk_command::held::HeldOutput;
+use pawk_command::listing::append_globals;
+use pawk_command::reports::{End, RunFailure, UNWRITTEN};
+use pawk_command::statistics::{Moment, Statistics, Tally, Timed, Traffic};
 use pawk_feeds::{Feed, Flowed, Order, run_feeds};
-use pawk_par::{Request, SettingsRefusal, StreamRefusal, Writer, prepare};
+use pawk_par::{Cutting, Ending, Job, Request, SettingsRefusal, StreamRefusal, Writer, prepare};
 use pawk_settings::Assignment;
 use pawk_store::Names;
 use pawk_syntax::{SyntaxRefusal, parse, show};
-use pawk_threads::{Cutting, Ending, Job};
 use std::alloc::{AllocError, Global};
 use std::fs::File;
 use std::io::{Read, Write};
@@ -240,8 +239,9 @@ where
     let start = Moment::now(rt);
     let mut feeds = open_input(rt, line, ready, input)?;
     let feeds = feeds.as_mut_slice();
-    let window = line.window_for(limit_of(feeds));
-    let is_held = hold_feeds(alloc, feeds, line.held_for(window))?;
+    let size = limit_of(feeds);
+    let is_held = hold_feeds(alloc, feeds, line.held_for(line.window_for(size)))?;
+    let window = line.run_window_for(size, ready.job.code.expressions.len());
     let order = Order {
         job: ready.job,
         assignments: ready.options,

@@ -1,22 +1,14 @@
 -- What occurs in the text of a program that decides whether its records may run in chunks: what is done with global
 -- names, calls of functions and of `match`, ranges of records, `nextfile`. Parameters and fields are free.
 use Rattle.std.specs.Prelude.{ℕ, List, [], ◌∷◌, ◌++◌, Option, Some, None, slice_get}
-use Rattle.pawk_scalar.specs.declared.arithmetic.Op.{Op}
-use Rattle.pawk_scalar.specs.declared.arithmetic.Op.TheVariants as op
+use Rattle.pawk_value.specs.declared.arithmetic.Op.{Op}
+use Rattle.pawk_value.specs.declared.arithmetic.Op.TheVariants as op
 use Rattle.pawk_code.specs.declared.name.Array.{Array}
 use Rattle.pawk_code.specs.declared.name.Array.TheVariants as array
 use Rattle.pawk_code.specs.declared.name.Variable.{Variable}
 use Rattle.pawk_code.specs.declared.name.Variable.TheVariants as variable
-use Rattle.pawk_code.specs.Expressions.{Leaf, number, text, global, local, special, field}
-use Rattle.pawk_code.specs.Expressions.{Expr, leaf, numeric, test, textual, read, choice, assign, call, Exprs, none, more}
-use Rattle.pawk_code.specs.Expressions.{Place, to_global, to_local, to_element, to_field, Numeric, arithmetic, signed, change, step}
-use Rattle.pawk_code.specs.Expressions.{function, split, replace, find, NumericFunction, length_of, index_of, whole, Test, compare}
-use Rattle.pawk_code.specs.Expressions.{both, either, negation, matches, member, Textual, join, suffix, substring, letters, formatted}
-use Rattle.pawk_code.specs.Expressions.{Pattern, fixed_pattern, spelled_by, FieldsBy, by_fs, by_fixed, by_value, Format, fixed_format}
-use Rattle.pawk_code.specs.Expressions.{format_of, Argument, pass, pass_array, Arguments, no_arguments, more_arguments}
-use Rattle.pawk_code.specs.Statements.{Simple, drop, set, add, count, print, printf, delete, clear, Leave, break, continue, next_record}
-use Rattle.pawk_code.specs.Statements.{next_file, exit, return, Head, Stmt, simple, leave, when, choose, repeat, do_while, loop, walk}
-use Rattle.pawk_code.specs.Statements.{Stmts, done, next}
+use Rattle.pawk_code.specs.Expressions.{Leaf, number, text, global, local, special, field, Expr, leaf, numeric, test, textual, read, choice, assign, call, Exprs, none, more, Place, to_global, to_local, to_element, to_field, Numeric, arithmetic, signed, change, step, function, split, replace, find, NumericFunction, length_of, index_of, whole, Test, compare, both, either, negation, matches, member, Textual, join, suffix, substring, letters, formatted, Pattern, fixed_pattern, spelled_by, FieldsBy, by_fs, by_fixed, by_value, Format, fixed_format, format_of, Argument, pass, pass_array, Arguments, no_arguments, more_arguments}
+use Rattle.pawk_code.specs.Statements.{Simple, drop, set, add, count, print, printf, delete, clear, Leave, break, continue, next_record, next_file, exit, return, Head, Stmt, simple, leave, when, choose, repeat, do_while, loop, walk, Stmts, done, next}
 use Rattle.pawk_code.specs.Programs.{Selector, always, matching, between, Rule, Function}
 use Rattle.pawk_admit.specs.declared.occurrence.Touch.{Touch}
 use Rattle.pawk_admit.specs.declared.occurrence.Touch.TheVariants as touch

@@ -11,7 +11,7 @@ use pawk_code::expression::{
 };
 use pawk_code::leaf::Leaf;
 use pawk_code::name::{Array, Variable};
-use pawk_scalar::Op;
+use pawk_value::Op;
 use std::alloc::AllocError;
 
 /// Adds a global scalar, of which this is done.

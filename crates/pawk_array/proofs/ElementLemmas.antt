@@ -9,7 +9,7 @@ use Rattle.std.specs.FinMap.Entries.{below_all}
 use Rattle.std.proofs.lemmas.List.{length-map, get_or-map, map-append, take_more}
 use Rattle.std.proofs.lemmas.Slice.Eq.{bytes_eq-Decides}
 use Rattle.pawk_value.specs.Value.{Val, lent_value}
-use Rattle.pawk_scalar.specs.declared.values.ValueRef.{ValueRef}
+use Rattle.pawk_value.specs.declared.values.ValueRef.{ValueRef}
 use Rattle.pawk_array.specs.declared.array.Element.{Element}
 use Rattle.pawk_array.specs.declared.headed.Headed.{Headed}
 use Rattle.pawk_array.specs.Elements.{element_of}

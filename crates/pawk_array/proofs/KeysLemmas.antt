@@ -17,7 +17,7 @@ use Rattle.std.proofs.Math.Seq.{drop-append_seam, take-length}
 use Rattle.std.proofs.lemmas.Map.Keys.{sorted_from_all_adjacent, apart_from_distinct, IsDistinct-IsPermutation}
 use Rattle.std.proofs.lemmas.Slice.Eq.{bytes_eq-Decides}
 use Rattle.pawk_value.specs.Value.{shown}
-use Rattle.pawk_scalar.specs.declared.values.Value.{Value}
+use Rattle.pawk_value.specs.declared.values.Value.{Value}
 use Rattle.pawk_keyed_map.specs.declared.key.Key.{Key}
 use Rattle.pawk_array.specs.Entries.{Entries, Rise, order, keys}
 use Rattle.pawk_array.specs.declared.headed.Headed.{Headed}

@@ -7,8 +7,8 @@ use Rattle.std.specs.Fmt.{decimal}
 use Rattle.std.proofs.lemmas.Bool.{and_parts}
 use Rattle.std.proofs.lemmas.Str.Parse.{IsNumeralModel, numerals_by_fold}
 use Rattle.std.proofs.lemmas.Fmt.{digits_decimal, digits_value-decimal}
-use Rattle.pawk_scalar.specs.Bytes.{is_digit}
-use Rattle.pawk_scalar.specs.Numeral.{digits_value}
+use Rattle.pawk_value.specs.Bytes.{is_digit}
+use Rattle.pawk_value.specs.Numeral.{digits_value}
 
 own : IsNumeralModel (λ ds. all_ascii_digits ds ≡ true) digits_value
 own = numerals_by_fold _ (search rules) (λ n ds. fold (λ m c. 10 * m + (c - 48)) n ds) (search rules)

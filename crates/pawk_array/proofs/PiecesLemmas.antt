@@ -10,7 +10,7 @@ use Rattle.std.proofs.lemmas.Bool.{cases_eq}
 use Rattle.std.proofs.lemmas.List.{get_or_append_left, length-append}
 use Rattle.std.proofs.Math.Seq.{get_or-append_seam}
 use Rattle.pawk_value.specs.Value.{Val, Maybe, shown}
-use Rattle.pawk_scalar.specs.declared.values.Value.{Value}
+use Rattle.pawk_value.specs.declared.values.Value.{Value}
 use Rattle.pawk_keyed_map.specs.declared.key.Key.{Key}
 use Rattle.pawk_array.specs.Entries.{Entries, Rise, found, put, with_pieces}
 use Rattle.pawk_array.specs.Pieces.{with_texts, AreNumbers, AreApart}

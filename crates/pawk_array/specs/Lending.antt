@@ -3,8 +3,8 @@ use Rattle.std.specs.Prelude.{◌≡◌, ⊤, ℕ, List, Result, MatchResult}
 use Rattle.std.specs.Borrow.{Fml, MutBor, LendsIfOk, follows_so}
 use mathlib.Core.Option.{none}
 use Rattle.pawk_value.specs.Value.{shown}
-use Rattle.pawk_scalar.specs.declared.values.Value.{Value}
-use Rattle.pawk_scalar.specs.contracts.values.Value as values
+use Rattle.pawk_value.specs.declared.values.Value.{Value}
+use Rattle.pawk_value.specs.contracts.values.Value as values
 use Rattle.pawk_array.specs.contracts.array.AssociativeArray.{the_row}
 use Rattle.pawk_array.specs.Entries.{Entries, put, touched}
 

@@ -3,16 +3,16 @@ use Rattle.std.proofs.Common.{◌≡◌, ℕ, List, Result, Ok, Err}
 use Rattle.std.specs.Coded.{codes}
 use Rattle.std.proofs.Math.Logic.{∥∥₁_elim}
 use base.Stored.{Coded-set}
-use Rattle.pawk_scalar.specs.declared.faults.Fault.{Fault}
-use Rattle.pawk_scalar.specs.contracts.faults.Fault as fault_type
-use Rattle.pawk_scalar.specs.declared.faults.Stop.{Stop}
-use Rattle.pawk_scalar.specs.declared.faults.Stop.TheVariants as stop
-use Rattle.pawk_scalar.specs.Value.{Val}
-use Rattle.pawk_format.specs.declared.template.Template.{Template}
-use Rattle.pawk_format.specs.Format.{pieces_of}
-use Rattle.pawk_format.specs.FormatViews.{Writes}
-use Rattle.pawk_format.specs.TemplateViews.{IsTemplateOf}
-use Rattle.pawk_semantics.specs.Builtins.{formatted_text}
+use Rattle.pawk_value.specs.declared.faults.Fault.{Fault}
+use Rattle.pawk_value.specs.contracts.faults.Fault as fault_type
+use Rattle.pawk_value.specs.declared.faults.Stop.{Stop}
+use Rattle.pawk_value.specs.declared.faults.Stop.TheVariants as stop
+use Rattle.pawk_value.specs.Value.{Val}
+use Rattle.pawk_value.specs.declared.template.Template.{Template}
+use Rattle.pawk_value.specs.Format.{pieces_of}
+use Rattle.pawk_value.specs.FormatViews.{Writes}
+use Rattle.pawk_value.specs.TemplateViews.{IsTemplateOf}
+use Rattle.pawk_store.specs.Builtins.{formatted_text}
 use Rattle.pawk_builtins.specs.Settles.{Settles}
 
 texts_prop : (x y : Result (List ℕ) Fault) → IsProp (x ≡ y)

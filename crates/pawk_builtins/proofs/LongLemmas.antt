@@ -1,7 +1,7 @@
 -- Texts that are longer than a text may be.
 use Rattle.std.proofs.Common.{◌≡◌, ◌∙◌, Ok, ℕ, ◌<◌, ◌≤◌, List, [], ◌++◌, length, sym, ap, subst, arith, length-append, append-nil, inl, inr}
 use Rattle.pawk_value.specs.Limits.{length_limit}
-use Rattle.pawk_semantics.specs.Builtins.{Replaced}
+use Rattle.pawk_store.specs.Builtins.{Replaced}
 use Rattle.pawk_builtins.specs.Replaces.{IsOrBothTooLong, Left}
 
 -- what is too long is so with more after it

@@ -7,15 +7,15 @@ use Rattle.pawk_ere_automaton.specs.Regex.{Regex}
 use Rattle.pawk_ere_automaton.proofs.Shift.{forward, within}
 use Rattle.pawk_ere_automaton.proofs.Turns.{expand_if}
 use Rattle.pawk_ere.specs.Caches.{IsAnswerOfText}
-use Rattle.pawk_value.specs.Fault.{Fault}
-use Rattle.pawk_value.specs.Fault.TheVariants as faults
-use Rattle.pawk_scalar.specs.declared.faults.Stop.{Stop}
-use Rattle.pawk_scalar.specs.declared.faults.Stop.TheVariants as stop
+use Rattle.pawk_value.specs.declared.faults.Fault.{Fault}
+use Rattle.pawk_value.specs.declared.faults.Fault.TheVariants as faults
+use Rattle.pawk_value.specs.declared.faults.Stop.{Stop}
+use Rattle.pawk_value.specs.declared.faults.Stop.TheVariants as stop
 use Rattle.pawk_fields.specs.FieldsOf.{TellsNone}
 use Rattle.pawk_fields.specs.Search.{find, first_match, longest_end, match_or}
 use Rattle.pawk_fields.proofs.SearchLemmas.{find_law_lem}
 use Rattle.pawk_fields.proofs.ReadLemmas.{read_law_lem}
-use Rattle.pawk_semantics.specs.Builtins.{pattern_of_text, pattern_or_fault, found_by, replaced_by}
+use Rattle.pawk_store.specs.Builtins.{pattern_of_text, pattern_or_fault, found_by, replaced_by}
 use Rattle.pawk_code.specs.declared.word.ReplacedMatches.{ReplacedMatches}
 use Rattle.pawk_builtins.specs.MatcherViews.{IsReplaced, SaysWhetherMatches, matched_by}
 use Rattle.pawk_builtins.specs.Replaces.{Left, Replaces}

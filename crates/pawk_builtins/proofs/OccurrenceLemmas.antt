@@ -4,7 +4,7 @@ use Rattle.std.proofs.lemmas.Bool.{cases_lt, cond-true, cond-false, and_parts, a
 use Rattle.memchr.specs.Find.{Nowhere, OccursAt, Passes, is_byte}
 use Rattle.std.specs.Prelude.{slice_index}
 use Rattle.std.proofs.lemmas.List.{get_or-drop}
-use Rattle.pawk_semantics.specs.Builtins.{begins_with, index_from, index}
+use Rattle.pawk_store.specs.Builtins.{begins_with, index_from, index}
 
 byte_at : (s t : List ℕ) (k j n : ℕ) → OccursAt s t k → n ≡ k + j → j < length t → get_or s n 0 ≡ get_or t j 0
 byte_at s t k j n at e below = ap (λ m. get_or s m 0) e ∙ at.reads j below

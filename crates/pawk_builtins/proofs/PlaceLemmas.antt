@@ -3,7 +3,7 @@ use Rattle.std.proofs.Common.{◌≡◌, ℕ, zero, suc, ◌+◌, ◌-◌, ◌<�
 use Rattle.std.specs.Prelude.{int_le, int_lt}
 use Rattle.std.proofs.lemmas.Bool.{cases_lt, cond-true, cond-false, and_left, and_right, and_from, lt-leb, le-leb, lt-ltb, le-ltb}
 use Rattle.std.proofs.lemmas.List.{take_all}
-use Rattle.pawk_semantics.specs.Builtins.{bytes_where, is_from}
+use Rattle.pawk_store.specs.Builtins.{bytes_where, is_from}
 use Rattle.pawk_builtins.specs.PlaceViews.{before}
 
 drop_nil : (n : ℕ) → drop {A = ℕ} n [] ≡ []

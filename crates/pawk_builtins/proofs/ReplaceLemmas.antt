@@ -11,7 +11,7 @@ use Rattle.pawk_ere_automaton.specs.Regex.{Regex}
 use Rattle.pawk_ere_automaton.specs.Table.{ends_with}
 use Rattle.pawk_fields.specs.Search.{find, first_match, last_end, longest_end, match_or}
 use Rattle.pawk_fields.proofs.SearchLemmas.{cons_at, nil_at, find_law_lem}
-use Rattle.pawk_semantics.specs.Builtins.{Replaced, replaced, replaced_at, replacement, replace_from, replace_here, replace_end, onto, one_more}
+use Rattle.pawk_store.specs.Builtins.{Replaced, replaced, replaced_at, replacement, replace_from, replace_here, replace_end, onto, one_more}
 use Rattle.pawk_builtins.specs.ReplaceWalks.{replaced_after, from_after, is_past, match_replaced, found_replaced, is_used, IsAhead, IsNextReplaced, IsLaidOut}
 use Rattle.pawk_builtins.specs.Replaces.{IsOrBothTooLong, Left}
 use Rattle.pawk_builtins.proofs.LongLemmas.{ended}

@@ -2,7 +2,7 @@
 use Rattle.std.proofs.Common.{◌≡◌, ℕ, suc, ◌<◌, true, ◌&&◌, ◌||◌, cond, eqb, List, [], ◌∷◌, ◌++◌, length, get_or, refl, ap, ◌∙◌, arith}
 use Rattle.std.proofs.lemmas.Bool.{cond-false, or_parts, and_left, false_from_ne_true}
 use Rattle.memchr.specs.Find.{is_byte2}
-use Rattle.pawk_semantics.specs.Builtins.{replacement}
+use Rattle.pawk_store.specs.Builtins.{replacement}
 
 abbrev Plain : List ℕ → Type 0
 Plain r = (k : ℕ) → k < length r → is_byte2 38 92 (get_or r k 0) ≡ true → ⊥

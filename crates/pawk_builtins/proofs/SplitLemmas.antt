@@ -2,8 +2,8 @@
 use Rattle.std.proofs.Common.{◌≡◌, ℕ, zero, suc, ◌+◌, ◌<◌, ◌≤◌, arith, Bool, true, false, cond, ltb, Option, Some, None, Result, Ok, Err, List, [], ◌∷◌, ◌++◌, length, map, drop, slice_range, IfOk, IfErr, Vec, Global, refl, sym, ap, ◌∙◌, subst, inl, ⊎_elim}
 use Rattle.std.specs.declared.ops.Range.{Range}
 use Rattle.std.proofs.lemmas.Bool.{cases_lt, ltb-true, ltb-false}
-use Rattle.pawk_scalar.specs.declared.faults.Stop.{Stop}
-use Rattle.pawk_scalar.specs.declared.faults.Stop.TheVariants as stop
+use Rattle.pawk_value.specs.declared.faults.Stop.{Stop}
+use Rattle.pawk_value.specs.declared.faults.Stop.TheVariants as stop
 use Rattle.pawk_ere_syntax.specs.Pattern.{Pattern, StartsNone, IsLongest}
 use Rattle.pawk_ere_syntax.specs.Tokens.{SpellsEre}
 use Rattle.pawk_ere_automaton.specs.Expand.{expand}
@@ -19,7 +19,7 @@ use Rattle.pawk_fields.specs.Search.{longest_end}
 use Rattle.pawk_fields.specs.FieldList.{end_beyond, separator_end, cut_or_on, fields_after}
 use Rattle.pawk_fields.proofs.SearchLemmas.{IsCons, cons_at, nil_at, IsLongestOrNone, longest_end_is}
 use Rattle.pawk_fields.proofs.FieldLemmas.{fields_law_lem}
-use Rattle.pawk_semantics.specs.Builtins.{pattern_of_text, pieces_at, pieces_by, pieces_between}
+use Rattle.pawk_store.specs.Builtins.{pattern_of_text, pieces_at, pieces_by, pieces_between}
 use Rattle.pawk_builtins.proofs.MatchLemmas.{spells_is, none_is}
 use Rattle.pawk_builtins.specs.MatcherViews.{AreInside, AreBetweenMatches}
 use Rattle.pawk_builtins.specs.Pieces.{pieces_in}

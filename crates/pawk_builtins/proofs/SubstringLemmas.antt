@@ -2,7 +2,7 @@
 use Rattle.std.proofs.Common.{◌≡◌, ℕ, suc, ◌+◌, ◌<◌, ◌≤◌, Bool, true, false, leb, ltb, ◌&&◌, ℤ, pos, ◌+ℤ◌, List, [], ◌∷◌, ◌++◌, length, refl, sym, ap, subst, ◌∙◌, arith, append-nil}
 use Rattle.std.specs.Prelude.{int_le, int_lt}
 use Rattle.std.proofs.lemmas.Bool.{cond-true, cond-false, and_left, and_right, and_from, lt-leb, le-leb, lt-ltb, le-ltb}
-use Rattle.pawk_semantics.specs.Builtins.{bytes_where, is_from}
+use Rattle.pawk_store.specs.Builtins.{bytes_where, is_from}
 use Rattle.pawk_builtins.specs.TextLaws.{SubstringLaw}
 
 -- no place up to the end of the front passes

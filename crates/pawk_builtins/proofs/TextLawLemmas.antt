@@ -8,7 +8,7 @@ use Rattle.std.proofs.lemmas.List.{drop-drop}
 use Rattle.std.proofs.lemmas.List.Folds.{drop_split}
 use Rattle.pawk_ere_syntax.specs.Pattern.{Pattern}
 use Rattle.pawk_fields.specs.Search.{find}
-use Rattle.pawk_semantics.specs.Builtins.{Replaced, replaced_at, replacement}
+use Rattle.pawk_store.specs.Builtins.{Replaced, replaced_at, replacement}
 use Rattle.pawk_builtins.specs.ReplaceWalks.{replaced_after, from_after, is_past, match_replaced, left_after, IsAhead, IsNextReplaced}
 use Rattle.pawk_builtins.specs.TextLaws.{IndexLaw, AreApart, ReplacementLaw, IsNext, AreAll, parts, IsWith, ReplacedLaw}
 use Rattle.pawk_builtins.proofs.MatchLemmas.{find_inside}

@@ -2,10 +2,10 @@
 use Rattle.std.specs.Prelude.{ℕ, List, map, Result}
 use Rattle.std.specs.declared.vec.Vec.{Vec}
 use Rattle.std.specs.declared.alloc.Global.{Global}
-use Rattle.pawk_value.specs.Fault.{Fault}
+use Rattle.pawk_value.specs.declared.faults.Fault.{Fault}
 use Rattle.pawk_ere_syntax.specs.Pattern.{Pattern}
 use Rattle.pawk_code.specs.ExpressionViews.{pattern_view}
-use Rattle.pawk_semantics.specs.Meaning.{pattern_of}
+use Rattle.pawk_store.specs.Meaning.{pattern_of}
 use Rattle.pawk_builtins.specs.declared.expression.EreReference.{EreReference}
 
 -- what is between slashes

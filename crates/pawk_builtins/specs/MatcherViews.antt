@@ -7,9 +7,9 @@ use Rattle.pawk_ere.specs.declared.loan.Loan.{Loan}
 use Rattle.pawk_ere_syntax.specs.Pattern.{Pattern, Matches, HasMatch}
 use Rattle.pawk_ere_syntax.specs.Tokens.{SpellsEre}
 use Rattle.pawk_code.specs.declared.word.ReplacedMatches.{ReplacedMatches}
-use Rattle.pawk_semantics.specs.Builtins.{replaced, pieces_between}
+use Rattle.pawk_store.specs.Builtins.{replaced, pieces_between}
 use Rattle.pawk_fields.specs.Search.{find}
-use Rattle.pawk_value.specs.Fault.{Fault}
+use Rattle.pawk_value.specs.declared.faults.Fault.{Fault}
 use Rattle.pawk_builtins.specs.Pieces.{pieces_in}
 use Rattle.pawk_builtins.specs.Replaces.{Left}
 

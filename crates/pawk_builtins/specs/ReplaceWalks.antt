@@ -2,7 +2,7 @@
 use Rattle.std.specs.Prelude.{◌≡◌, ℕ, ◌+◌, ◌*◌, ◌-◌, ◌<◌, ◌≤◌, ◌==◌, Bool, true, false, not, ◌||◌, ◌&&◌, nat_lt, if◌then◌else◌, Option, Some, None, List, [], ◌∷◌, ◌++◌, length, drop, slice_range}
 use Rattle.pawk_ere_syntax.specs.Pattern.{Pattern}
 use Rattle.pawk_ere_automaton.specs.Expand.{expand}
-use Rattle.pawk_semantics.specs.Builtins.{Replaced, replacement, replace_from}
+use Rattle.pawk_store.specs.Builtins.{Replaced, replacement, replace_from}
 
 -- the text from a place on with its matches replaced, and how many they are; `behind`: a match that is not empty ended there
 abbrev pub replaced_after : Pattern → List ℕ → List ℕ → ℕ → Bool → Replaced

@@ -1,10 +1,10 @@
 -- What a call that replaces leaves.
 use Rattle.std.specs.Prelude.{◌≡◌, ◌<◌, ◌⊎◌, ℕ, List, Result, Ok, Err, length}
-use Rattle.pawk_value.specs.Fault.{Fault}
+use Rattle.pawk_value.specs.declared.faults.Fault.{Fault}
 use Rattle.pawk_value.specs.Limits.{length_limit}
-use Rattle.pawk_scalar.specs.declared.faults.Stop.{Stop}
+use Rattle.pawk_value.specs.declared.faults.Stop.{Stop}
 use Rattle.pawk_fields.specs.FieldsOf.{IfFault}
-use Rattle.pawk_semantics.specs.Builtins.{Replaced}
+use Rattle.pawk_store.specs.Builtins.{Replaced}
 
 -- the text is the one that is meant, or both are longer than a text may be
 abbrev pub IsOrBothTooLong : List ℕ → List ℕ → Type 0

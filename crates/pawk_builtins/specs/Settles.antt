@@ -1,7 +1,7 @@
 -- What a call that may fault answers.
 use Rattle.std.specs.Prelude.{◌≡◌, Result, Ok, Err}
-use Rattle.pawk_value.specs.Fault.{Fault}
-use Rattle.pawk_scalar.specs.declared.faults.Stop.{Stop}
+use Rattle.pawk_value.specs.declared.faults.Fault.{Fault}
+use Rattle.pawk_value.specs.declared.faults.Stop.{Stop}
 use Rattle.pawk_fields.specs.FieldsOf.{IfFault}
 
 -- the result or the fault of its definition; where memory was refused nothing is said

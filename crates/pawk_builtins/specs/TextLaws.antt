@@ -4,7 +4,7 @@ use Rattle.memchr.specs.Find.{OccursAt}
 use Rattle.pawk_code.specs.declared.word.ReplacedMatches.TheVariants as count
 use Rattle.pawk_ere_syntax.specs.Pattern.{Pattern}
 use Rattle.pawk_fields.specs.Search.{find}
-use Rattle.pawk_semantics.specs.Builtins.{index, bytes_where, is_from, Replaced, replacement, replaced}
+use Rattle.pawk_store.specs.Builtins.{index, bytes_where, is_from, Replaced, replacement, replaced}
 
 -- ---- index
 

@@ -1,9 +1,9 @@
 //! What the conversions of operands give.
 
 ghost use Rattle.std.specs.Prelude.{◌≡◌, ◌≤◌, Ok, Err, IfErr, OnOk};
-ghost use Rattle.pawk_semantics.specs.Places.{index_by};
-ghost use Rattle.pawk_semantics.specs.Meaning.{status_by, both_of};
-ghost use Rattle.pawk_semantics.specs.Builtins as spec;
+ghost use Rattle.pawk_store.specs.Places.{index_by};
+ghost use Rattle.pawk_store.specs.Meaning.{status_by, both_of};
+ghost use Rattle.pawk_store.specs.Builtins as spec;
 
 use pawk_value::{Fault, LENGTH_LIMIT};
 

@@ -1,9 +1,9 @@
 //! Regular expressions of a running program.
 
 ghost use Rattle.std.specs.Prelude.{◌≡◌, Err, MatchOption};
-ghost use Rattle.pawk_semantics.specs.Builtins.{fixed_at, pattern_of_text};
+ghost use Rattle.pawk_store.specs.Builtins.{fixed_at, pattern_of_text};
 ghost use Rattle.pawk_builtins.specs.ExpressionViews.{expression_of, texts_of};
-ghost use Rattle.pawk_value.specs.Fault.TheVariants as faults;
+ghost use Rattle.pawk_value.specs.declared.faults.Fault.TheVariants as faults;
 
 use pawk_code::expression::Pattern;
 

@@ -2,7 +2,7 @@
 
 ghost use Rattle.std.specs.Prelude.{◌≡◌, map};
 ghost use Rattle.pawk_value.specs.Value.{lent_value};
-ghost use Rattle.pawk_semantics.specs.Builtins.{formatted_text};
+ghost use Rattle.pawk_store.specs.Builtins.{formatted_text};
 ghost use Rattle.pawk_code.specs.ExpressionViews.{format_view};
 ghost use Rattle.pawk_builtins.specs.FormatViews.{format_text};
 ghost use Rattle.pawk_builtins.specs.Settles.{Settles};

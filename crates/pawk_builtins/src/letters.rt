@@ -1,7 +1,7 @@
 //! Letters of texts.
 
 ghost use Rattle.std.specs.Prelude.{◌≡◌, ◌++◌, OnOk};
-ghost use Rattle.pawk_semantics.specs.Builtins.{letter_in, letters_in};
+ghost use Rattle.pawk_store.specs.Builtins.{letter_in, letters_in};
 
 use pawk_code::word::Case;
 use std::alloc::AllocError;

@@ -4,7 +4,7 @@ ghost use Rattle.std.specs.Prelude.{◌≡◌, ◌≤◌, ◌<◌, ◌+◌, ◌^
 ghost use Rattle.std.specs.List.{All};
 ghost use Rattle.pawk_ere.specs.Caches.{IsAnswerOfText};
 ghost use Rattle.pawk_fields.specs.FieldsOf.{TellsNone};
-ghost use Rattle.pawk_semantics.specs.Builtins.{found_by, replaced_by, pieces_by, pieces_between, fixed_at};
+ghost use Rattle.pawk_store.specs.Builtins.{found_by, replaced_by, pieces_by, pieces_between, fixed_at};
 ghost use Rattle.pawk_builtins.specs.ExpressionViews.{expression_of, texts_of};
 ghost use Rattle.pawk_builtins.specs.MatcherViews.{AreOfTheirTexts, IsReplaced, SaysWhetherMatches, matched_by};
 ghost use Rattle.pawk_builtins.specs.Pieces.{pieces_in};

@@ -2,7 +2,7 @@
 
 ghost use Rattle.std.specs.Prelude.{◌≡◌, ◌<◌, length};
 ghost use Rattle.memchr.specs.Find.{FindsNeedle};
-ghost use Rattle.pawk_semantics.specs.Builtins as spec;
+ghost use Rattle.pawk_store.specs.Builtins as spec;
 
 use memchr::arch::all::is_prefix;
 use memchr::{memchr, memmem};

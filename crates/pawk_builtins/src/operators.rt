@@ -2,8 +2,8 @@
 
 ghost use Rattle.std.specs.Prelude.{◌≡◌};
 ghost use Rattle.pawk_value.specs.Value.{lent_value};
-ghost use Rattle.pawk_semantics.specs.Builtins.{sign_of, side_of};
-ghost use Rattle.pawk_semantics.specs.Builtins as spec;
+ghost use Rattle.pawk_store.specs.Builtins.{sign_of, side_of};
+ghost use Rattle.pawk_store.specs.Builtins as spec;
 
 use pawk_code::word::{Relation, Sign, Step};
 use pawk_value::{Fault, ValueRef, compare_lent};

@@ -4,8 +4,8 @@ ghost use Rattle.std.specs.Prelude.{◌≡◌, ◌+◌, ◌^◌, ◌<◌, ◌≤
 ghost use Rattle.pawk_ere_syntax.specs.Pattern.{Pattern};
 ghost use Rattle.pawk_ere.specs.Answers.{AreMissesFor, IsFor};
 ghost use Rattle.pawk_fields.specs.Search as search;
-ghost use Rattle.pawk_semantics.specs.Builtins.{replaced};
-ghost use Rattle.pawk_semantics.specs.Builtins as spec;
+ghost use Rattle.pawk_store.specs.Builtins.{replaced};
+ghost use Rattle.pawk_store.specs.Builtins as spec;
 ghost use Rattle.pawk_builtins.specs.ReplaceWalks as spec_walks;
 ghost use Rattle.pawk_builtins.specs.ReplaceWalks.{from_after, is_past, IsAhead, IsNextReplaced};
 ghost use Rattle.pawk_builtins.specs.Replaces.{IsOrBothTooLong, Left};

@@ -1,7 +1,7 @@
 //! What stands for a match.
 
 ghost use Rattle.std.specs.Prelude.{◌≡◌, ◌≤◌, ◌∷◌, ◌++◌, ℕ, List, true, length, IfOk, OnOk};
-ghost use Rattle.pawk_semantics.specs.Builtins as spec;
+ghost use Rattle.pawk_store.specs.Builtins as spec;
 ghost use Rattle.pawk_builtins.specs.ReplaceWalks.{begins_escaped};
 ghost use Rattle.pawk_builtins.specs.Replaces.{IsOrBothTooLong};
 

@@ -1,7 +1,7 @@
 //! Parts of texts by their places.
 
 ghost use Rattle.std.specs.Prelude.{◌≡◌, pos, int_le, length};
-ghost use Rattle.pawk_semantics.specs.Builtins.{bytes_where, is_from};
+ghost use Rattle.pawk_store.specs.Builtins.{bytes_where, is_from};
 ghost use Rattle.pawk_builtins.specs.PlaceViews.{before};
 
 /// How many bytes of a text are before a place, which is counted from 1.

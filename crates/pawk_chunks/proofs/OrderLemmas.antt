@@ -8,11 +8,11 @@ use Rattle.std.proofs.lemmas.Option.{slice_get-get_or}
 use Rattle.std.proofs.lemmas.List.FromFn.{length-range_with_len, get_or-range_with_len}
 use Rattle.pawk_input.specs.declared.cutting.Chunk.{Chunk}
 use Rattle.pawk_frozen.specs.Frozens.{Frozen}
-use Rattle.pawk_semantics.specs.Records.{End, through}
-use Rattle.pawk_semantics.specs.LeftViews.{left_view}
-use Rattle.pawk_semantics.specs.declared.left.Left.{Left}
-use Rattle.pawk_semantics.specs.declared.left.Left.TheVariants as left
-use Rattle.pawk_chunks.specs.Chunks.{Leaves, AreResults}
+use Rattle.pawk_store.specs.Records.{End, through}
+use Rattle.pawk_store.specs.LeftViews.{left_view}
+use Rattle.pawk_store.specs.declared.left.Left.{Left}
+use Rattle.pawk_store.specs.declared.left.Left.TheVariants as left
+use Rattle.pawk_merge_law.specs.Chunks.{Leaves, AreResults}
 use Rattle.pawk_merge.specs.declared.chunk_result.ChunkResult.{ChunkResult}
 use Rattle.pawk_chunks.specs.Worker.{Numbered, IsResultIn, numbers, stops}
 use Rattle.pawk_chunks.specs.Shifts.{limit_of}

@@ -5,7 +5,7 @@ use Rattle.pawk_record.specs.Records.{Record, SplitRecord}
 use Rattle.pawk_store.specs.declared.state.RecordState.{RecordState as Code}
 use Rattle.pawk_store.specs.RecordStates.{RecordState}
 use Rattle.pawk_store.specs.StateViews.{state_of}
-use Rattle.pawk_chunks.specs.Chunks.{chunk_state}
+use Rattle.pawk_merge_law.specs.Chunks.{chunk_state}
 
 no_record : (r : Record) → r.text ≡ [] → r.fields ≡ [] → r ≡ record { text = []; fields = [] }
 no_record r t f = ap (λ x. record { text = x; fields = r.fields }) t ∙ ap (λ xs. record { text = []; fields = xs }) f

@@ -14,7 +14,7 @@ use Rattle.pawk_board.proofs.board.BoardSeat.TheSendSync as seat
 use Rattle.pawk_frozen.proofs.table.Table.TheSendSync as table
 use Rattle.pawk_input.proofs.files.Input.TheSendSync as input
 use Rattle.pawk_input.proofs.plan.Plan.TheSendSync as plan
-use Rattle.pawk_semantics.proofs.left.Left.TheSendSync as left
+use Rattle.pawk_store.proofs.left.Left.TheSendSync as left
 use Rattle.pawk_store.proofs.globals.Globals.TheSendSync as globals
 use Rattle.pawk_code.proofs.Sharing.{code_row_sync}
 use Rattle.pawk_chunks.proofs.States.{state_row_sync, state_send}

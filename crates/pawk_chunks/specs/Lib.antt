@@ -1,4 +1,5 @@
-pub mod Chunks
+pub mod Openings
 pub mod Task
 pub mod Worker
 pub mod Shifts
+pub use Rattle.pawk_merge_law.specs.Chunks

@@ -1,12 +1,12 @@
 -- What the workers of a run share.
-use Rattle.std.specs.Prelude.{◌≡◌, ℕ, ◌≤◌, length}
-use Rattle.pawk_board.specs.Limits.{most_workers}
-use Rattle.pawk_input.specs.Input.{IsReady, files_of}
-use Rattle.pawk_input.specs.Plan.{AreChunksOf}
+use Rattle.std.specs.Prelude.{◌≡◌, ℕ, ◌≤◌, List, length, flat_map}
+use Rattle.pawk_input.specs.Input.{Item, IsReady, files_of}
+use Rattle.pawk_input.specs.Plan.{AreChunksOf, chunk_items}
 use Rattle.pawk_input.specs.declared.cutting.Chunk.{Chunk}
 use Rattle.pawk_frozen.specs.Frozens.{Frozen}
-use Rattle.pawk_semantics.specs.Records.{End}
-use Rattle.pawk_chunks.specs.Chunks.{chunk_end, opening_view}
+use Rattle.pawk_store.specs.Records.{End}
+use Rattle.pawk_chunks.specs.Openings.{opening_view}
+use Rattle.pawk_merge_law.specs.Chunks.{chunk_end}
 use Rattle.pawk_chunks.specs.declared.chunk.Opening.{Opening}
 use Rattle.pawk_chunks.specs.declared.task.Chunked.{Chunked}
 use Rattle.pawk_chunks.specs.declared.task.Task.{Task}
@@ -27,6 +27,6 @@ pub record IsTask (t : Task) : Type 0 where
 abbrev pub end_in : Opening → Chunked → Chunk → End Frozen
 end_in o s = chunk_end (opening_view o) s.rs.now (files_of s.input.now)
 
--- a number of workers that may be asked for
-abbrev pub IsCrew : ℕ → Type 0
-IsCrew workers = (1 ≤ workers) × (workers ≤ most_workers)
+-- the records of all chunks
+abbrev pub items_in : Chunked → List Item
+items_in source = flat_map (chunk_items source.rs.now (files_of source.input.now)) source.plan.now

@@ -4,10 +4,10 @@ use Rattle.pawk_board.specs.declared.hand.Hand.{Hand}
 use Rattle.pawk_board.specs.History.{tells, sees}
 use Rattle.pawk_input.specs.declared.cutting.Chunk.{Chunk}
 use Rattle.pawk_frozen.specs.Frozens.{Frozen}
-use Rattle.pawk_semantics.specs.Records.{End}
-use Rattle.pawk_semantics.specs.declared.left.Left.{Left}
-use Rattle.pawk_semantics.specs.declared.left.Left.TheVariants as left
-use Rattle.pawk_chunks.specs.Chunks.{Leaves}
+use Rattle.pawk_store.specs.Records.{End}
+use Rattle.pawk_store.specs.declared.left.Left.{Left}
+use Rattle.pawk_store.specs.declared.left.Left.TheVariants as left
+use Rattle.pawk_merge_law.specs.Chunks.{Leaves}
 use Rattle.pawk_merge.specs.declared.chunk_result.ChunkResult.{ChunkResult}
 use Rattle.pawk_chunks.specs.Task.{end_in}
 use Rattle.pawk_chunks.specs.declared.task.Task.{Task}

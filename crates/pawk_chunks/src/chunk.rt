@@ -7,17 +7,17 @@ ghost use Rattle.pawk_input.specs.Plan.{AreChunksOf};
 ghost use Rattle.pawk_input.specs.Walk.{items_left};
 ghost use Rattle.pawk_store.specs.StateViews.{state_of};
 ghost use Rattle.pawk_frozen.specs.Frozens.{calls};
-ghost use Rattle.pawk_semantics.specs.Runs.{records_from};
-ghost use Rattle.pawk_chunks.specs.Chunks.{Leaves, chunk_begin, chunk_end, opening_view};
-ghost use Rattle.pawk_chunks.specs.Chunks as spec;
+ghost use Rattle.pawk_store.specs.Runs.{records_from};
+ghost use Rattle.pawk_chunks.specs.Openings.{opening_view};
+ghost use Rattle.pawk_merge_law.specs.Chunks.{Leaves, chunk_begin, chunk_end};
+ghost use Rattle.pawk_merge_law.specs.Chunks as spec;
 
 use pawk_admit::Roles;
 use pawk_frozen::Frozen;
 use pawk_input::{Input, Plan, Records};
 use pawk_merge::ChunkResult;
 use pawk_record::Record;
-use pawk_runtime::Run;
-use pawk_sequential::{Job, run_records};
+use pawk_sequential::{Job, Run, run_records};
 use pawk_store::{Globals, RecordState};
 use std::alloc::{AllocError, Global};
 

@@ -3,9 +3,10 @@
 ghost use Rattle.std.specs.Prelude.{◌≡◌, ◌≤◌, ◌++◌, nat_lt, length, map, filter, All, IfOk, IsOk};
 ghost use Rattle.std.specs.List.{flat_map};
 ghost use Rattle.pawk_board.specs.Limits.{most_chunks};
-ghost use Rattle.pawk_chunks.specs.Chunks.{AreResults};
+ghost use Rattle.pawk_merge_law.specs.Chunks.{AreResults};
 ghost use Rattle.pawk_chunks.specs.Shifts.{limit_of, results_of};
-ghost use Rattle.pawk_chunks.specs.Task.{IsChunked, IsCrew, end_in};
+ghost use Rattle.pawk_board.specs.Limits.{IsCrew};
+ghost use Rattle.pawk_chunks.specs.Task.{IsChunked, end_in};
 
 use crate::Opening;
 use crate::shifts::{Shift, all_work};

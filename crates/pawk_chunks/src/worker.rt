@@ -9,7 +9,7 @@ use crate::run_chunk;
 use crate::task::Task;
 use pawk_board::{BoardSeat, Claim};
 use pawk_merge::ChunkResult;
-use pawk_semantics::Left;
+use pawk_store::Left;
 use pawk_workers::Gate;
 use std::alloc::{AllocError, Global};
 

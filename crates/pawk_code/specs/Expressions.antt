@@ -1,6 +1,6 @@
 -- The expressions of code without where they lie in memory.
 use Rattle.std.specs.Prelude.{ℕ, ℤ, Bool, List, [], ◌∷◌}
-use Rattle.pawk_scalar.specs.declared.arithmetic.Op.{Op}
+use Rattle.pawk_value.specs.declared.arithmetic.Op.{Op}
 use Rattle.pawk_code.specs.declared.name.Array.{Array}
 use Rattle.pawk_code.specs.declared.leaf.Special.{Special}
 use Rattle.pawk_code.specs.declared.word.Sign.{Sign}

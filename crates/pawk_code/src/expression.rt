@@ -4,7 +4,7 @@ use crate::format::FixedFormat;
 use crate::leaf::Leaf;
 use crate::name::Array;
 use crate::word::{Case, Relation, ReplacedMatches, Sign, Step};
-use pawk_scalar::Op;
+use pawk_value::Op;
 
 /// What can be assigned.
 #[cycle(code)]

@@ -1,9 +1,9 @@
 //! Formats that do not change.
 
 ghost use Rattle.std.specs.Prelude.{◌≡◌, IfOk};
-ghost use Rattle.pawk_format.specs.TemplateViews.{IsTemplateOf};
+ghost use Rattle.pawk_value.specs.TemplateViews.{IsTemplateOf};
 
-use pawk_format::{Template, read_template};
+use pawk_value::{Template, read_template};
 use std::alloc::{AllocError, Global};
 
 /// A constant format: its bytes, and what was read from them once.

@@ -2,24 +2,16 @@
 use Rattle.std.proofs.Common.{◌≡◌, ℕ, zero, suc, List, [], ◌∷◌, ◌++◌, Option, Some, None, refl, inl, inr, ⊎_elim, arith}
 use Rattle.std.specs.Prelude.{slice_get, Contains}
 use Rattle.std.proofs.lemmas.List.Elements.{Contains-append_left, Contains-append_right}
-use Rattle.pawk_scalar.specs.declared.arithmetic.Op.{Op}
-use Rattle.pawk_scalar.specs.declared.arithmetic.Op.TheVariants as op
+use Rattle.pawk_value.specs.declared.arithmetic.Op.{Op}
+use Rattle.pawk_value.specs.declared.arithmetic.Op.TheVariants as op
 use Rattle.pawk_code.specs.FirstSlots.{fs_slot, ofs_slot, ors_slot, subsep_slot}
 use Rattle.pawk_code.specs.declared.word.Sign.{Sign}
 use Rattle.pawk_code.specs.declared.name.Array.{Array}
 use Rattle.pawk_code.specs.declared.name.Array.TheVariants as array
 use Rattle.pawk_code.specs.declared.name.Variable.{Variable}
 use Rattle.pawk_code.specs.declared.name.Variable.TheVariants as variable
-use Rattle.pawk_code.specs.Expressions.{Leaf, number, text, global, local, special, field}
-use Rattle.pawk_code.specs.Expressions.{Expr, leaf, numeric, test, textual, read, choice, assign, call, Exprs, none, more}
-use Rattle.pawk_code.specs.Expressions.{Place, to_global, to_local, to_element, to_field, Numeric, arithmetic, signed, change, step}
-use Rattle.pawk_code.specs.Expressions.{function, split, replace, find, NumericFunction, length_of, index_of, whole, Test, compare}
-use Rattle.pawk_code.specs.Expressions.{both, either, negation, matches, member, Textual, join, suffix, substring, letters, formatted}
-use Rattle.pawk_code.specs.Expressions.{Pattern, fixed_pattern, spelled_by, FieldsBy, by_fs, by_fixed, by_value, Format, fixed_format}
-use Rattle.pawk_code.specs.Expressions.{format_of, Argument, pass, pass_array, Arguments, no_arguments, more_arguments}
-use Rattle.pawk_code.specs.Statements.{Simple, drop, set, add, count, print, printf, delete, clear, Leave, break, continue, next_record}
-use Rattle.pawk_code.specs.Statements.{next_file, exit, return, Head, Stmt, simple, leave, when, choose, repeat, do_while, loop, walk}
-use Rattle.pawk_code.specs.Statements.{Stmts, done, next}
+use Rattle.pawk_code.specs.Expressions.{Leaf, number, text, global, local, special, field, Expr, leaf, numeric, test, textual, read, choice, assign, call, Exprs, none, more, Place, to_global, to_local, to_element, to_field, Numeric, arithmetic, signed, change, step, function, split, replace, find, NumericFunction, length_of, index_of, whole, Test, compare, both, either, negation, matches, member, Textual, join, suffix, substring, letters, formatted, Pattern, fixed_pattern, spelled_by, FieldsBy, by_fs, by_fixed, by_value, Format, fixed_format, format_of, Argument, pass, pass_array, Arguments, no_arguments, more_arguments}
+use Rattle.pawk_code.specs.Statements.{Simple, drop, set, add, count, print, printf, delete, clear, Leave, break, continue, next_record, next_file, exit, return, Head, Stmt, simple, leave, when, choose, repeat, do_while, loop, walk, Stmts, done, next}
 use Rattle.pawk_code.specs.Programs.{Selector, always, matching, between, Rule, Function}
 use Rattle.pawk_admit.specs.declared.occurrence.Touch.{Touch}
 use Rattle.pawk_admit.specs.declared.occurrence.Touch.TheVariants as touch
@@ -30,19 +22,13 @@ use Rattle.pawk_admit.specs.declared.occurrence.Occurrence.TheVariants as occurr
 use Rattle.pawk_admit.specs.declared.reason.Reason.TheVariants as reason
 use Rattle.pawk_admit.specs.declared.role.Role.{Role}
 use Rattle.pawk_admit.specs.declared.role.Role.TheVariants.{Fixed, Adder, Setter, Reader}
-use Rattle.pawk_admit.specs.Occurrences.{of_array, of_variable, of_leaf, touch_by, of_expression, of_expressions, of_place}
-use Rattle.pawk_admit.specs.Occurrences.{of_numeric, of_function_of_number, of_test, of_textual, of_pattern, of_fields_by, of_format}
-use Rattle.pawk_admit.specs.Occurrences.{of_argument, of_arguments, of_simple, of_expression_if_any, of_simple_if_any, of_leave, of_head}
-use Rattle.pawk_admit.specs.Occurrences.{of_statement, of_body, of_selector, of_rules, of_function_if_any}
+use Rattle.pawk_admit.specs.Occurrences.{of_array, of_variable, of_leaf, touch_by, of_expression, of_expressions, of_place, of_numeric, of_function_of_number, of_test, of_textual, of_pattern, of_fields_by, of_format, of_argument, of_arguments, of_simple, of_expression_if_any, of_simple_if_any, of_leave, of_head, of_statement, of_body, of_selector, of_rules, of_function_if_any}
 use Rattle.pawk_admit.specs.Reaches.{Reached, from_rules, from_function, Occurs}
 use Rattle.pawk_admit.specs.Admission.{IsSeparator, IsRole, IsAdmissible, AreRoles}
 use Rattle.pawk_admit.specs.Roles.{role_of_scalar, role_of_array}
-use Rattle.pawk_semantics.specs.Builtins.{sign_of}
-use Rattle.pawk_semantics.specs.Lockstep.{Access, reads, olds, writes, changes, tests, removes, clears, walks}
-use Rattle.pawk_semantics.specs.Allows.{LooksAt, TouchesArray, TouchesVariable, Touches, AllowsJoining, AllowsLeaf, Allows, AllowsEach, AllowsPlace}
-use Rattle.pawk_semantics.specs.Allows.{AllowsNumeric, AllowsFunction, AllowsTest, AllowsTextual, AllowsPattern, AllowsFieldsBy, AllowsFormat}
-use Rattle.pawk_semantics.specs.Allows.{AllowsArgument, AllowsArguments, AllowsSimple, AllowsLeave, AllowsSimpleIfAny, AllowsIfAny, AllowsHead}
-use Rattle.pawk_semantics.specs.Allows.{AllowsStmt, AllowsStmts, AllowsBody, AllowsSelector, AllowsRules, AllowsMain}
+use Rattle.pawk_store.specs.Builtins.{sign_of}
+use Rattle.pawk_store.specs.Lockstep.{Access, reads, olds, writes, changes, tests, removes, clears, walks}
+use Rattle.pawk_store.specs.Allows.{LooksAt, TouchesArray, TouchesVariable, Touches, AllowsJoining, AllowsLeaf, Allows, AllowsEach, AllowsPlace, AllowsNumeric, AllowsFunction, AllowsTest, AllowsTextual, AllowsPattern, AllowsFieldsBy, AllowsFormat, AllowsArgument, AllowsArguments, AllowsSimple, AllowsLeave, AllowsSimpleIfAny, AllowsIfAny, AllowsHead, AllowsStmt, AllowsStmts, AllowsBody, AllowsSelector, AllowsRules, AllowsMain}
 use Rattle.pawk_commute.specs.Settings.{Setting, MayRead, Permits}
 
 module _ (i : Setting) (no : IsAdmissible i.code) (are : AreRoles (Occurs i.code) i.roles) where
@@ -52,7 +38,7 @@ module _ (i : Setting) (no : IsAdmissible i.code) (are : AreRoles (Occurs i.code
   abbrev Touched : Touch → GlobalName → Type 0
   Touched t n = Stands (occurrence.Touch t n)
 
-  abbrev P : Access → Rattle.pawk_semantics.specs.Lockstep.Resource → Type 0
+  abbrev P : Access → Rattle.pawk_store.specs.Lockstep.Resource → Type 0
   P = Permits i
 
   -- ---- what occurs in the text and the roles

@@ -13,7 +13,7 @@ use Rattle.pawk_admit.specs.declared.role.Role.TheVariants.{Fixed, Adder, Setter
 use Rattle.pawk_admit.specs.Roles.{Roles}
 use Rattle.pawk_frozen.specs.Marks.{Mark, blank, created, mark_or_blank, blank_table, mark_at, with_mark}
 use Rattle.pawk_frozen.specs.Frozens.{Frozen, blank_world, noted}
-use Rattle.pawk_semantics.specs.Lockstep.{resource_of_cell}
+use Rattle.pawk_store.specs.Lockstep.{resource_of_cell}
 use Rattle.pawk_commute.specs.Traces.{Event, Traced, same_cell, mark_after, mark_from}
 use Rattle.pawk_commute.specs.Settings.{Setting, role_of_cell, Extends, Agrees, entry_at, FitsIfOk, MayBegin}
 use Rattle.pawk_commute.specs.Agreement.{Suits, AreLawful, Becomes, IsChanged, Alike}

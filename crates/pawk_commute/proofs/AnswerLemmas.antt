@@ -3,7 +3,7 @@ use Rattle.std.proofs.Common.{◌≡◌, ◌<◌, ℕ, ℤ, pos, ◌+ℤ◌, Lis
 use Rattle.std.proofs.lemmas.List.{append-nil}
 use Rattle.std.proofs.lemmas.Int.{ints}
 use Rattle.std.specs.Prelude.{◌⊎◌, ◌-ℤ◌, is_some}
-use Rattle.pawk_value.specs.Fault.{Fault}
+use Rattle.pawk_value.specs.declared.faults.Fault.{Fault}
 use Rattle.pawk_value.specs.Range.{FitsWord, in_range_or_fault}
 use Rattle.pawk_value.specs.Arithmetic.{arith as result_of}
 use Rattle.pawk_value.specs.Value.{Val, Uninit, Num}
@@ -11,7 +11,7 @@ use Rattle.pawk_value.specs.Conversion.{num_of}
 use Rattle.pawk_array.specs.Entries.{found, keys, value_of}
 use Rattle.pawk_code.specs.declared.word.Sign.{Sign}
 use Rattle.pawk_code.specs.declared.word.Sign.TheVariants.{Plus, Minus}
-use Rattle.pawk_value.specs.Fault.TheVariants as fault
+use Rattle.pawk_value.specs.declared.faults.Fault.TheVariants as fault
 use Rattle.pawk_world.specs.Halts as halt
 use Rattle.pawk_world.specs.Sums.{arith_by, op_of}
 use Rattle.pawk_world.specs.Worlds.{Cell, scalar, element, Request, Answer, gives, halts}
@@ -24,7 +24,7 @@ use Rattle.pawk_admit.specs.Roles.{role_of_array}
 use Rattle.pawk_frozen.specs.Marks.{Mark, blank, summed, last_put, created, with_amount, mark_at}
 use Rattle.pawk_frozen.specs.Frozens.{Frozen, noted, signed_amount, kept_mark, found_or_missing, missing}
 use Rattle.pawk_frozen.specs.Frozens as frozen
-use Rattle.pawk_semantics.specs.Lockstep.{array_slot, resource_of, resource_of_cell, access_of, SameAnswer, AreInLockstep}
+use Rattle.pawk_store.specs.Lockstep.{array_slot, resource_of, resource_of_cell, access_of, SameAnswer, AreInLockstep}
 use Rattle.pawk_commute.specs.Traces.{Traced, creations, additions, traced_answer, traced, same_cell, mark_from}
 use Rattle.pawk_commute.specs.Traces as event
 use Rattle.pawk_commute.specs.Settings.{Setting, role_of_cell, MayRead, Permits, Extends, Agrees, entry_at, MayBegin}

@@ -16,7 +16,7 @@ use Rattle.pawk_frozen.specs.Marks.{Mark, blank, mark_or_blank, Table, mark_at, 
 use Rattle.pawk_admit.specs.declared.role.Role.{Role}
 use Rattle.pawk_admit.specs.declared.role.Role.TheVariants.{Fixed}
 use Rattle.pawk_admit.specs.Roles.{Roles}
-use Rattle.pawk_semantics.specs.Lockstep.{Resource, variable_slot, array_slot, function_slot, last_match, rule_ranges, rest_of_file, resource_of_cell}
+use Rattle.pawk_store.specs.Lockstep.{Resource, variable_slot, array_slot, function_slot, last_match, rule_ranges, rest_of_file, resource_of_cell}
 use Rattle.pawk_commute.specs.Traces.{same_cell}
 use Rattle.pawk_commute.specs.Settings.{role_of, entry_at, HasSlots, FitSlots, AreInOrder}
 

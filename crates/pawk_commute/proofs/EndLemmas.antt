@@ -2,8 +2,8 @@
 use Rattle.std.proofs.Common.{◌≡◌, ℕ, ℤ, List, [], ◌++◌, None, Bool, true, false, if◌then◌else◌, Result, Ok, Err, refl, ap, sym, ◌∙◌, subst, inl, inr, ⊎_elim}
 use Rattle.std.proofs.lemmas.List.{append-nil}
 use Rattle.std.specs.Prelude.{◌⊎◌}
-use Rattle.pawk_value.specs.Fault.{Fault}
-use Rattle.pawk_value.specs.Fault.TheVariants as fault
+use Rattle.pawk_value.specs.declared.faults.Fault.{Fault}
+use Rattle.pawk_value.specs.declared.faults.Fault.TheVariants as fault
 use Rattle.pawk_value.specs.Conversion.{num_of}
 use Rattle.pawk_array.specs.Entries.{found, value_of}
 use Rattle.pawk_code.specs.declared.word.Sign.{Sign}
@@ -19,9 +19,9 @@ use Rattle.pawk_admit.specs.Roles.{role_of_array}
 use Rattle.pawk_frozen.specs.Marks.{Mark, blank, summed, last_put, created, with_amount, mark_at}
 use Rattle.pawk_frozen.specs.Frozens.{Frozen, noted, signed_amount, kept_mark, found_or_missing, missing}
 use Rattle.pawk_frozen.specs.Frozens as frozen
-use Rattle.pawk_semantics.specs.Records.{Left, clash, End}
-use Rattle.pawk_semantics.specs.Lockstep.{access_of, resource_of, resource_of_cell, refusal_of, state_of}
-use Rattle.pawk_semantics.specs.Laws.{SameEnd, EndReaches, EndsInStep, LeftBy}
+use Rattle.pawk_store.specs.Records.{Left, clash, End}
+use Rattle.pawk_store.specs.Lockstep.{access_of, resource_of, resource_of_cell, refusal_of, state_of}
+use Rattle.pawk_store.specs.Laws.{SameEnd, EndReaches, EndsInStep, LeftBy}
 use Rattle.pawk_commute.specs.Traces.{Traced, creations, additions, traced_answer, traced, mark_from}
 use Rattle.pawk_commute.specs.Settings.{Setting, role_of_cell, Permits, MayBegin}
 use Rattle.pawk_commute.specs.Agreement.{Alike}

@@ -3,8 +3,8 @@ use Rattle.std.proofs.Common.{◌≡◌, ◌<◌, ◌^◌, ℤ, pos, negsuc, ◌
 use Rattle.std.proofs.lemmas.Int.{ints, clamps}
 use Rattle.std.specs.Prelude.{◌≤ℤ◌, ◌-ℤ◌}
 use Rattle.std.specs.Int.{int_min, int_max}
-use Rattle.pawk_value.specs.Fault.{Fault}
-use Rattle.pawk_value.specs.Fault.TheVariants.{Overflow}
+use Rattle.pawk_value.specs.declared.faults.Fault.{Fault}
+use Rattle.pawk_value.specs.declared.faults.Fault.TheVariants.{Overflow}
 use Rattle.pawk_value.specs.Range.{FitsWord, in_range, in_range_or_fault}
 use Rattle.pawk_value.specs.Value.{Val}
 use Rattle.pawk_value.specs.Conversion.{num_of}
@@ -17,8 +17,8 @@ use Rattle.pawk_admit.specs.declared.role.Role.TheVariants.{Adder, Setter, Reade
 use Rattle.pawk_admit.specs.Roles.{Roles}
 use Rattle.pawk_frozen.specs.Marks.{Mark, blank, summed, last_put, created, with_amount, mark_at}
 use Rattle.pawk_frozen.specs.Frozens.{Frozen, signed_amount}
-use Rattle.pawk_semantics.specs.Records.{fault, End}
-use Rattle.pawk_semantics.specs.Laws.{SameEnd}
+use Rattle.pawk_store.specs.Records.{fault, End}
+use Rattle.pawk_store.specs.Laws.{SameEnd}
 use Rattle.pawk_commute.specs.Traces.{Event, Traced, same_cell, mark_from}
 use Rattle.pawk_commute.specs.Traces as event
 use Rattle.pawk_commute.specs.Settings.{Setting, role_of_cell, entry_at}

@@ -1,8 +1,8 @@
 -- How a store's trace and a chunk's table go on, and how the two refuse.
 use Rattle.std.proofs.Common.{◌≡◌, ℕ, ℤ, List, [], ◌∷◌, ◌++◌, Option, Some, None, Bool, true, false, if◌then◌else◌, Result, Ok, Err, refl, ap, sym, ◌∙◌, append_assoc}
 use Rattle.std.proofs.lemmas.List.{append-nil}
-use Rattle.pawk_value.specs.Fault.{Fault}
-use Rattle.pawk_value.specs.Fault.TheVariants as fault
+use Rattle.pawk_value.specs.declared.faults.Fault.{Fault}
+use Rattle.pawk_value.specs.declared.faults.Fault.TheVariants as fault
 use Rattle.pawk_value.specs.Value.{Val}
 use Rattle.pawk_value.specs.Conversion.{num_of}
 use Rattle.pawk_array.specs.Entries.{found}
@@ -20,8 +20,8 @@ use Rattle.pawk_admit.specs.Roles.{role_of_array}
 use Rattle.pawk_frozen.specs.Marks.{Mark, blank, summed, last_put, created, with_amount, mark_at}
 use Rattle.pawk_frozen.specs.Frozens.{Frozen, is_sum, noted, signed_amount, kept_mark, found_or_missing, missing}
 use Rattle.pawk_frozen.specs.Frozens as frozen
-use Rattle.pawk_semantics.specs.Lockstep.{array_slot, access_of, resource_of, resource_of_cell, refusal_of, state_of, RefusesIn, FirstGoesOn, SecondGoesOn}
-use Rattle.pawk_semantics.specs.Laws.{IsFinal, RefusalsAreFinal}
+use Rattle.pawk_store.specs.Lockstep.{array_slot, access_of, resource_of, resource_of_cell, refusal_of, state_of, RefusesIn, FirstGoesOn, SecondGoesOn}
+use Rattle.pawk_store.specs.Laws.{IsFinal, RefusalsAreFinal}
 use Rattle.pawk_commute.specs.Traces.{Event, Traced, events_of, traced_answer, traced, same_cell, mark_after, mark_from}
 use Rattle.pawk_commute.specs.Traces as event
 use Rattle.pawk_commute.specs.Settings.{Setting, role_of_cell, Permits, MayBegin}

@@ -3,8 +3,8 @@ use Rattle.std.proofs.Common.{◌≡◌, ◌<◌, ◌^◌, ◌&&◌, ℤ, pos, n
 use Rattle.std.proofs.lemmas.Int.{ints}
 use Rattle.std.specs.Prelude.{◌≤ℤ◌, ◌-ℤ◌, int_lt, int_le, cond}
 use Rattle.std.specs.Int.{int_min, int_max}
-use Rattle.pawk_value.specs.Fault.{Fault}
-use Rattle.pawk_value.specs.Fault.TheVariants.{Overflow}
+use Rattle.pawk_value.specs.declared.faults.Fault.{Fault}
+use Rattle.pawk_value.specs.declared.faults.Fault.TheVariants.{Overflow}
 use Rattle.pawk_value.specs.Range.{FitsWord, in_range, in_range_or_fault}
 use Rattle.pawk_value.specs.Value.{Val, Num}
 use Rattle.pawk_value.specs.Conversion.{num_of}

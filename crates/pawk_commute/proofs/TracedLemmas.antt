@@ -1,15 +1,15 @@
 -- The globals with a trace in lockstep with those without.
 use Rattle.std.proofs.Common.{◌≡◌, ℤ, true, List, ◌++◌, append_assoc, Option, Some, None, Result, Ok, Err, refl, ap, ◌∙◌, subst, inl, ⊎_elim}
-use Rattle.pawk_value.specs.Fault.{Fault}
+use Rattle.pawk_value.specs.declared.faults.Fault.{Fault}
 use Rattle.pawk_world.specs.Halts.{Halt}
 use Rattle.pawk_world.specs.Worlds.{Cell, Request, Answer, gives, halts}
 use Rattle.pawk_world.specs.Worlds as request
 use Rattle.pawk_value.specs.Conversion.{num_of}
 use Rattle.pawk_world.specs.Sums.{arith_by, op_of}
 use Rattle.pawk_store.specs.Globals.{Globals, value_at, calls, with_sum}
-use Rattle.pawk_semantics.specs.Records.{Left, through, next_file, exit, fault, clash, End}
-use Rattle.pawk_semantics.specs.Lockstep.{refusal_of, RefusesIn, SameAnswer, AreInLockstep, FirstGoesOn, SecondGoesOn}
-use Rattle.pawk_semantics.specs.Laws.{SameEnd, EndsInStep, LeftBy, IsFinal, RefusalsAreFinal}
+use Rattle.pawk_store.specs.Records.{Left, through, next_file, exit, fault, clash, End}
+use Rattle.pawk_store.specs.Lockstep.{refusal_of, RefusesIn, SameAnswer, AreInLockstep, FirstGoesOn, SecondGoesOn}
+use Rattle.pawk_store.specs.Laws.{SameEnd, EndsInStep, LeftBy, IsFinal, RefusalsAreFinal}
 use Rattle.pawk_commute.specs.Traces.{Event, Traced, events_of, traced_answer, traced}
 use Rattle.pawk_commute.specs.TracedRuns.{plain, traced_pair, with_trace_before, longer_pair}
 

@@ -1,6 +1,6 @@
 -- A chunk of records over the globals that BEGIN left, and the same records in order over the globals as they are then.
 use Rattle.std.specs.Prelude.{◌≡◌, ◌⊎◌, ℕ, ℤ, List, [], ◌∷◌, ◌++◌, Bool, false, Option, None, Result, Ok, Err}
-use Rattle.pawk_value.specs.Fault.{Fault}
+use Rattle.pawk_value.specs.declared.faults.Fault.{Fault}
 use Rattle.pawk_value.specs.Arithmetic.{arith}
 use Rattle.pawk_value.specs.Conversion.{num_of}
 use Rattle.pawk_array.specs.Entries.{found}
@@ -17,11 +17,11 @@ use Rattle.pawk_admit.specs.Roles.{role_of_array}
 use Rattle.pawk_frozen.specs.Marks.{Mark, blank, summed, last_put, created, with_amount, mark_at}
 use Rattle.pawk_frozen.specs.Frozens.{Frozen, blank_world, signed_amount, is_sum}
 use Rattle.pawk_frozen.specs.Frozens as frozen
-use Rattle.pawk_semantics.specs.Records.{through, fault, clash, End}
-use Rattle.pawk_semantics.specs.Runs.{records_from}
-use Rattle.pawk_semantics.specs.Lockstep.{Pair, IsPrefix}
-use Rattle.pawk_semantics.specs.Laws.{SameEnd}
-use Rattle.pawk_semantics.specs.Allows.{AllowsMain}
+use Rattle.pawk_store.specs.Records.{through, fault, clash, End}
+use Rattle.pawk_store.specs.Runs.{records_from}
+use Rattle.pawk_store.specs.Lockstep.{Pair, IsPrefix}
+use Rattle.pawk_store.specs.Laws.{SameEnd}
+use Rattle.pawk_store.specs.Allows.{AllowsMain}
 use Rattle.pawk_commute.specs.Traces.{Event, Traced, traced, mark_from}
 use Rattle.pawk_commute.specs.Traces as event
 use Rattle.pawk_commute.specs.Settings.{Setting, Permits, role_of_cell, HasSlots, MayBegin}

@@ -7,8 +7,8 @@ use Rattle.pawk_world.specs.Worlds.{Cell}
 use Rattle.pawk_store.specs.Globals.{value_at}
 use Rattle.pawk_frozen.specs.Marks.{Mark, blank, summed, last_put, created, mark_at}
 use Rattle.pawk_frozen.specs.Frozens.{Frozen}
-use Rattle.pawk_semantics.specs.Records.{Left, through, next_file, exit, fault, clash, End}
-use Rattle.pawk_semantics.specs.Laws.{SameEnd}
+use Rattle.pawk_store.specs.Records.{Left, through, next_file, exit, fault, clash, End}
+use Rattle.pawk_store.specs.Laws.{SameEnd}
 use Rattle.pawk_commute.specs.Traces.{Traced}
 use Rattle.pawk_commute.specs.Settings.{Setting}
 use Rattle.pawk_commute.specs.Commutation.{pair_of, Commuted, AddFaulted}

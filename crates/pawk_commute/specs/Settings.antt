@@ -1,6 +1,6 @@
 -- What a chunk of records and the store are run from, and what a program may do that runs in chunks.
 use Rattle.std.specs.Prelude.{◌≡◌, ◌≤◌, ℕ, ℤ, ◌⊎◌, List, length, Option, Some, None, Result, Ok, Err}
-use Rattle.pawk_value.specs.Fault.{Fault}
+use Rattle.pawk_value.specs.declared.faults.Fault.{Fault}
 use Rattle.pawk_value.specs.Range.{FitsWord}
 use Rattle.pawk_value.specs.Value.{Val, Uninit}
 use Rattle.pawk_value.specs.Conversion.{num_of}
@@ -12,8 +12,7 @@ use Rattle.pawk_admit.specs.declared.role.Role.{Role}
 use Rattle.pawk_admit.specs.declared.role.Role.TheVariants.{Fixed, Adder, Setter, Reader}
 use Rattle.pawk_admit.specs.Roles.{Roles, role_of_scalar, role_of_array}
 use Rattle.pawk_admit.specs.Reaches.{Reached}
-use Rattle.pawk_semantics.specs.Lockstep.{Resource, variable_slot, array_slot, function_slot, resource_of_cell}
-use Rattle.pawk_semantics.specs.Lockstep.{Access, looks, reads, writes, changes, tests, walks, runs}
+use Rattle.pawk_store.specs.Lockstep.{Resource, variable_slot, array_slot, function_slot, resource_of_cell, Access, looks, reads, writes, changes, tests, walks, runs}
 
 -- a program and the roles of its globals, the globals as BEGIN left them, from which a chunk is run, and the globals and the
 -- output to which the records before the chunk have come, from which its records are run in order

@@ -1,7 +1,7 @@
 -- Globals that keep a trace: which amounts were added to which cells, which values were put, which keys were created.
 use Rattle.std.specs.Prelude.{ℕ, ℤ, List, [], ◌∷◌, ◌++◌, Bool, false, if◌then◌else◌, nat_eq, ◌&&◌, Option, Some, None, Result, Ok, Err}
 use Rattle.std.specs.Str.{bytes_eq}
-use Rattle.pawk_value.specs.Fault.{Fault}
+use Rattle.pawk_value.specs.declared.faults.Fault.{Fault}
 use Rattle.pawk_value.specs.Value.{Val}
 use Rattle.pawk_array.specs.Entries.{found}
 use Rattle.pawk_code.specs.declared.word.Sign.{Sign}

@@ -6,7 +6,7 @@ ghost use Rattle.pawk_commute.specs.Admitted.{AdmissionAllows};
 ghost use Rattle.pawk_commute.specs.TracedRuns.{TraceIsAppendedLaw, TracedLaw};
 ghost use Rattle.pawk_commute.specs.Merging.{MergeTells};
 
-use pawk_semantics::law::{Pairing, lockstep_records};
+use pawk_store::law::{Pairing, lockstep_records};
 
 /// The globals that keep a trace, and those of a chunk.
 pub struct StoreAndChunk;

@@ -9,9 +9,9 @@ use Rattle.pawk_store.specs.RecordStates.{RecordState}
 use Rattle.pawk_code.specs.declared.expression.Expr.{Expr}
 use Rattle.pawk_code.specs.Expressions.{exprs}
 use Rattle.pawk_code.specs.ExpressionViews.{view, views}
-use Rattle.pawk_semantics.specs.Builtins.{within_limit}
-use Rattle.pawk_semantics.specs.Parts.{Hold, Moment, Outcome, gives, halts, Part, give, settle, then_do, bind, as_text}
-use Rattle.pawk_semantics.specs.Meaning.{eval, suffixed}
+use Rattle.pawk_store.specs.Builtins.{within_limit}
+use Rattle.pawk_store.specs.Parts.{Hold, Moment, Outcome, gives, halts, Part, give, settle, then_do, bind, as_text}
+use Rattle.pawk_store.specs.Meaning.{eval, suffixed}
 
 module _ {S : Type 0} where
   -- a text that is appended is appended to each end of what is before it

@@ -7,8 +7,8 @@ use Rattle.pawk_code.specs.declared.statement.Statement.{Statement}
 use Rattle.pawk_code.specs.declared.statement.Statement.TheVariants as statement
 use Rattle.pawk_code.specs.Statements.{Stmts}
 use Rattle.pawk_code.specs.StatementViews.{seen, simple_view, stmt_view}
-use Rattle.pawk_semantics.specs.Parts.{Hold, Moment, Outcome, gives, halts, Part, give, tick, then_do, bind}
-use Rattle.pawk_semantics.specs.Meaning.{act, exec, execs, and_then, on}
+use Rattle.pawk_store.specs.Parts.{Hold, Moment, Outcome, gives, halts, Part, give, tick, then_do, bind}
+use Rattle.pawk_store.specs.Meaning.{act, exec, execs, and_then, on}
 use Rattle.pawk_eval.proofs.Shapes.{simple_shape}
 
 module _ {S : Type 0} (calls : Calls S) (eres : List (List ℕ)) (enter : ℕ → List Hold → Part S Val) where

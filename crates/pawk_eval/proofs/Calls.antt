@@ -1,15 +1,15 @@
 -- Calls of functions, one step at a time.
 use Rattle.std.proofs.Common.{◌≡◌, ℕ, zero, suc, ◌-◌, ◌<◌, List, Some, None, ap, sym, ◌∙◌, refl, arith, length, take, slice_get}
 use Rattle.pawk_value.specs.Value.{Val, Uninit}
-use Rattle.pawk_value.specs.Fault.TheVariants as fault
+use Rattle.pawk_value.specs.declared.faults.Fault.TheVariants as fault
 use Rattle.pawk_world.specs.Halts.{Halt}
 use Rattle.pawk_world.specs.Halts as halt
 use Rattle.pawk_world.specs.Worlds.{Calls}
 use Rattle.pawk_store.specs.RecordStates.{RecordState}
 use Rattle.pawk_code.specs.Programs.{Function}
 use Rattle.pawk_code.specs.Statements.{Stmts}
-use Rattle.pawk_semantics.specs.Parts.{Hold, Moment, Outcome, gives, halts, Part, give, then_do, bind, tick, Entry, entry_of}
-use Rattle.pawk_semantics.specs.Meaning.{Way, execs, call_at, run_function, run_function_at, value_of_way}
+use Rattle.pawk_store.specs.Parts.{Hold, Moment, Outcome, gives, halts, Part, give, then_do, bind, tick, Entry, entry_of}
+use Rattle.pawk_store.specs.Meaning.{Way, execs, call_at, run_function, run_function_at, value_of_way}
 
 module _ {S : Type 0} (calls : Calls S) (eres : List (List ℕ)) (fs : List Function) where
   -- a call without a step for it

@@ -11,8 +11,8 @@ use Rattle.pawk_code.specs.declared.statement.Statement.{Statement}
 use Rattle.pawk_code.specs.Expressions.{exprs, arguments}
 use Rattle.pawk_code.specs.ExpressionViews.{view, views, argument_view, argument_views}
 use Rattle.pawk_code.specs.StatementViews.{seen, stmt_view}
-use Rattle.pawk_semantics.specs.Parts.{Hold, value, Moment, halts, Part, give, then_do, as_text}
-use Rattle.pawk_semantics.specs.Meaning.{eval, texts_of, values_of, argument_of, arguments_of}
+use Rattle.pawk_store.specs.Parts.{Hold, value, Moment, halts, Part, give, then_do, as_text}
+use Rattle.pawk_store.specs.Meaning.{eval, texts_of, values_of, argument_of, arguments_of}
 use Rattle.pawk_eval.proofs.AppendedText.{text_halts}
 use Rattle.pawk_eval.proofs.Weights.{weight, row_weight, argument_weight, arguments_weight, statement_weight, body_weight}
 

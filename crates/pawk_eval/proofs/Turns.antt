@@ -1,10 +1,10 @@
 -- Turns of loops, one step at a time.
 use Rattle.std.proofs.Common.{◌≡◌, ℕ, zero, suc, ◌≤◌, List, refl, ap, sym, ◌∙◌, arith, if◌then◌else◌, Bool, Result}
-use Rattle.pawk_value.specs.Fault.{Fault}
+use Rattle.pawk_value.specs.declared.faults.Fault.{Fault}
 use Rattle.pawk_world.specs.Halts.{Halt}
 use Rattle.pawk_store.specs.RecordStates.{RecordState}
-use Rattle.pawk_semantics.specs.Parts.{Moment, gives, halts, Part, give, then_do, bind, tick, tick_at}
-use Rattle.pawk_semantics.specs.Meaning.{Way, on, decide, after_turn, turns}
+use Rattle.pawk_store.specs.Parts.{Moment, gives, halts, Part, give, then_do, bind, tick, tick_at}
+use Rattle.pawk_store.specs.Meaning.{Way, on, decide, after_turn, turns}
 
 module _ {S : Type 0} where
   -- what a turn is once it has its step

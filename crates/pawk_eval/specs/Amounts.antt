@@ -1,11 +1,11 @@
 -- By what a place changes.
 use Rattle.std.specs.Prelude.{ℕ, ℤ, pos, List, Result, Ok}
 use Rattle.pawk_value.specs.Value.{Val}
-use Rattle.pawk_value.specs.Fault.{Fault}
+use Rattle.pawk_value.specs.declared.faults.Fault.{Fault}
 use Rattle.pawk_world.specs.Worlds.{Calls}
 use Rattle.pawk_code.specs.ExpressionViews.{view}
-use Rattle.pawk_semantics.specs.Parts.{Hold, Part, as_number, give}
-use Rattle.pawk_semantics.specs.Meaning.{eval}
+use Rattle.pawk_store.specs.Parts.{Hold, Part, as_number, give}
+use Rattle.pawk_store.specs.Meaning.{eval}
 use Rattle.pawk_eval.specs.declared.amount.Amount.{Amount}
 use Rattle.pawk_eval.specs.declared.amount.Amount.TheVariants as amount
 

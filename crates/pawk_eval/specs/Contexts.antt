@@ -13,8 +13,8 @@ use Rattle.pawk_code.specs.StatementViews.{simple_view}
 use Rattle.pawk_code.specs.Programs.{Function}
 use Rattle.pawk_code.specs.ProgramViews.{function_view}
 use Rattle.pawk_builtins.specs.ExpressionViews.{texts_of}
-use Rattle.pawk_semantics.specs.Parts.{Hold, Part}
-use Rattle.pawk_semantics.specs.Meaning.{call_at}
+use Rattle.pawk_store.specs.Parts.{Hold, Part}
+use Rattle.pawk_store.specs.Meaning.{call_at}
 use Rattle.pawk_eval.specs.declared.context.Context.{Context}
 use Rattle.pawk_eval.specs.declared.layer.Layer.{Layer}
 use Rattle.pawk_eval.specs.declared.replacement.Replacement.{Replacement}

@@ -1,6 +1,6 @@
 -- How a statement leaves.
 use Rattle.pawk_value.specs.Value.{shown}
-use Rattle.pawk_semantics.specs.Meaning.{Way, on, by_break, by_continue, by_return}
+use Rattle.pawk_store.specs.Meaning.{Way, on, by_break, by_continue, by_return}
 use Rattle.pawk_eval.specs.declared.flow.Flow.{Flow}
 use Rattle.pawk_eval.specs.declared.flow.Flow.TheVariants as flow
 

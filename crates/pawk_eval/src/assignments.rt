@@ -5,9 +5,9 @@
 ghost use Rattle.std.specs.Prelude.{◌≤◌};
 ghost use Rattle.pawk_code.specs.ExpressionViews.{place_view, view};
 ghost use Rattle.pawk_code.specs.Statements as actions;
-ghost use Rattle.pawk_semantics.specs.Parts.{bind};
-ghost use Rattle.pawk_semantics.specs.Meaning.{act, aim_of};
-ghost use Rattle.pawk_semantics.specs.Places.{add_at};
+ghost use Rattle.pawk_store.specs.Parts.{bind};
+ghost use Rattle.pawk_store.specs.Meaning.{act, aim_of};
+ghost use Rattle.pawk_store.specs.Places.{add_at};
 ghost use Rattle.pawk_runtime.specs.Moments.{moment};
 ghost use Rattle.pawk_runtime.specs.Yields.{Yields};
 ghost use Rattle.pawk_eval.specs.Amounts.{amount_of};

@@ -2,7 +2,7 @@
 
 ghost use Rattle.std.specs.Prelude.{◌≡◌, MatchOption, Some, None};
 ghost use Rattle.pawk_value.specs.Value.{shown};
-ghost use Rattle.pawk_semantics.specs.Meaning.{left_by, value_of_way};
+ghost use Rattle.pawk_store.specs.Meaning.{left_by, value_of_way};
 ghost use Rattle.pawk_eval.specs.Flows.{way_of};
 
 use pawk_value::Value;

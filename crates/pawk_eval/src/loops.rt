@@ -4,7 +4,7 @@
 
 ghost use Rattle.std.specs.Prelude.{◌≤◌};
 ghost use Rattle.pawk_code.specs.StatementViews.{seen};
-ghost use Rattle.pawk_semantics.specs.Meaning.{act_or_none, execs, for_keys, test_or_true, while_loop};
+ghost use Rattle.pawk_store.specs.Meaning.{act_or_none, execs, for_keys, test_or_true, while_loop};
 ghost use Rattle.pawk_runtime.specs.Moments.{moment};
 ghost use Rattle.pawk_runtime.specs.Yields.{Yields};
 ghost use Rattle.pawk_eval.specs.Contexts.{enter_in, eres_in, last_view};

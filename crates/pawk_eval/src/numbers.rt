@@ -13,9 +13,9 @@ ghost use Rattle.pawk_code.specs.ExpressionViews.{
   view,
 };
 ghost use Rattle.pawk_world.specs.Sums.{arith_by};
-ghost use Rattle.pawk_semantics.specs.Parts.{as_number, bind, settle};
-ghost use Rattle.pawk_semantics.specs.Meaning.{aim_of, eval, function_of, number_of};
-ghost use Rattle.pawk_semantics.specs.Places.{change_at};
+ghost use Rattle.pawk_store.specs.Parts.{as_number, bind, settle};
+ghost use Rattle.pawk_store.specs.Meaning.{aim_of, eval, function_of, number_of};
+ghost use Rattle.pawk_store.specs.Places.{change_at};
 ghost use Rattle.pawk_runtime.specs.Moments.{moment};
 ghost use Rattle.pawk_runtime.specs.Yields.{Yields};
 ghost use Rattle.pawk_eval.specs.Amounts.{amount_of};

@@ -3,7 +3,7 @@
 ghost use Rattle.std.specs.Prelude.{◌≤◌};
 ghost use Rattle.pawk_code.specs.Expressions.{exprs};
 ghost use Rattle.pawk_code.specs.ExpressionViews.{pattern_view, views};
-ghost use Rattle.pawk_semantics.specs.Meaning.{operand_of, texts_of, values_of};
+ghost use Rattle.pawk_store.specs.Meaning.{operand_of, texts_of, values_of};
 ghost use Rattle.pawk_runtime.specs.Moments.{moment};
 ghost use Rattle.pawk_runtime.specs.Yields.{Yields};
 ghost use Rattle.pawk_eval.specs.Contexts.{enter_in, eres_in};

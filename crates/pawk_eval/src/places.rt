@@ -5,7 +5,7 @@
 ghost use Rattle.std.specs.Prelude.{◌≡◌, ◌≤◌, IfSome};
 ghost use Rattle.pawk_code.specs.Expressions.{exprs, to_element};
 ghost use Rattle.pawk_code.specs.ExpressionViews.{place_view, views};
-ghost use Rattle.pawk_semantics.specs.Meaning.{aim_of, subscripts};
+ghost use Rattle.pawk_store.specs.Meaning.{aim_of, subscripts};
 ghost use Rattle.pawk_runtime.specs.Moments.{aim_view, moment};
 ghost use Rattle.pawk_runtime.specs.Yields.{Yields};
 ghost use Rattle.pawk_eval.specs.Contexts.{enter_in, eres_in};

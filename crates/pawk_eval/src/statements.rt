@@ -8,8 +8,8 @@ ghost use Rattle.pawk_code.specs.Expressions as codes;
 ghost use Rattle.pawk_code.specs.ExpressionViews.{format_view, view, views};
 ghost use Rattle.pawk_code.specs.StatementViews.{seen, simple_view, stmt_view};
 ghost use Rattle.pawk_code.specs.Statements as actions;
-ghost use Rattle.pawk_semantics.specs.Parts.{bind, give};
-ghost use Rattle.pawk_semantics.specs.Meaning.{
+ghost use Rattle.pawk_store.specs.Parts.{bind, give};
+ghost use Rattle.pawk_store.specs.Meaning.{
   act,
   exec,
   execs,
@@ -18,7 +18,7 @@ ghost use Rattle.pawk_semantics.specs.Meaning.{
   text_of_textual,
   texts_of,
 };
-ghost use Rattle.pawk_semantics.specs.Meaning as spec;
+ghost use Rattle.pawk_store.specs.Meaning as spec;
 ghost use Rattle.pawk_runtime.specs.Moments.{moment};
 ghost use Rattle.pawk_runtime.specs.Yields.{Yields};
 ghost use Rattle.pawk_eval.specs.Contexts.{enter_in, eres_in};

@@ -7,7 +7,7 @@ ghost use Rattle.pawk_value.specs.Held.{added};
 ghost use Rattle.pawk_code.specs.Expressions.{exprs};
 ghost use Rattle.pawk_code.specs.Expressions as codes;
 ghost use Rattle.pawk_code.specs.ExpressionViews.{format_view, textual_view, views};
-ghost use Rattle.pawk_semantics.specs.Meaning.{joined_texts, text_of_textual};
+ghost use Rattle.pawk_store.specs.Meaning.{joined_texts, text_of_textual};
 ghost use Rattle.pawk_runtime.specs.Moments.{moment};
 ghost use Rattle.pawk_runtime.specs.Yields.{Yields};
 ghost use Rattle.pawk_eval.specs.Contexts.{enter_in, eres_in};

@@ -5,23 +5,23 @@ use Rattle.pawk_records.specs.Records.{records_by}
 use Rattle.pawk_input.specs.Input.{file_items}
 use Rattle.pawk_store.specs.Globals.{Globals, calls}
 use Rattle.pawk_admit.specs.declared.role.Roles.{Roles}
-use Rattle.pawk_semantics.specs.Records.{Left, through, next_file, exit, fault, clash, End}
-use Rattle.pawk_semantics.specs.Runs.{records_from}
-use Rattle.pawk_semantics.specs.Outputs.{in_a_row, with_output_before}
-use Rattle.pawk_semantics.specs.LeftViews.{left_view}
-use Rattle.pawk_semantics.specs.Laws.{LeftBy}
-use Rattle.pawk_semantics.specs.Steady.{RecordsKeepLaw, StaysInFile}
+use Rattle.pawk_store.specs.Records.{Left, through, next_file, exit, fault, clash, End}
+use Rattle.pawk_store.specs.Runs.{records_from}
+use Rattle.pawk_store.specs.Outputs.{in_a_row, with_output_before}
+use Rattle.pawk_store.specs.LeftViews.{left_view}
+use Rattle.pawk_store.specs.Laws.{LeftBy}
+use Rattle.pawk_store.specs.Steady.{RecordsKeepLaw, StaysInFile}
 use Rattle.pawk_commute.specs.Settings.{PermitsFor}
 use Rattle.pawk_commute.proofs.TracedLemmas.{plain_final}
 use Rattle.pawk_merge_law.specs.Phases.{Phase, MayRun, in_order, FaultsOrCreates}
 use Rattle.pawk_merge_law.proofs.OpeningLemmas.{steady}
-use Rattle.pawk_windows.specs.Windows.{phase_at}
-use Rattle.pawk_windows.specs.Flows.{Turn, after_assignments}
-use Rattle.pawk_windows.specs.Redone.{FileFaultsOrCreates, TurnsFaultOrCreate, FaultOutputLaw, PieceFaultsLaw}
+use Rattle.pawk_merge_law.specs.Windows.{phase_at}
+use Rattle.pawk_merge_law.specs.Flows.{Turn, after_assignments}
+use Rattle.pawk_merge_law.specs.Redone.{FileFaultsOrCreates, TurnsFaultOrCreate, FaultOutputLaw, PieceFaultsLaw}
 use Rattle.pawk_flow.specs.Operands.{assigned}
 use Rattle.pawk_flow.specs.Pieces.{end_between, piece_end}
-use Rattle.pawk_flow.specs.declared.flow.Flow.{Flow}
-use Rattle.pawk_flow.specs.declared.piece.PieceEnd.{PieceEnd}
+use Rattle.pawk_flow.specs.Flow.{Flow}
+use Rattle.pawk_flow.specs.PieceEnd.{PieceEnd}
 use Rattle.pawk_feeds.specs.Streams.{Course, Tells, phase_of, turns_fault, bytes_fault, left_faults, file_left_faults, is_over}
 use Rattle.pawk_records.proofs.BlocksLemmas.{no_records}
 

@@ -5,24 +5,24 @@ use Rattle.std.specs.Io.KnownBytes.{Appends}
 use Rattle.std.specs.declared.alloc.Global.{Global}
 use Rattle.pawk_code.specs.Programs.{Code}
 use Rattle.pawk_store.specs.Globals.{Globals, calls}
-use Rattle.pawk_semantics.specs.Records.{Left}
-use Rattle.pawk_semantics.specs.Runs.{Finish, after_records}
-use Rattle.pawk_semantics.specs.Outputs.{in_a_row, finish_with_output_before}
+use Rattle.pawk_store.specs.Records.{Left}
+use Rattle.pawk_store.specs.Runs.{Finish, after_records}
+use Rattle.pawk_store.specs.Outputs.{in_a_row, finish_with_output_before}
 use Rattle.pawk_sequential.specs.declared.outcome.Outcome.{Outcome}
-use Rattle.pawk_threads.specs.RunEnds.{Answers, AreSpecials, ending_view}
-use Rattle.pawk_windows.specs.Flows.{Pairs, Turn}
-use Rattle.pawk_threads.specs.declared.report.Route.{Route}
-use Rattle.pawk_threads.specs.declared.report.Route.TheVariants.{Redo, Parallel}
+use Rattle.pawk_sequential.specs.RunEnds.{Answers, AreSpecials, ending_view}
+use Rattle.pawk_merge_law.specs.Flows.{Pairs, Turn}
+use Rattle.pawk_routes.specs.declared.report.Route.{Route}
+use Rattle.pawk_routes.specs.declared.report.Route.TheVariants.{Redo, Parallel}
 use Rattle.pawk_admit.specs.declared.reason.Reason.{Reason}
 use Rattle.pawk_admit.specs.declared.role.Roles.{Roles}
 use Rattle.std.specs.Prelude.{Bool, MatchResult, is_some, Some, None}
-use Rattle.pawk_flow.specs.declared.flow.Flow.{Flow}
+use Rattle.pawk_flow.specs.Flow.{Flow}
 use Rattle.pawk_flow.specs.Begins.{AreRolesFrom, IsStart}
 use Rattle.pawk_flow.specs.Operands.{Operands, run_over, IsRouteOver}
 use Rattle.pawk_flow.specs.Pieces.{end_between}
-use Rattle.pawk_flow.specs.declared.begin.Start.{Start}
+use Rattle.pawk_flow.specs.Start.{Start}
 use Rattle.pawk_feeds.specs.Feeds.{AreTurnsOf, FlowsTo, WroteSome}
-use Rattle.pawk_feeds.specs.declared.feed.Feed.{Feed}
+use Rattle.pawk_window.specs.declared.feed.Feed.{Feed}
 use Rattle.pawk_feeds.specs.declared.flowed.Flowed.{Flowed}
 use Rattle.pawk_feeds.specs.declared.stream.Stream.{Stream}
 use Rattle.pawk_feeds.specs.Streams.{Course, RunsFiles, Tells, turns_fault, route_from, with_turns}

@@ -6,30 +6,31 @@ use Rattle.pawk_records.specs.Records.{records_by}
 use Rattle.pawk_records.proofs.BlocksLemmas.{no_records}
 use Rattle.pawk_input.specs.Input.{File, file_items}
 use Rattle.pawk_store.specs.Globals.{Globals, calls}
-use Rattle.pawk_semantics.specs.Records.{Left, through, next_file, exit, fault, clash, End}
-use Rattle.pawk_semantics.specs.Runs.{Finish, records_from, after_records}
-use Rattle.pawk_semantics.specs.Outputs.{in_a_row, with_output_before, finish_with_output_before, OutputStaysLaw}
-use Rattle.pawk_semantics.specs.LeftViews.{left_view}
-use Rattle.pawk_semantics.specs.declared.left.Left.{Left as CodeLeft}
-use Rattle.pawk_semantics.specs.declared.left.Left.TheVariants as left
+use Rattle.pawk_store.specs.Records.{Left, through, next_file, exit, fault, clash, End}
+use Rattle.pawk_store.specs.Runs.{Finish, records_from, after_records}
+use Rattle.pawk_store.specs.Outputs.{in_a_row, with_output_before, finish_with_output_before, OutputStaysLaw}
+use Rattle.pawk_store.specs.LeftViews.{left_view}
+use Rattle.pawk_store.specs.declared.left.Left.{Left as CodeLeft}
+use Rattle.pawk_store.specs.declared.left.Left.TheVariants as left
 use Rattle.pawk_window.specs.Windows.{Contents, HaveCome, HoldsRecords, HasEnded}
-use Rattle.pawk_windows.specs.Flows.{Turn, after_piece, rest_in_file, PieceFollowsLaw, RestOutputLaw}
+use Rattle.pawk_merge_law.specs.Flows.{Turn, after_piece, rest_in_file, PieceFollowsLaw, RestOutputLaw}
 use Rattle.pawk_flow.specs.Operands.{assigned, rest_over}
 use Rattle.pawk_flow.specs.Pieces.{end_between, piece_end, piece_items, piece_records, RunsPiece}
-use Rattle.pawk_flow.specs.declared.flow.Flow.{Flow}
-use Rattle.pawk_flow.specs.declared.piece.Piece.{Piece}
-use Rattle.pawk_flow.specs.declared.piece.PieceEnd.{PieceEnd}
+use Rattle.pawk_flow.specs.Flow.{Flow}
+use Rattle.pawk_flow.specs.Piece.{Piece}
+use Rattle.pawk_flow.specs.PieceEnd.{PieceEnd}
 use Rattle.pawk_par.specs.Streams.{WhyUnwritten}
 use Rattle.pawk_par.specs.declared.refusal.StreamRefusal.{StreamRefusal}
 use Rattle.pawk_par.specs.declared.refusal.StreamRefusal.TheVariants as refusal
-use Rattle.pawk_feeds.specs.Feeds.{IsFileOf, WroteSome}
-use Rattle.pawk_feeds.specs.declared.feed.Feed.{Feed}
+use Rattle.pawk_feeds.specs.Feeds.{WroteSome}
+use Rattle.pawk_window.specs.Feeds.{IsFileOf}
+use Rattle.pawk_window.specs.declared.feed.Feed.{Feed}
 use Rattle.pawk_feeds.specs.declared.stream.Stream.{Stream}
 use Rattle.pawk_feeds.specs.Streams.{Course, RunsOn, RefusesIn, RunsFile, with_bytes, with_file, as_left, file_left, Tells, phase_of, file_fault, bytes_fault, left_faults, file_left_faults}
-use Rattle.pawk_semantics.specs.Steady.{RecordsKeepLaw}
+use Rattle.pawk_store.specs.Steady.{RecordsKeepLaw}
 use Rattle.pawk_commute.specs.Settings.{PermitsFor}
 use Rattle.pawk_merge_law.specs.Phases.{Phase, MayRun, FaultsOrCreates}
-use Rattle.pawk_windows.specs.Redone.{FileFaultsOrCreates, FaultOutputLaw, PieceFaultsLaw}
+use Rattle.pawk_merge_law.specs.Redone.{FileFaultsOrCreates, FaultOutputLaw, PieceFaultsLaw}
 use Rattle.pawk_feeds.proofs.RouteLemmas.{tells_then, tells_same, tells_iff, piece_tells, end_faults}
 
 -- ---- what was written

@@ -1,63 +1,29 @@
 -- Turns of feeds, in order.
-use Rattle.std.proofs.Common.{◌≡◌, ℕ, zero, suc, ◌+◌, ◌<◌, ◌≤◌, true, false, List, [], ◌∷◌, ◌++◌, length, get_or, take, drop, Option, Some, None, IfSome, refl, ap, sym, ◌∙◌, subst, append_assoc, append-nil, take-append-drop, add-one, arith}
-use Rattle.std.proofs.Math.Seq.{drop-cons}
+use Rattle.std.proofs.Common.{◌≡◌, ℕ, ◌+◌, ◌<◌, ◌≤◌, true, false, List, [], ◌∷◌, ◌++◌, length, get_or, take, drop, Option, Some, None, IfSome, refl, ap, sym, ◌∙◌, subst, append_assoc, append-nil, take-append-drop}
 use Rattle.std.proofs.KnownBytes.{Appends-nil, Appends-trans, Keeps-refl}
-use Rattle.pawk_device.proofs.TransferLemmas.{take-more}
 use Rattle.pawk_records.specs.Records.{records_by}
 use Rattle.pawk_input.specs.Input.{File}
 use Rattle.pawk_admit.specs.declared.role.Roles.{Roles}
-use Rattle.pawk_semantics.specs.Records.{Left, through, next_file, exit, fault, clash, End}
-use Rattle.pawk_semantics.specs.Runs.{Finish, after_records}
-use Rattle.pawk_semantics.specs.Outputs.{finish_with_output_before}
+use Rattle.pawk_store.specs.Records.{Left, through, next_file, exit, fault, clash, End}
+use Rattle.pawk_store.specs.Runs.{Finish, after_records}
+use Rattle.pawk_store.specs.Outputs.{finish_with_output_before}
 use Rattle.pawk_store.specs.Globals.{Globals, calls}
 use Rattle.pawk_store.specs.Openings.{pairs_of}
-use Rattle.pawk_windows.specs.Flows.{Pairs, Turn, after_assignments, rest_in_file}
-use Rattle.pawk_windows.specs.Redone.{FileFaultsOrCreates}
+use Rattle.pawk_merge_law.specs.Flows.{Pairs, Turn, after_assignments, rest_in_file}
+use Rattle.pawk_merge_law.specs.Redone.{FileFaultsOrCreates}
 use Rattle.pawk_flow.specs.Operands.{assigned, ReadyLaw}
 use Rattle.std.specs.Prelude.{◌↔◌}
-use Rattle.pawk_feeds.specs.Feeds.{AreTurnsOf, IsFileOf, WroteSome}
-use Rattle.pawk_feeds.specs.declared.feed.Feed.{Feed}
+use Rattle.pawk_window.specs.Feeds.{IsFileOf}
+use Rattle.pawk_window.specs.declared.feed.Feed.{Feed}
+use Rattle.pawk_window.proofs.PlaceLemmas.{whole_at, take_at, take_all}
+use Rattle.pawk_feeds.specs.Feeds.{AreTurnsOf, WroteSome}
 use Rattle.pawk_feeds.specs.declared.stream.Stream.{Stream}
 use Rattle.pawk_feeds.specs.Streams.{Course, IsReady, RunsFile, RunsFiles, RunsOver, Tells, phase_of, file_left, file_fault, turns_fault, file_left_faults, is_over, with_file, with_turns}
 use Rattle.pawk_feeds.proofs.RouteLemmas.{tells_then, tells_same, tells_iff, goes_fault, ends_fault, same_file}
 use Rattle.pawk_merge_law.specs.Phases.{MayRun}
 use Rattle.pawk_flow.specs.Pieces.{end_between}
-use Rattle.pawk_flow.specs.declared.flow.Flow.{Flow}
+use Rattle.pawk_flow.specs.Flow.{Flow}
 use Rattle.pawk_feeds.proofs.StreamLemmas.{both_front, known, known_is, wrote_none, wrote_after}
-
--- ---- a place in a list whose elements from there on are those of another
-
--- Without one more is without as many and one.
-drop_one : {X : Type 0} (n : ℕ) (xs : List X) → drop 1 (drop n xs) ≡ drop (suc n) xs
-drop_one zero xs = refl
-drop_one (suc n) [] = refl
-drop_one (suc n) (x ∷ xs) = drop_one n xs
-
--- Past the place they are the same.
-pub drop_past : {X : Type 0} (now old : List X) (i : ℕ) → drop i now ≡ drop i old → drop (i + 1) now ≡ drop (i + 1) old
-drop_past now old i same =
-    ap (λ n. drop n now) (add-one i) ∙ sym (drop_one i now) ∙ ap (λ l. drop 1 l) same ∙ drop_one i old ∙ ap (λ n. drop n old) (sym (add-one i))
-
--- From the place on the other is the element there, and what follows it.
-pub drop_at : {X : Type 0} (now old : List X) (i : ℕ) (d : X) → i < length now → drop i now ≡ drop i old → drop i old ≡ get_or now i d ∷ drop (i + 1) old
-drop_at now old i d small same =
-    sym same ∙ drop-cons now i d small ∙ ap (λ n. get_or now i d ∷ drop n now) (sym (add-one i))
-    ∙ ap (λ l. get_or now i d ∷ l) (drop_past now old i same)
-
--- The other is what is before the place, the element there, and what follows it.
-pub whole_at : {X : Type 0} (now old : List X) (i : ℕ) (d : X) → i < length now → drop i now ≡ drop i old → take i old ++ (get_or now i d ∷ drop (i + 1) old) ≡ old
-whole_at now old i d small same = ap (λ l. take i old ++ l) (sym (drop_at now old i d small same)) ∙ take-append-drop i old
-
--- What is before the next place is what is before this one, and the element there.
-pub take_at : {X : Type 0} (now old : List X) (i : ℕ) (d : X) → i < length now → drop i now ≡ drop i old → take i old ++ (get_or now i d ∷ []) ≡ take (i + 1) old
-take_at now old i d small same = ap (λ l. take i old ++ take 1 l) (sym (drop_at now old i d small same)) ∙ take-more i 1 old
-
--- All of a list is before its end.
-pub take_all : {X : Type 0} (n : ℕ) (xs : List X) → length xs ≤ n → take n xs ≡ xs
-take_all zero [] h = refl
-take_all zero (x ∷ xs) h = absurd (omega (arith, h))
-take_all (suc n) [] h = refl
-take_all (suc n) (x ∷ xs) h = ap (λ l. x ∷ l) (take_all n xs (omega (arith, h)))
 
 -- ---- turns of feeds
 

@@ -1,26 +1,21 @@
 -- Runs from feeds to a sink. POSIX.1-2017, awk, "Overall Program Structure", "STDIN", "OPERANDS" and "STDOUT".
-use Rattle.std.specs.Prelude.{◌≡◌, ℕ, List, [], ◌∷◌, ◌++◌, Option, IfSome}
+use Rattle.std.specs.Prelude.{◌≡◌, ℕ, List, [], ◌∷◌, ◌++◌, Option}
 use Rattle.std.specs.Io.KnownBytes.{Appends}
 use Rattle.pawk_code.specs.Programs.{Code}
-use Rattle.pawk_input.specs.Input.{File}
 use Rattle.pawk_store.specs.Openings.{pairs_of}
-use Rattle.pawk_threads.specs.RunEnds.{AreSpecials, ending_view}
-use Rattle.pawk_windows.specs.Flows.{Pairs, Turn}
+use Rattle.pawk_sequential.specs.RunEnds.{AreSpecials, ending_view}
+use Rattle.pawk_merge_law.specs.Flows.{Pairs, Turn}
 use Rattle.pawk_flow.specs.Operands.{Operands, run_over, IsRouteOver}
-use Rattle.pawk_feeds.specs.declared.feed.Feed.{Feed}
+use Rattle.pawk_window.specs.Feeds.{IsFileOf}
+use Rattle.pawk_window.specs.declared.feed.Feed.{Feed}
 use Rattle.pawk_feeds.specs.declared.flowed.Flowed.{Flowed}
 use Rattle.pawk_feeds.specs.declared.order.Order.{Order}
 
 module _ {S : Type 0} (left : S → Option (List ℕ)) where
-  -- the file of a feed: its name, and the bytes that its source has, where it says which
-  pub record IsFileOf (feed : Feed S) (file : File) : Type 0 where
-    pub name : file.name ≡ feed.name.items
-    pub bytes : IfSome (left feed.source) (λ all. file.bytes ≡ all)
-
   -- the turn of a feed: its assignments, and its file
   pub record IsTurnOf (feed : Feed S) (turn : Turn) : Type 0 where
     pub before : turn.before ≡ pairs_of feed.before.now
-    pub file : IsFileOf feed turn.file
+    pub file : IsFileOf left feed turn.file
 
   -- the turns of feeds, in order
   abbrev pub AreTurnsOf : List (Feed S) → List Turn → Type 0

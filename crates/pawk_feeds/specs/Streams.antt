@@ -9,21 +9,20 @@ use Rattle.pawk_store.specs.Openings.{pairs_of}
 use Rattle.pawk_store.specs.Globals.{Globals, calls}
 use Rattle.pawk_admit.specs.Roles.{roles_view}
 use Rattle.pawk_admit.specs.declared.role.Roles.{Roles}
-use Rattle.pawk_semantics.specs.Records.{Left, through, next_file, exit, fault, clash, End}
-use Rattle.pawk_semantics.specs.Runs.{Finish, after_records}
-use Rattle.pawk_semantics.specs.Outputs.{finish_with_output_before}
+use Rattle.pawk_store.specs.Records.{Left, through, next_file, exit, fault, clash, End}
+use Rattle.pawk_store.specs.Runs.{Finish, after_records}
+use Rattle.pawk_store.specs.Outputs.{finish_with_output_before}
 use Rattle.pawk_merge_law.specs.Phases.{Phase, MayRun}
-use Rattle.pawk_window.specs.Windows.{Contents, HaveCome, HoldsRecords, HasEnded}
-use Rattle.pawk_windows.specs.Flows.{Pairs, Turn, after_piece, rest_in_file}
-use Rattle.pawk_windows.specs.Redone.{FileFaultsOrCreates, TurnsFaultOrCreate}
+use Rattle.pawk_merge_law.specs.Flows.{Pairs, Turn, after_piece, rest_in_file}
+use Rattle.pawk_merge_law.specs.Redone.{FileFaultsOrCreates, TurnsFaultOrCreate}
 use Rattle.pawk_admit.specs.declared.reason.Reason.{Reason}
-use Rattle.pawk_threads.specs.declared.report.Route.{Route}
-use Rattle.pawk_threads.specs.declared.report.Route.TheVariants.{NotAdmitted, Redo, Parallel}
-use Rattle.pawk_threads.specs.Task.{IsCrew}
-use Rattle.pawk_threads.specs.Cuttings.{IsSized}
+use Rattle.pawk_routes.specs.declared.report.Route.{Route}
+use Rattle.pawk_routes.specs.declared.report.Route.TheVariants.{NotAdmitted, Redo, Parallel}
+use Rattle.pawk_routes.specs.Limits.{IsCrew}
+use Rattle.pawk_routes.specs.Cuttings.{IsSized}
 use Rattle.pawk_flow.specs.Operands.{assigned, rest_over}
 use Rattle.pawk_flow.specs.Pieces.{end_between, phase_between}
-use Rattle.pawk_flow.specs.declared.flow.Flow.{Flow}
+use Rattle.pawk_flow.specs.Flow.{Flow}
 use Rattle.pawk_feeds.specs.Feeds.{WroteSome}
 use Rattle.pawk_feeds.specs.declared.stream.Setting.{Setting}
 use Rattle.pawk_feeds.specs.declared.stream.Stream.{Stream}
@@ -126,17 +125,6 @@ module _ (u : Course) where
   file_left_faults (exit n) flow ts r = ⊥
   file_left_faults (fault f) flow ts r = ⊥
   file_left_faults clash flow ts r = ⊥
-
--- a window with these whole records
-abbrev pub with_records : Contents → List ℕ → Contents
-with_records w records = record { rs = w.rs; size = w.size; room = w.room; whole = records; tail = w.tail; ended = w.ended }
-
--- The next records of a source, and what they leave in a window.
-pub record Comes (left now_left : Option (List ℕ)) (before after : Contents) (records : List ℕ) : Type 0 where
-  pub bytes : HaveCome left now_left before (with_records after records)
-  pub whole : HoldsRecords (with_records after records)
-  pub end : HasEnded now_left (with_records after records)
-  pub same : after.rs ≡ before.rs
 
 -- Part of a file was read, run and written, and how the run goes on was kept: whatever else of the file follows, which is nothing
 -- where its source has ended, and whatever files. Given are what the source has and the sink took, before and after.

@@ -1,8 +1,8 @@
 //! What a run leaves whose input flowed.
 
+use pawk_par::Route;
 use pawk_sequential::Ending;
 use pawk_store::{Globals, Specials};
-use pawk_threads::Route;
 
 /// The records that a run ran last: those of one piece of a file.
 #[derive(Drop)]

@@ -1,15 +1,15 @@
 //! The laws of a run that is read piece by piece.
 
 ghost use Rattle.pawk_store.specs.Globals.{calls};
-ghost use Rattle.pawk_semantics.specs.Outputs.{OutputStaysLaw};
-ghost use Rattle.pawk_semantics.specs.Steady.{RecordsKeepLaw};
+ghost use Rattle.pawk_store.specs.Outputs.{OutputStaysLaw};
+ghost use Rattle.pawk_store.specs.Steady.{RecordsKeepLaw};
 ghost use Rattle.pawk_commute.specs.Settings.{PermitsFor};
 ghost use Rattle.pawk_merge_law.specs.Phases.{Phase};
-ghost use Rattle.pawk_windows.specs.Flows.{PieceFollowsLaw, RestOutputLaw};
-ghost use Rattle.pawk_windows.specs.Redone.{FaultOutputLaw, PieceFaultsLaw};
+ghost use Rattle.pawk_merge_law.specs.Flows.{PieceFollowsLaw, RestOutputLaw};
+ghost use Rattle.pawk_merge_law.specs.Redone.{FaultOutputLaw, PieceFaultsLaw};
 
-use pawk_semantics::law::{Policy, output_is_appended, records_keep};
-use pawk_windows::law::{faults_follow, files_follow};
+use pawk_merge_law::window_law::{faults_follow, files_follow};
+use pawk_store::law::{Policy, output_is_appended, records_keep};
 
 /// The globals of a run.
 struct PlainStore;

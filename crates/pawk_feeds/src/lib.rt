@@ -1,7 +1,6 @@
 //! Runs whose input flows: from a list of feeds to a sink, of every program, the records in threads where it allows it.
 #![tactic(auto)]
 
-mod feed;
 mod flowed;
 mod law;
 mod order;
@@ -11,7 +10,7 @@ mod run;
 mod stream;
 mod write;
 
-pub use feed::Feed;
 pub use flowed::{Flowed, LastPiece};
 pub use order::Order;
+pub use pawk_window::Feed;
 pub use run::run_feeds;

@@ -1,7 +1,7 @@
 //! Whether pieces are run in chunks.
 
 use pawk_flow::PieceEnd;
-use pawk_threads::Cutting;
+use pawk_par::Cutting;
 
 /// The least size of a chunk, in bytes, by which it is judged whether chunks are worth their merge.
 const LEAST_CHUNK: u64 = 262_144;

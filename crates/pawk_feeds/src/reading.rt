@@ -1,7 +1,7 @@
 //! The next records of a source.
 
-ghost use Rattle.std.specs.Prelude.{◌<◌, ◌^◌, IfOk, length};
-ghost use Rattle.pawk_feeds.specs.Streams.{Comes};
+ghost use Rattle.std.specs.Prelude.{IfOk};
+ghost use Rattle.pawk_window.specs.Windows.{Comes};
 
 use pawk_device::Source;
 use pawk_par::StreamRefusal;
@@ -27,9 +27,8 @@ pub(crate) fn next_records<S: Source>(
     ensures come { IfOk result (λ records. Comes (S.left source.old) (S.left source.new)
         window.old window.new records.items) }
 {
-    let small = window.take_records(buffer)?;
-    if let Err(error) = window.fill_records(source) {
-        return Err(refusal_of(error));
+    match window.next_records(buffer, source) {
+        Ok(records) => Ok(records),
+        Err(error) => Err(refusal_of(error)),
     }
-    Ok(window.take_records(small)?)
 }

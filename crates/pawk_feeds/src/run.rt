@@ -1,18 +1,16 @@
 //! Runs from feeds to a sink.
 
-ghost use Rattle.std.specs.Prelude.{◌≡◌, ◌<◌, ◌∷◌, [], List, Some, None};
-ghost use Rattle.std.specs.Prelude.{IfErr, IfOk, MatchResult, OnOk};
+ghost use Rattle.std.specs.Prelude.{◌≡◌, ◌<◌, ◌∷◌, [], List, Some, None, IfErr, IfOk, MatchResult, OnOk};
 ghost use Rattle.std.specs.Io.KnownBytes.{Appends};
-ghost use Rattle.pawk_threads.specs.Task.{IsCrew};
+ghost use Rattle.pawk_routes.specs.Limits.{IsCrew};
 ghost use Rattle.pawk_code.specs.ProgramViews.{code_view};
 ghost use Rattle.pawk_store.specs.Openings.{pairs_of};
-ghost use Rattle.pawk_windows.specs.Flows.{Turn};
+ghost use Rattle.pawk_merge_law.specs.Flows.{Turn};
 ghost use Rattle.pawk_flow.specs.Begins.{IsStart};
 ghost use Rattle.pawk_flow.specs.Operands.{run_over};
 ghost use Rattle.pawk_feeds.specs.Feeds.{AreTurnsOf, FlowsTo, WroteSome, operands_of};
 ghost use Rattle.pawk_feeds.specs.Streams.{route_from};
 
-use crate::feed::Feed;
 use crate::flowed::{Flowed, LastPiece};
 use crate::order::Order;
 use crate::pace::Pace;
@@ -21,11 +19,10 @@ use crate::write::write_on;
 use pawk_admit::{Reason, Roles};
 use pawk_device::{Sink, Source};
 use pawk_flow::{Begun, PieceRefusal, Start, begin_flow, finish_flow};
-use pawk_par::StreamRefusal;
+use pawk_par::{Cutting, Gate, Route, StreamRefusal, Way};
 use pawk_records::Separator;
 use pawk_sequential::Outcome;
-use pawk_threads::{Cutting, Gate, Route, Way};
-use pawk_window::Window;
+use pawk_window::{Feed, Window};
 use std::alloc::{AllocError, Global};
 use std::sync::Wait;
 use std::thread::Threads;

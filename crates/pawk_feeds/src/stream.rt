@@ -4,16 +4,14 @@ ghost use Rattle.std.specs.Prelude.{◌≡◌, List, IfOk, IfErr, IfSome};
 ghost use Rattle.pawk_code.specs.ProgramViews.{code_view};
 ghost use Rattle.pawk_input.specs.Input.{File};
 ghost use Rattle.pawk_admit.specs.Roles.{roles_view};
-ghost use Rattle.pawk_semantics.specs.LeftViews.{left_view};
+ghost use Rattle.pawk_store.specs.LeftViews.{left_view};
 ghost use Rattle.pawk_merge_law.specs.Phases.{FaultsOrCreates, MayRun};
 ghost use Rattle.pawk_flow.specs.Pieces.{GoesInChunks, RunsPiece, phase_between, piece_items};
-ghost use Rattle.pawk_windows.specs.Flows.{Turn};
-ghost use Rattle.pawk_feeds.specs.Feeds.{AreTurnsOf, IsFileOf, WroteSome};
-ghost use Rattle.pawk_feeds.specs.Streams.{IsReady, IsUsable, RefusesIn, RunsFile, RunsFiles};
-ghost use Rattle.pawk_feeds.specs.Streams.{RunsOn};
-ghost use Rattle.pawk_feeds.specs.Streams.{Tells, course_of, is_over, with_file, with_turns};
+ghost use Rattle.pawk_merge_law.specs.Flows.{Turn};
+ghost use Rattle.pawk_feeds.specs.Feeds.{AreTurnsOf, WroteSome};
+ghost use Rattle.pawk_window.specs.Feeds.{IsFileOf};
+ghost use Rattle.pawk_feeds.specs.Streams.{IsReady, IsUsable, RefusesIn, RunsFile, RunsFiles, RunsOn, Tells, course_of, is_over, with_file, with_turns};
 
-use crate::feed::Feed;
 use crate::law::{routes_go_on, runs_go_on};
 use crate::pace::Pace;
 use crate::reading::next_records;
@@ -24,11 +22,10 @@ use pawk_flow::{
     Flow, Piece, PieceEnd, PieceRefusal, assign, assignments_keep_ready, run_piece_in_chunks,
     run_piece_in_turn, run_piece_noting,
 };
-use pawk_par::StreamRefusal;
+use pawk_par::{Cutting, Gate, StreamRefusal, Way};
 use pawk_sequential::{Job, Left};
 use pawk_settings::Assignment;
-use pawk_threads::{Cutting, Gate, Way};
-use pawk_window::Window;
+use pawk_window::{Feed, Window};
 use std::alloc::Global;
 use std::sync::Wait;
 use std::thread::Threads;

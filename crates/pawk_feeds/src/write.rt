@@ -2,7 +2,7 @@
 
 ghost use Rattle.std.specs.Prelude.{IfErr, OnOk};
 ghost use Rattle.std.specs.Io.KnownBytes.{Appends};
-ghost use Rattle.pawk_semantics.specs.Outputs.{in_a_row};
+ghost use Rattle.pawk_store.specs.Outputs.{in_a_row};
 ghost use Rattle.pawk_feeds.specs.Feeds.{WroteSome};
 
 use pawk_device::Sink;

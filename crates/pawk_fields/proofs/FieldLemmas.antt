@@ -1,7 +1,7 @@
 -- The fields that the function gives are those of the relation.
 use Rattle.std.proofs.Common.{◌≡◌, ℕ, ◌+◌, ◌<◌, ◌≤◌, arith, Bool, true, false, ◌&&◌, cond, eqb, ltb, Option, Some, None, Result, Ok, Err, List, [], ◌∷◌, length, drop, refl, sym, ap, ◌∙◌, subst, inl, inr, ⊎_elim, eqb-true, eq-eqb}
 use Rattle.std.proofs.lemmas.Bool.{cases_lt, ltb-true, lt-ltb}
-use Rattle.pawk_value.specs.Fault.{Fault}
+use Rattle.pawk_value.specs.declared.faults.Fault.{Fault}
 use Rattle.pawk_ere_syntax.specs.Pattern.{Pattern, StartsNone}
 use Rattle.pawk_ere_automaton.specs.Expand.{expand}
 use Rattle.pawk_ere_automaton.specs.Regex.{Takes}

@@ -1,7 +1,7 @@
 -- Fields by an expression are fields by an FS.
 use Rattle.std.proofs.Common.{◌≡◌, ℕ, ◌≤◌, Bool, List, [], ◌∷◌, Result, Ok, Err, OnOk, length, arith}
 use Rattle.std.specs.declared.ops.Range.{Range}
-use Rattle.pawk_value.specs.Stop.{Stop}
+use Rattle.pawk_value.specs.declared.faults.Stop.{Stop}
 use Rattle.pawk_fields.specs.Between.{AreFieldsBetween}
 use Rattle.pawk_fields.specs.FieldsOf.{AddsBetween, AddsFields, AreFieldsOf}
 

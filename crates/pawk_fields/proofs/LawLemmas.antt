@@ -4,7 +4,7 @@ use Rattle.std.proofs.lemmas.Bool.{cases_lt}
 use Rattle.std.proofs.lemmas.List.Folds.{drop_split}
 use Rattle.std.specs.List.{slice_range}
 use Rattle.pawk_value.specs.Bytes.{is_blank}
-use Rattle.pawk_value.specs.Fault.{Fault}
+use Rattle.pawk_value.specs.declared.faults.Fault.{Fault}
 use Rattle.pawk_ere_syntax.specs.Pattern.{Pattern, Leftmost, NoneFrom}
 use Rattle.pawk_ere_syntax.proofs.Progress.{spells_one}
 use Rattle.pawk_fields.specs.Splits.{pieces_from, words_from, separates}

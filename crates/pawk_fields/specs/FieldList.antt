@@ -4,8 +4,8 @@ use Rattle.std.specs.Prelude.{ℕ, ◌+◌, ◌==◌, ◌&&◌, Bool, Option, So
 use Rattle.pawk_ere_syntax.specs.Pattern.{Pattern}
 use Rattle.pawk_ere_automaton.specs.Expand.{expand}
 use Rattle.pawk_ere_automaton.specs.Regex.{Regex}
-use Rattle.pawk_value.specs.Fault.{Fault}
-use Rattle.pawk_value.specs.Fault.TheVariants.{Fs, Ere}
+use Rattle.pawk_value.specs.declared.faults.Fault.{Fault}
+use Rattle.pawk_value.specs.declared.faults.Fault.TheVariants.{Fs, Ere}
 use Rattle.pawk_fields.specs.FieldSeparator.{ranges_by}
 use Rattle.pawk_fields.specs.FieldsOf.{separator_of}
 use Rattle.pawk_fields.specs.ReadEre.{read_ere}

@@ -3,10 +3,10 @@
 use Rattle.std.specs.Prelude.{◌≡◌, ℕ, ◌==◌, Bool, if◌then◌else◌, List, [], ◌∷◌, map, ◌++◌, length}
 use Rattle.std.specs.declared.ops.Range.{Range}
 use Rattle.pawk_ere_syntax.specs.Tokens.{SpellsNone}
-use Rattle.pawk_value.specs.Fault.{Fault}
-use Rattle.pawk_value.specs.Fault.TheVariants.{Fs, Ere}
-use Rattle.pawk_value.specs.Stop.{Stop}
-use Rattle.pawk_value.specs.Stop.TheVariants as stops
+use Rattle.pawk_value.specs.declared.faults.Fault.{Fault}
+use Rattle.pawk_value.specs.declared.faults.Fault.TheVariants.{Fs, Ere}
+use Rattle.pawk_value.specs.declared.faults.Stop.{Stop}
+use Rattle.pawk_value.specs.declared.faults.Stop.TheVariants as stops
 use Rattle.pawk_fields.specs.declared.separator.FieldSeparator.{FieldSeparator}
 use Rattle.pawk_fields.specs.declared.separator.FieldSeparator.TheVariants.{Blanks, Byte, ByteOrNewline}
 use Rattle.pawk_fields.specs.FieldSeparator.{ranges_by, range_of}

@@ -1,6 +1,6 @@
 -- The law of fields: they are in order, with what separates them they are the record, and there is one list of them.
 use Rattle.std.specs.Prelude.{◌≡◌, ℕ, ◌≤◌, Bool, List, [], ◌∷◌, ◌++◌, length, drop, slice_range}
-use Rattle.pawk_value.specs.Fault.{Fault}
+use Rattle.pawk_value.specs.declared.faults.Fault.{Fault}
 use Rattle.pawk_fields.specs.FieldsOf.{AreFieldsOf, IsFaultOf}
 
 -- the ranges are from one place up to another, each at the end of the one before or after it

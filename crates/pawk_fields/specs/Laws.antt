@@ -1,6 +1,6 @@
 -- The functions are the relations by which matchers and splitters are proved.
 use Rattle.std.specs.Prelude.{◌≡◌, ◌↔◌, ℕ, Bool, Option, Some, None, Ok, Err, List}
-use Rattle.pawk_value.specs.Fault.{Fault}
+use Rattle.pawk_value.specs.declared.faults.Fault.{Fault}
 use Rattle.pawk_ere_syntax.specs.Pattern.{Pattern}
 use Rattle.pawk_ere_syntax.specs.Tokens.{SpellsEre, SpellsNone}
 use Rattle.pawk_ere.specs.Answers.{IsAnswer}

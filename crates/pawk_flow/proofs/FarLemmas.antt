@@ -1,19 +1,18 @@
 -- Chunks that were merged as far as they can be, and the records of the others.
 use Rattle.std.proofs.Common.{◌≡◌, ◌∙◌, ◌<◌, ◌∷◌, ℕ, List, [], length, drop, ap, sym, subst, true, false, Some, None, Option}
-use Rattle.std.specs.Prelude.{All, MatchOption}
+use Rattle.std.specs.Prelude.{All, MatchOption, is_some}
 use Rattle.std.specs.List.{flat_map}
 use Rattle.std.specs.Option.{option_map}
 use Rattle.std.proofs.lemmas.List.Elements.{All-nil, All-cons, All-head, All-tail}
-use Rattle.pawk_input.specs.Input.{File, Item}
+use Rattle.pawk_input.specs.Input.{File, Item, files_of}
 use Rattle.pawk_input.specs.Plan.{IsChunkOf, IsPlaced, ArePlaced, chunk_items}
-use Rattle.pawk_input.specs.Input.{files_of}
 use Rattle.pawk_input.specs.declared.cutting.Chunk.{Chunk}
 use Rattle.pawk_code.specs.ProgramViews.{code_view}
 use Rattle.pawk_store.specs.Globals.{Globals, calls}
 use Rattle.pawk_store.specs.StateViews.{state_of}
-use Rattle.pawk_semantics.specs.Records.{End, through}
-use Rattle.pawk_semantics.specs.Runs.{records_from}
-use Rattle.pawk_semantics.specs.LeftViews.{left_view}
+use Rattle.pawk_store.specs.Records.{End, through}
+use Rattle.pawk_store.specs.Runs.{records_from}
+use Rattle.pawk_store.specs.LeftViews.{left_view}
 use Rattle.pawk_merge.specs.MergeViews.{end_view}
 use Rattle.pawk_merge.specs.ExtentViews.{extent_view, stop_view}
 use Rattle.pawk_merge.specs.declared.extent.Extent.{Extent}
@@ -22,17 +21,17 @@ use Rattle.pawk_merge_law.specs.Phases.{MayRun, in_order}
 use Rattle.pawk_merge_law.specs.Gathered.{AreNumbered}
 use Rattle.pawk_chunks.specs.declared.task.Chunked.{Chunked}
 use Rattle.pawk_admit.specs.declared.role.Roles.{Roles as CodeRoles}
-use Rattle.pawk_sequential.specs.declared.job.Job.{Job}
-use Rattle.pawk_threads.specs.declared.prologue.Prologue.{Prologue}
-use Rattle.pawk_windows.specs.Windows.{phase_at}
+use Rattle.pawk_pieces.specs.Job.{Job}
+use Rattle.pawk_routes.specs.declared.prologue.Prologue.{Prologue}
+use Rattle.pawk_merge_law.specs.Windows.{phase_at}
 use Rattle.pawk_code.specs.Programs.{Code}
-use Rattle.pawk_semantics.specs.Outputs.{in_a_row, with_output_before}
-use Rattle.pawk_semantics.proofs.Framing.{records_append}
+use Rattle.pawk_store.specs.Outputs.{in_a_row, with_output_before}
+use Rattle.pawk_store.proofs.Framing.{records_append}
 use Rattle.std.proofs.lemmas.List.{append-nil}
-use Rattle.std.specs.Prelude.{is_some}
 use Rattle.pawk_merge.specs.declared.merging.Merged.{Merged}
-use Rattle.pawk_flow.specs.Merged.{FarResultsLaw, IsMergedFar, AllMerged, SomeMerged}
-use Rattle.pawk_flow.specs.Stages.{IsFarFrom, LeavesOut, RunsOn, WentFar, items_in, opening_at, phase_in, remnant_end}
+use Rattle.pawk_pieces.specs.Merged.{FarResultsLaw, IsMergedFar, AllMerged, SomeMerged}
+use Rattle.pawk_chunks.specs.Task.{items_in}
+use Rattle.pawk_flow.specs.Stages.{IsFarFrom, LeavesOut, RunsOn, WentFar, opening_at, phase_in, remnant_end}
 use Rattle.pawk_flow.specs.declared.window.Remnant.{Remnant}
 
 -- chunks that have their places are chunks of the files

@@ -5,18 +5,18 @@ use Rattle.pawk_code.specs.Programs.{Code}
 use Rattle.pawk_input.specs.Input.{Item}
 use Rattle.pawk_store.specs.Globals.{Globals, calls}
 use Rattle.pawk_admit.specs.Roles.{Roles}
-use Rattle.pawk_semantics.specs.Records.{End}
-use Rattle.pawk_semantics.specs.Runs.{records_from}
-use Rattle.pawk_semantics.specs.LeftViews.{left_view}
-use Rattle.pawk_commute.specs.Traces.{Traced, traced}
-use Rattle.pawk_commute.specs.TracedRuns.{TracedLaw, plain}
+use Rattle.pawk_store.specs.Records.{End}
+use Rattle.pawk_store.specs.Runs.{records_from}
+use Rattle.pawk_store.specs.LeftViews.{left_view}
+use Rattle.pawk_merge_law.specs.Traces.{Traced, traced}
+use Rattle.pawk_merge_law.specs.TracedRuns.{TracedLaw, plain}
 use Rattle.pawk_merge_law.specs.Phases.{Phase, MayRun, CreatesElement, FaultsOrCreates, IsFault, in_order, in_order_traced, traced_opening}
-use Rattle.pawk_windows.specs.Windows.{MayRunOnLaw, phase_at}
-use Rattle.pawk_flow.specs.Pieces.{GoesInChunks, passed_end, phase_between, piece_end, piece_items}
+use Rattle.pawk_merge_law.specs.Windows.{MayRunOnLaw, phase_at}
+use Rattle.pawk_pieces.specs.Pieces.{GoesInChunks, passed_end, phase_between, piece_end, piece_items}
 use Rattle.pawk_flow.specs.Stages.{flow_end}
-use Rattle.pawk_flow.specs.declared.flow.Flow.{Flow}
-use Rattle.pawk_flow.specs.declared.piece.Piece.{Piece}
-use Rattle.pawk_flow.specs.declared.piece.PieceEnd.{PieceEnd}
+use Rattle.pawk_pieces.specs.declared.flow.Flow.{Flow}
+use Rattle.pawk_pieces.specs.declared.piece.Piece.{Piece}
+use Rattle.pawk_pieces.specs.declared.piece.PieceEnd.{PieceEnd}
 
 -- A test says whether one of two facts holds.
 abbrev pub Tests : Bool → Type 0 → Type 0 → Type 0

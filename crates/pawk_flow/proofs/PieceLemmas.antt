@@ -11,26 +11,24 @@ use Rattle.pawk_input.proofs.ItemsLemmas.{length-file_items}
 use Rattle.pawk_world.specs.Worlds.{Calls}
 use Rattle.pawk_store.specs.Globals.{Globals, calls}
 use Rattle.pawk_store.specs.RecordStates.{RecordState}
-use Rattle.pawk_semantics.specs.Records.{End, through}
-use Rattle.pawk_semantics.specs.Runs.{records_from}
+use Rattle.pawk_store.specs.Records.{End, through}
+use Rattle.pawk_store.specs.Runs.{records_from}
 use Rattle.pawk_merge_law.specs.Phases.{Phase, in_order}
-use Rattle.pawk_merge_law.specs.Gathered.{AreNumbered}
-use Rattle.pawk_merge_law.proofs.NumberLemmas.{file_numbered}
-use Rattle.pawk_windows.specs.Flows.{FnrLaw, NumbersLaw}
-use Rattle.pawk_windows.specs.Redone.{FaultNumbersLaw}
+use Rattle.pawk_merge_law.specs.Flows.{FnrLaw, NumbersLaw}
+use Rattle.pawk_merge_law.specs.Redone.{FaultNumbersLaw}
 use Rattle.pawk_code.specs.ProgramViews.{code_view}
 use Rattle.pawk_admit.specs.Roles.{Roles, roles_view}
 use Rattle.pawk_admit.specs.declared.role.Roles.{Roles as CodeRoles}
-use Rattle.pawk_semantics.specs.Outputs.{in_a_row}
-use Rattle.pawk_semantics.specs.LeftViews.{left_view}
-use Rattle.pawk_sequential.specs.declared.job.Job.{Job}
-use Rattle.pawk_threads.specs.declared.prologue.Prologue.{Prologue}
-use Rattle.pawk_threads.specs.Prologue.{end_of}
-use Rattle.pawk_flow.specs.Pieces.{GoesInChunks, RunsPiece, end_between, passed_end, phase_between, piece_end, piece_items, piece_records}
+use Rattle.pawk_store.specs.Outputs.{in_a_row}
+use Rattle.pawk_store.specs.LeftViews.{left_view}
+use Rattle.pawk_pieces.specs.Job.{Job}
+use Rattle.pawk_routes.specs.Prologue.{end_of}
+use Rattle.pawk_routes.specs.declared.prologue.Prologue.{Prologue}
+use Rattle.pawk_pieces.specs.Pieces.{GoesInChunks, RunsPiece, end_between, passed_end, phase_between, piece_end, piece_items, piece_records}
 use Rattle.pawk_flow.specs.Stages.{EndsAs, WentFar, phase_in}
-use Rattle.pawk_flow.specs.declared.flow.Flow.{Flow}
-use Rattle.pawk_flow.specs.declared.piece.Piece.{Piece}
-use Rattle.pawk_flow.specs.declared.piece.PieceEnd.{PieceEnd}
+use Rattle.pawk_pieces.specs.declared.flow.Flow.{Flow}
+use Rattle.pawk_pieces.specs.declared.piece.Piece.{Piece}
+use Rattle.pawk_pieces.specs.declared.piece.PieceEnd.{PieceEnd}
 
 -- the records of a file that is the only one
 pub of_one : (rs : List ℕ) (files : List File) (f : File) (nr fnr : ℕ) (is : List Item) → files ≡ f ∷ [] →
@@ -166,8 +164,3 @@ module _ (piece : Piece) (files : List File) (plan : List Chunk) (nr : ℕ)
 -- records in order from a phase that is this one
 pub order_at : (p q : Phase) (x : End Globals) (items : List Item) → p ≡ q → in_order p items ≡ x → in_order q items ≡ x
 order_at p q x items same ends = ap (λ (r : Phase). in_order r items) (sym same) ∙ ends
-
--- records of a file are numbered on from those that came before
-pub numbered_on : (n nr fnr : ℕ) (name : List ℕ) (records : List (List ℕ)) (is : List Item) → n ≡ nr → is ≡ file_items 0 name nr fnr records → AreNumbered n is
-numbered_on n nr fnr name records is from same =
-    subst (λ k. AreNumbered k is) (sym from) (subst (λ items. AreNumbered nr items) (sym same) (file_numbered 0 name nr fnr records))

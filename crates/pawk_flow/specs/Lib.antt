@@ -1,5 +1,10 @@
-pub mod Operands
-pub mod Pieces
-pub mod Begins
-pub mod Merged
 pub mod Stages
+pub use Rattle.pawk_pieces.specs.Operands
+pub use Rattle.pawk_pieces.specs.Pieces
+pub use Rattle.pawk_pieces.specs.Begins
+pub use Rattle.pawk_pieces.specs.Merged
+pub use Rattle.pawk_pieces.specs.declared.begin.Begun
+pub use Rattle.pawk_pieces.specs.declared.begin.Start
+pub use Rattle.pawk_pieces.specs.declared.flow.Flow
+pub use Rattle.pawk_pieces.specs.declared.piece.Piece
+pub use Rattle.pawk_pieces.specs.declared.piece.PieceEnd

@@ -10,23 +10,23 @@ use Rattle.pawk_store.specs.Globals.{Globals, calls}
 use Rattle.pawk_store.specs.RecordStates.{RecordState}
 use Rattle.pawk_store.specs.StateViews.{state_of}
 use Rattle.pawk_merge.specs.Merges.{before_chunks}
-use Rattle.pawk_semantics.specs.Records.{through, End}
-use Rattle.pawk_semantics.specs.Runs.{records_from}
-use Rattle.pawk_semantics.specs.Outputs.{in_a_row}
-use Rattle.pawk_semantics.specs.LeftViews.{left_view}
+use Rattle.pawk_store.specs.Records.{through, End}
+use Rattle.pawk_store.specs.Runs.{records_from}
+use Rattle.pawk_store.specs.Outputs.{in_a_row}
+use Rattle.pawk_store.specs.LeftViews.{left_view}
 use Rattle.pawk_merge.specs.MergeViews.{chunk_of, end_view}
 use Rattle.pawk_merge.specs.Extents.{merge_far}
 use Rattle.pawk_merge.specs.ExtentViews.{extent_view}
 use Rattle.pawk_merge.specs.declared.extent.Extent.{Extent}
 use Rattle.pawk_merge.specs.declared.chunk_result.ChunkResult.{ChunkResult}
-use Rattle.pawk_chunks.specs.Chunks.{Opening, chunk_end, AreResults}
+use Rattle.pawk_merge_law.specs.Chunks.{Opening, chunk_end, AreResults}
 use Rattle.pawk_chunks.specs.declared.task.Chunked.{Chunked}
-use Rattle.pawk_sequential.specs.declared.job.Job.{Job}
-use Rattle.pawk_threads.specs.declared.prologue.Prologue.{Prologue}
+use Rattle.pawk_pieces.specs.Job.{Job}
+use Rattle.pawk_routes.specs.declared.prologue.Prologue.{Prologue}
 use Rattle.pawk_merge_law.specs.Phases.{Phase, MayRun, FaultsOrCreates}
 use Rattle.pawk_merge_law.specs.Gathered.{phase_of}
-use Rattle.pawk_windows.specs.Windows.{phase_at}
-use Rattle.pawk_flow.specs.declared.piece.PieceEnd.{PieceEnd}
+use Rattle.pawk_merge_law.specs.Windows.{phase_at}
+use Rattle.pawk_pieces.specs.declared.piece.PieceEnd.{PieceEnd}
 use Rattle.pawk_flow.specs.declared.window.Remnant.{Remnant}
 
 -- what the chunks begin with
@@ -38,10 +38,6 @@ opening_at job roles b = record {
   roles = roles_view roles;
   state = state_of b.run.state;
 }
-
--- the records of all chunks
-abbrev pub items_in : Chunked → List Item
-items_in source = flat_map (chunk_items source.rs.now (files_of source.input.now)) source.plan.now
 
 -- the chunks, as a phase of their own
 abbrev pub phase_in : Job → CodeRoles → Prologue → Phase

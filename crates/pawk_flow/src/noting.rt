@@ -3,20 +3,17 @@
 ghost use Rattle.std.specs.Prelude.{◌↔◌, ◌≤◌, length, IfOk, IsTrue};
 ghost use Rattle.pawk_code.specs.ProgramViews.{code_view};
 ghost use Rattle.pawk_admit.specs.Roles.{roles_view};
-ghost use Rattle.pawk_semantics.specs.LeftViews.{left_view};
+ghost use Rattle.pawk_store.specs.LeftViews.{left_view};
 ghost use Rattle.pawk_merge_law.specs.Phases.{IsFault, MayRun};
-ghost use Rattle.pawk_flow.specs.Pieces.{GoesInChunks, RunsPiece, phase_between};
+ghost use Rattle.pawk_pieces.specs.Pieces.{GoesInChunks, RunsPiece, phase_between};
 
-use crate::flow::Flow;
-use crate::piece::{Piece, PieceEnd};
-use crate::refusal::PieceRefusal;
 use crate::turn::run_piece_over;
 use pawk_admit::Roles;
-use pawk_commute::law::trace_changes_nothing;
-use pawk_merge_law::law::Store;
+use pawk_merge_law::merge_law::Store;
+use pawk_merge_law::trace_changes_nothing;
+use pawk_merge_law::window_law::{may_run_on, numbers_alike};
 use pawk_noted::NotedGlobals;
-use pawk_sequential::{Job, Left};
-use pawk_windows::law::{may_run_on, numbers_alike};
+use pawk_pieces::{Flow, Job, Left, Piece, PieceEnd, PieceRefusal};
 
 /// Whether records ended in a fault.
 fn is_fault(left: Left) -> bool

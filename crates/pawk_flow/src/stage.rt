@@ -1,26 +1,25 @@
 //! Records of a piece that are run.
 
 ghost use Rattle.std.specs.Prelude.{◌≡◌, ◌<◌, ◌≤◌, None, drop, flat_map, length, OnOk, IfOk};
-ghost use Rattle.pawk_board.specs.Limits.{most_chunks};
+ghost use Rattle.pawk_board.specs.Limits.{most_chunks, IsCrew};
 ghost use Rattle.pawk_code.specs.ProgramViews.{code_view};
 ghost use Rattle.pawk_input.specs.Input.{files_of};
 ghost use Rattle.pawk_input.specs.Plan.{AreConsecutive, ArePlaced, chunk_items};
 ghost use Rattle.pawk_store.specs.Globals.{calls};
-ghost use Rattle.pawk_semantics.specs.Records.{through};
-ghost use Rattle.pawk_semantics.specs.Runs.{records_from};
-ghost use Rattle.pawk_semantics.specs.declared.left.Left.TheVariants.{Through};
-ghost use Rattle.pawk_sequential.specs.Ends.{end_view};
-ghost use Rattle.pawk_chunks.specs.Task.{IsChunked, IsCrew};
-ghost use Rattle.pawk_threads.specs.Prologue.{end_of};
-ghost use Rattle.pawk_flow.specs.Stages.{IsFarFrom, items_in};
+ghost use Rattle.pawk_store.specs.Records.{through};
+ghost use Rattle.pawk_store.specs.Runs.{records_from};
+ghost use Rattle.pawk_store.specs.declared.left.Left.TheVariants.{Through};
+ghost use Rattle.pawk_pieces.specs.Ends.{end_view};
+ghost use Rattle.pawk_chunks.specs.Task.{IsChunked, items_in};
+ghost use Rattle.pawk_routes.specs.Prologue.{end_of};
+ghost use Rattle.pawk_flow.specs.Stages.{IsFarFrom};
 
-use crate::refusal::PieceRefusal;
 use pawk_admit::Roles;
 use pawk_chunks::{Chunked, Gate, Opening, run_chunks};
 use pawk_merge::{Extent, merge_far};
-use pawk_sequential::{Job, Left, Run, run_records};
+use pawk_pieces::{Job, Left, PieceRefusal, Run, run_records};
+use pawk_routes::Prologue;
 use pawk_store::RecordState;
-use pawk_threads::Prologue;
 use pawk_world::World;
 use std::alloc::AllocError;
 use std::mem;

@@ -4,27 +4,24 @@ ghost use Rattle.std.specs.Prelude.{◌≡◌, ◌+◌, ◌≤◌, false, length
 ghost use Rattle.pawk_code.specs.ProgramViews.{code_view};
 ghost use Rattle.pawk_input.specs.Input.{files_of};
 ghost use Rattle.pawk_input.specs.Plan.{AreConsecutive, ArePlaced};
-ghost use Rattle.pawk_semantics.specs.LeftViews.{left_view};
-ghost use Rattle.pawk_semantics.specs.Records.{through};
-ghost use Rattle.pawk_semantics.specs.Runs.{records_from};
-ghost use Rattle.pawk_semantics.specs.declared.left.Left.TheVariants.{Through};
-ghost use Rattle.pawk_sequential.specs.Ends.{end_view};
-ghost use Rattle.pawk_chunks.specs.Task.{IsChunked};
-ghost use Rattle.pawk_windows.specs.Flows.{FnrLaw, NumbersLaw};
-ghost use Rattle.pawk_flow.specs.Pieces.{RunsPiece, passed_end, piece_items, piece_records};
-ghost use Rattle.pawk_flow.specs.Stages.{flow_end, items_in};
+ghost use Rattle.pawk_store.specs.LeftViews.{left_view};
+ghost use Rattle.pawk_store.specs.Records.{through};
+ghost use Rattle.pawk_store.specs.Runs.{records_from};
+ghost use Rattle.pawk_store.specs.declared.left.Left.TheVariants.{Through};
+ghost use Rattle.pawk_pieces.specs.Ends.{end_view};
+ghost use Rattle.pawk_chunks.specs.Task.{IsChunked, items_in};
+ghost use Rattle.pawk_merge_law.specs.Flows.{FnrLaw, NumbersLaw};
+ghost use Rattle.pawk_pieces.specs.Pieces.{RunsPiece, passed_end, piece_items, piece_records};
+ghost use Rattle.pawk_flow.specs.Stages.{flow_end};
 
-use crate::flow::Flow;
-use crate::law::PlainStore;
-use crate::piece::{Piece, PieceEnd};
-use crate::plan::{input_of, plan_after, plan_of_one};
-use crate::refusal::PieceRefusal;
 use crate::stage::run_all;
 use crate::window::close;
 use pawk_chunks::Chunked;
-use pawk_sequential::{Job, Run};
+use pawk_merge_law::window_law::numbers_alike;
+use pawk_pieces::{
+    Flow, Job, Piece, PieceEnd, PieceRefusal, PlainStore, Run, input_of, plan_after, plan_of_one,
+};
 use pawk_store::KeptState;
-use pawk_windows::law::numbers_alike;
 use pawk_world::World;
 use std::alloc::{AllocError, Global};
 

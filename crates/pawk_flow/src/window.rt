@@ -1,7 +1,7 @@
 //! Pieces that are run in chunks.
 
 ghost use Rattle.std.specs.Prelude.{◌≡◌, ◌<◌, ◌≤◌, [], length, IfOk};
-ghost use Rattle.pawk_board.specs.Limits.{most_chunks};
+ghost use Rattle.pawk_board.specs.Limits.{most_chunks, IsCrew};
 ghost use Rattle.pawk_code.specs.ProgramViews.{code_view};
 ghost use Rattle.pawk_input.specs.Input.{files_of};
 ghost use Rattle.pawk_input.specs.Plan.{AreConsecutive, ArePlaced};
@@ -9,27 +9,24 @@ ghost use Rattle.pawk_admit.specs.Roles.{roles_view};
 ghost use Rattle.pawk_store.specs.StateViews.{state_of};
 ghost use Rattle.pawk_merge_law.specs.Phases.{MayRun, in_order};
 ghost use Rattle.pawk_merge_law.specs.Gathered.{AreNumbered};
-ghost use Rattle.pawk_chunks.specs.Task.{IsChunked, IsCrew};
-ghost use Rattle.pawk_threads.specs.Cuttings.{IsSized};
-ghost use Rattle.pawk_threads.specs.Prologue.{end_of};
-ghost use Rattle.pawk_flow.specs.Pieces.{GoesInChunks, RunsPiece, phase_between, piece_end};
-ghost use Rattle.pawk_flow.specs.Stages.{EndsAs, LeavesOut, RunsOn, WentFar, flow_end};
-ghost use Rattle.pawk_flow.specs.Stages.{items_in, phase_in};
+ghost use Rattle.pawk_chunks.specs.Task.{IsChunked, items_in};
+ghost use Rattle.pawk_routes.specs.Cuttings.{IsSized};
+ghost use Rattle.pawk_routes.specs.Prologue.{end_of};
+ghost use Rattle.pawk_pieces.specs.Pieces.{GoesInChunks, RunsPiece, phase_between, piece_end};
+ghost use Rattle.pawk_flow.specs.Stages.{EndsAs, LeavesOut, RunsOn, WentFar, flow_end, phase_in};
 
-use crate::flow::Flow;
-use crate::law::{PlainStore, results_merge_far};
-use crate::piece::{Piece, PieceEnd};
-use crate::plan::{bytes_of, input_of, plan_after};
-use crate::refusal::PieceRefusal;
 use crate::stage::{merge_chunks, run_from};
 use pawk_admit::Roles;
 use pawk_chunks::{Chunked, Gate};
 use pawk_input::Input;
 use pawk_merge::{Extent, Merged};
-use pawk_sequential::{Job, Left, Run};
+use pawk_merge_law::window_law::{faults_follow, numbers_alike};
+use pawk_pieces::{
+    Flow, Job, Left, Piece, PieceEnd, PieceRefusal, PlainStore, Run, bytes_of, input_of,
+    plan_after, results_merge_far,
+};
+use pawk_routes::{Prologue, Way, plan_of};
 use pawk_store::{Globals, RecordState};
-use pawk_threads::{Prologue, Way, plan_of};
-use pawk_windows::law::{faults_follow, numbers_alike};
 use std::alloc::{AllocError, Global};
 use std::mem;
 use std::sync::Wait;

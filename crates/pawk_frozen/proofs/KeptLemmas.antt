@@ -5,7 +5,7 @@ use Rattle.pawk_world.specs.declared.halt.Halt.{Halt as Code}
 use Rattle.pawk_world.specs.Answers.{Answers}
 use Rattle.pawk_world.specs.Worlds.{Cell, Answer, gives, halts}
 use Rattle.pawk_world.specs.Halts as halt
-use Rattle.pawk_value.specs.Fault.TheVariants as fault
+use Rattle.pawk_value.specs.declared.faults.Fault.TheVariants as fault
 use Rattle.pawk_frozen.specs.Marks.{Mark, blank, summed, last_put, created}
 use Rattle.pawk_frozen.specs.Frozens.{Frozen, is_sum, kept_mark, noted}
 use Rattle.pawk_frozen.specs.MarkViews.{kept}

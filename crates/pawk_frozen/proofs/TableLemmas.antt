@@ -3,8 +3,8 @@ use Rattle.std.proofs.Common.{◌≡◌, ◌≢◌, ◌<◌, ℕ, ℤ, Bool, tru
 use Rattle.std.specs.Int.{int_min, int_max}
 use Rattle.std.specs.Prelude.{◌+ℤ◌, Result, Ok, Err, OnErr, slice_set, if◌then◌else◌}
 use Rattle.std.proofs.lemmas.List.{set-get_or, map-set, get_or-map, get_or_default}
-use Rattle.pawk_value.specs.Fault.{Fault}
-use Rattle.pawk_value.specs.Fault.TheVariants as fault
+use Rattle.pawk_value.specs.declared.faults.Fault.{Fault}
+use Rattle.pawk_value.specs.declared.faults.Fault.TheVariants as fault
 use Rattle.pawk_code.specs.declared.word.Sign.{Sign}
 use Rattle.pawk_store.specs.Globals.{Globals}
 use Rattle.pawk_world.specs.declared.halt.Halt.{Halt as Code}

@@ -1,7 +1,7 @@
 -- The globals as BEGIN left them, which a chunk does not change, and the table of what it notes.
 use Rattle.std.specs.Prelude.{ℕ, ℤ, pos, ◌-ℤ◌, ◌^◌, ◌&&◌, Bool, if◌then◌else◌, List, length, Option, Some, None, Result, Ok, Err, is_some, int_le}
-use Rattle.pawk_value.specs.Fault.{Fault}
-use Rattle.pawk_value.specs.Fault.TheVariants as fault
+use Rattle.pawk_value.specs.declared.faults.Fault.{Fault}
+use Rattle.pawk_value.specs.declared.faults.Fault.TheVariants as fault
 use Rattle.pawk_value.specs.Value.{Val, Uninit}
 use Rattle.pawk_array.specs.Entries.{found, keys}
 use Rattle.pawk_code.specs.declared.word.Sign.{Sign}

@@ -2,7 +2,7 @@
 use Rattle.std.specs.Prelude.{List, if◌then◌else◌}
 use Rattle.pawk_keyed_map.specs.declared.key.Key.{Key}
 use Rattle.pawk_keyed_map.specs.Pairs.{seen_by}
-use Rattle.pawk_value.specs.Fault.TheVariants as fault
+use Rattle.pawk_value.specs.declared.faults.Fault.TheVariants as fault
 use Rattle.pawk_value.specs.Value.{shown}
 use Rattle.pawk_world.specs.Halts as halt
 use Rattle.pawk_world.specs.Worlds.{Answer, gives, halts}

@@ -7,8 +7,8 @@ use Rattle.std.proofs.lemmas.Int.{ints}
 use Rattle.pawk_words.specs.declared.word.Gap.{Gap}
 use Rattle.pawk_words.specs.declared.word.Gap.TheVariants.{Space, Newline}
 use Rattle.pawk_words.specs.Words.{Word, number, text, IsWord, size_limit, written, written_all}
-use Rattle.pawk_scalar.specs.Range.{FitsWord}
-use Rattle.pawk_scalar.specs.Value.{Uninit, Num, Text, Maybe}
+use Rattle.pawk_value.specs.Range.{FitsWord}
+use Rattle.pawk_value.specs.Value.{Uninit, Num, Text, Maybe}
 use Rattle.pawk_lines.specs.declared.name.TheConstants.{LINE_NAMES, MARK_NAMES}
 use Rattle.pawk_lines.specs.declared.failure.Failure.{Failure}
 use Rattle.pawk_lines.specs.declared.name.Name.{Name}
@@ -19,7 +19,7 @@ use Rattle.pawk_lines.specs.declared.name.TextLine.{TextLine}
 use Rattle.pawk_lines.specs.declared.name.TextLine.TheVariants as t
 use Rattle.pawk_lines.specs.declared.name.MarkName.{MarkName}
 use Rattle.pawk_lines.specs.declared.name.MarkName.TheVariants as m
-use Rattle.pawk_lines.specs.Lines.{Line, format, program, budget, assign, shard, before, file, part, output, scalar, array, element, last, records, end, Mark, sum, put, created, IsCount, IsText, IsMark, IsLine, count, mark_words, line_words, BeginsLine}
+use Rattle.pawk_lines.specs.Lines.{Line, format, program, budget, assign, shard, before, file, part, output, scalar, array, element, last, records, end, Mark, added, sum, put, created, IsCount, IsText, IsMark, IsLine, count, mark_words, line_words, BeginsLine}
 use Rattle.pawk_lines.specs.Names.{name_words, spelling, number_line_of, text_line_of}
 use Rattle.pawk_lines.specs.Reading.{IsWithin, Numbers, Texts, OneOf, Lines, Marks, AfterLine, AfterMark, IsLineAfter, IsMarkAfter, Fails}
 use Rattle.pawk_lines.proofs.Turns.{IsCode, Turn, Then, in_turn, one_word, one_written, written_append, fail_first, fail_next, fail_same}
@@ -89,7 +89,7 @@ abbrev pub form : Name → List (Word × Gap) → Type 0
 form (a.Number x) = Counts Newline
 form (a.Text x) = Texts Newline
 form a.Assign = Then (Texts Space) (Texts Newline)
-form a.Shard = Then (Counts Space) (Counts Newline)
+form a.Shard = Then (Counts Space) (Then (Counts Space) (Counts Newline))
 form a.Scalar = Then (Counts Space) Marks
 form a.Element = Then (Texts Space) Marks
 form a.Last = Then (Counts Space) (Texts Newline)
@@ -135,7 +135,19 @@ parts (format k) h = record { name = a.Number n.Format; fields = (count k, Newli
 parts (program s) h = record { name = a.Text t.Program; fields = (text s, Newline) ∷ []; is = refl; fits = text_field s Newline h; has = (7, omega arith, refl) }
 parts (budget k) h = record { name = a.Number n.Budget; fields = (count k, Newline) ∷ []; is = refl; fits = count_field k Newline h; has = (8, omega arith, refl) }
 parts (assign v s) h = record { name = a.Assign; fields = (text v, Space) ∷ (text s, Newline) ∷ []; is = refl; fits = ((text v, Space) ∷ [], (text s, Newline) ∷ [], text_field v Space h.0, text_field s Newline h.1, refl); has = (9, omega arith, refl) }
-parts (shard k j) h = record { name = a.Shard; fields = (count k, Space) ∷ (count j, Newline) ∷ []; is = refl; fits = ((count k, Space) ∷ [], (count j, Newline) ∷ [], count_field k Space h.0, count_field j Newline h.1, refl); has = (10, omega arith, refl) }
+parts (shard k j i) h = record {
+  name = a.Shard;
+  fields = (count k, Space) ∷ (count j, Space) ∷ (count i, Newline) ∷ [];
+  is = refl;
+  fits = (
+    (count k, Space) ∷ [],
+    (count j, Space) ∷ (count i, Newline) ∷ [],
+    count_field k Space h.0,
+    ((count j, Space) ∷ [], (count i, Newline) ∷ [], count_field j Space h.1, count_field i Newline h.2, refl),
+    refl,
+  );
+  has = (10, omega arith, refl);
+}
 parts (before k) h = record { name = a.Number n.Before; fields = (count k, Newline) ∷ []; is = refl; fits = count_field k Newline h; has = (11, omega arith, refl) }
 parts (file s) h = record { name = a.Text t.File; fields = (text s, Newline) ∷ []; is = refl; fits = text_field s Newline h; has = (4, omega arith, refl) }
 parts (part k) h = record { name = a.Number n.Part; fields = (count k, Newline) ∷ []; is = refl; fits = count_field k Newline h; has = (3, omega arith, refl) }
@@ -161,10 +173,15 @@ from_form (a.Number x) ws h =
 from_form (a.Text x) ws h = (text_line_of x h.0, text_proper x h.0 h.1, text_words x h.0 ∙ ap (λ l. name_words (a.Text x) ++ l) (sym h.2))
 from_form a.Assign ws (xs, ys, h, k, e) =
     (assign h.0 k.0, (h.1, k.1), ap (λ l. name_words a.Assign ++ l) (sym (e ∙ ap (λ l. l ++ ys) h.2 ∙ ap (λ l. (text h.0, Space) ∷ l) k.2)))
-from_form a.Shard ws (xs, ys, h, k, e) =
+from_form a.Shard ws (xs, zs, h, (ys, vs, k, l, f), e) =
     let c = count_of Space xs h in
-    let d = count_of Newline ys k in
-    (shard c.0 d.0, (c.1, d.1), ap (λ l. name_words a.Shard ++ l) (sym (e ∙ ap (λ l. l ++ ys) c.2 ∙ ap (λ l. (count c.0, Space) ∷ l) d.2)))
+    let d = count_of Space ys k in
+    let b = count_of Newline vs l in (
+      shard c.0 d.0 b.0,
+      (c.1, d.1, b.1),
+      ap (λ q. name_words a.Shard ++ q)
+          (sym (e ∙ ap (λ q. q ++ zs) c.2 ∙ ap (λ q. (count c.0, Space) ∷ q) (f ∙ ap (λ q. q ++ vs) d.2 ∙ ap (λ q. (count d.0, Space) ∷ q) b.2))),
+    )
 from_form a.Scalar ws (xs, ys, h, k, e) =
     let c = count_of Space xs h in
     (scalar c.0 k.0, (c.1, k.1), ap (λ l. name_words a.Scalar ++ l) (sym (e ∙ ap (λ l. l ++ ys) c.2 ∙ ap (λ l. (count c.0, Space) ∷ l) (sym k.2))))
@@ -184,6 +201,7 @@ abbrev Nothing : List (Word × Gap) → Type 0
 Nothing ws = ws ≡ []
 
 abbrev pub mark_form : MarkName → List (Word × Gap) → Type 0
+mark_form m.Added = Sums Newline
 mark_form m.Sum = Then (Sums Space) (Then (Sums Space) (Sums Newline))
 mark_form m.Unset = Nothing
 mark_form m.Number = Values Newline
@@ -199,6 +217,7 @@ pub record MarkParts (k : Mark) : Type 0 where
   pub has : Contains MARK_NAMES (a.Mark name)
 
 pub mark_parts : (k : Mark) → IsMark k → MarkParts k
+mark_parts (added x) h = record { name = m.Added; fields = (number x, Newline) ∷ []; is = refl; fits = sum_field x Newline h; has = (0, omega arith, refl) }
 mark_parts (sum x y z) h = record {
   name = m.Sum;
   fields = (number x, Space) ∷ (number y, Space) ∷ (number z, Newline) ∷ [];
@@ -210,13 +229,13 @@ mark_parts (sum x y z) h = record {
     ((number y, Space) ∷ [], (number z, Newline) ∷ [], sum_field y Space h.1, sum_field z Newline h.2, refl),
     refl,
   );
-  has = (0, omega arith, refl);
+  has = (1, omega arith, refl);
 }
-mark_parts (put Uninit) h = record { name = m.Unset; fields = []; is = refl; fits = refl; has = (4, omega arith, refl) }
-mark_parts (put (Num z)) h = record { name = m.Number; fields = (number z, Newline) ∷ []; is = refl; fits = (z, value_within z h, refl); has = (1, omega arith, refl) }
-mark_parts (put (Text s)) h = record { name = m.Text; fields = (text s, Newline) ∷ []; is = refl; fits = text_field s Newline h; has = (2, omega arith, refl) }
-mark_parts (put (Maybe s)) h = record { name = m.Maybe; fields = (text s, Newline) ∷ []; is = refl; fits = text_field s Newline h; has = (3, omega arith, refl) }
-mark_parts created h = record { name = m.Created; fields = []; is = refl; fits = refl; has = (5, omega arith, refl) }
+mark_parts (put Uninit) h = record { name = m.Unset; fields = []; is = refl; fits = refl; has = (5, omega arith, refl) }
+mark_parts (put (Num z)) h = record { name = m.Number; fields = (number z, Newline) ∷ []; is = refl; fits = (z, value_within z h, refl); has = (2, omega arith, refl) }
+mark_parts (put (Text s)) h = record { name = m.Text; fields = (text s, Newline) ∷ []; is = refl; fits = text_field s Newline h; has = (3, omega arith, refl) }
+mark_parts (put (Maybe s)) h = record { name = m.Maybe; fields = (text s, Newline) ∷ []; is = refl; fits = text_field s Newline h; has = (4, omega arith, refl) }
+mark_parts created h = record { name = m.Created; fields = []; is = refl; fits = refl; has = (6, omega arith, refl) }
 
 same_mark : (x y : MarkName) → a.Mark x ≡ a.Mark y → x ≡ y
 same_mark x y e = cc
@@ -229,6 +248,9 @@ to_mark_form x ws h =
     subst (mark_form x) same.1 here
 
 from_mark_form : (x : MarkName) (ws : List (Word × Gap)) → mark_form x ws → AfterMark (a.Mark x) ws
+from_mark_form m.Added ws h =
+    let c = sum_of Newline ws h in
+    (added c.0, c.1, ap (λ q. name_words (a.Mark m.Added) ++ q) (sym c.2))
 from_mark_form m.Sum ws (xs, zs, h, (ys, vs, k, l, f), e) =
     let c = sum_of Space xs h in
     let d = sum_of Space ys k in
@@ -264,6 +286,9 @@ some_text g = ((text [], g) ∷ [], text_field [] g (omega arith))
 pub some_sum : (g : Gap) → (ys : List (Word × Gap)) × Sums g ys
 some_sum g = ((number (pos 0), g) ∷ [], sum_field (pos 0) g (omega arith))
 
+pub two_counts : (ys : List (Word × Gap)) × Then (Counts Space) (Counts Newline) ys
+two_counts = ((some_count Space).0 ++ (some_count Newline).0, ((some_count Space).0, (some_count Newline).0, (some_count Space).1, (some_count Newline).1, refl))
+
 pub two_sums : (ys : List (Word × Gap)) × Then (Sums Space) (Sums Newline) ys
 two_sums = ((some_sum Space).0 ++ (some_sum Newline).0, ((some_sum Space).0, (some_sum Newline).0, (some_sum Space).1, (some_sum Newline).1, refl))
 
@@ -285,13 +310,13 @@ abbrev HasLine : Name → Type 0
 HasLine x = (ys : List (Word × Gap)) × form x ys
 
 all_lines : AllByRecursion HasLine LINE_NAMES
-all_lines = (then_some (Texts Space) Marks (some_text Space) some_mark, (then_some (Counts Space) Marks (some_count Space) some_mark, (some_count Newline, (some_count Newline, (some_text Newline, (some_text Newline, (some_count Newline, (some_text Newline, (some_count Newline, (then_some (Texts Space) (Texts Newline) (some_text Space) (some_text Newline), (then_some (Counts Space) (Counts Newline) (some_count Space) (some_count Newline), (some_count Newline, (then_some (Counts Space) (Texts Newline) (some_count Space) (some_text Newline), (some_count Newline, (some_text Newline, tt)))))))))))))))
+all_lines = (then_some (Texts Space) Marks (some_text Space) some_mark, (then_some (Counts Space) Marks (some_count Space) some_mark, (some_count Newline, (some_count Newline, (some_text Newline, (some_text Newline, (some_count Newline, (some_text Newline, (some_count Newline, (then_some (Texts Space) (Texts Newline) (some_text Space) (some_text Newline), (then_some (Counts Space) (Then (Counts Space) (Counts Newline)) (some_count Space) two_counts, (some_count Newline, (then_some (Counts Space) (Texts Newline) (some_count Space) (some_text Newline), (some_count Newline, (some_text Newline, tt)))))))))))))))
 
 abbrev IsMarkName : Name → Type 0
 IsMarkName x = (k : MarkName) × (x ≡ a.Mark k)
 
 all_marks : AllByRecursion IsMarkName MARK_NAMES
-all_marks = ((m.Sum, refl), ((m.Number, refl), ((m.Text, refl), ((m.Maybe, refl), ((m.Unset, refl), ((m.Created, refl), tt))))))
+all_marks = ((m.Added, refl), ((m.Sum, refl), ((m.Number, refl), ((m.Text, refl), ((m.Maybe, refl), ((m.Unset, refl), ((m.Created, refl), tt)))))))
 
 of_each : (P : Name → Type 0) (names : List Name) (x : Name) → AllByRecursion P names → Contains names x → P x
 of_each P names x all has = subst P has.2 (All-from_recursion P names all has.0 x has.1)
@@ -300,6 +325,7 @@ pub mark_name : (x : Name) → Contains MARK_NAMES x → IsMarkName x
 mark_name x has = of_each IsMarkName MARK_NAMES x all_marks has
 
 some_mark_form : (x : MarkName) → (ys : List (Word × Gap)) × mark_form x ys
+some_mark_form m.Added = some_sum Newline
 some_mark_form m.Sum = then_some (Sums Space) (Then (Sums Space) (Sums Newline)) (some_sum Space) two_sums
 some_mark_form m.Unset = ([], refl)
 some_mark_form m.Number = ((number (pos 0), Newline) ∷ [], (pos 0, omega arith, refl))
@@ -365,6 +391,9 @@ value_same z h = omega (arith, ints)
 
 pub sum_as : (s q : List ℕ) (x y z u v w : ℤ) → u ≡ x → v ≡ y → w ≡ z → IsMarkAfter (a.Mark m.Sum) s (sum x y z) q → IsMarkAfter (a.Mark m.Sum) s (sum u v w) q
 sum_as s q x y z u v w e f g h = rw (e, f, g) h
+
+pub added_as : (s q : List ℕ) (x u : ℤ) → u ≡ x → IsMarkAfter (a.Mark m.Added) s (added x) q → IsMarkAfter (a.Mark m.Added) s (added u) q
+added_as s q x u e h = rw e h
 
 pub value_as : (s q : List ℕ) (x u : ℤ) → u ≡ x → IsMarkAfter (a.Mark m.Number) s (put (Num x)) q → IsMarkAfter (a.Mark m.Number) s (put (Num u)) q
 value_as s q x u e h = rw e h

@@ -5,3 +5,4 @@ pub mod Forms
 pub mod WordLemmas
 pub mod WriteLemmas
 pub mod LineLaws
+pub mod ElementLemmas

@@ -4,13 +4,13 @@ use Rattle.pawk_words.specs.declared.word.Gap.{Gap}
 use Rattle.pawk_words.specs.declared.word.Gap.TheVariants.{Space, Newline}
 use Rattle.pawk_words.specs.Words.{Word, name, number, text, gap_byte, IsName, IsWord, size_limit, written, written_all, written_word}
 use Rattle.pawk_words.proofs.WordLaws.{written_same}
-use Rattle.pawk_scalar.specs.Value.{Uninit, Num, Text, Maybe}
+use Rattle.pawk_value.specs.Value.{Uninit, Num, Text, Maybe}
 use Rattle.pawk_lines.specs.declared.name.Name.{Name}
 use Rattle.pawk_lines.specs.declared.name.Name.TheVariants as a
 use Rattle.pawk_lines.specs.declared.name.NumberLine.TheVariants as n
 use Rattle.pawk_lines.specs.declared.name.TextLine.TheVariants as t
 use Rattle.pawk_lines.specs.declared.name.MarkName.TheVariants as m
-use Rattle.pawk_lines.specs.Lines.{Line, format, program, budget, assign, shard, before, file, part, output, scalar, array, element, last, records, end, Mark, sum, put, created, IsLine, IsMark, IsValue, IsCount, count, line_words, line_bytes, mark_words, BeginsLine}
+use Rattle.pawk_lines.specs.Lines.{Line, format, program, budget, assign, shard, before, file, part, output, scalar, array, element, last, records, end, Mark, added, sum, put, created, IsLine, IsMark, IsValue, IsCount, count, line_words, line_bytes, mark_words, BeginsLine}
 use Rattle.pawk_lines.specs.Reading.{IsInFront, IsWrong, Lines}
 use Rattle.std.proofs.lemmas.List.{append-nil, drop_at}
 use Rattle.pawk_lines.specs.Names.{number_line_of, text_line_of}
@@ -71,6 +71,7 @@ value_word : (z : ℤ) → IsValue (Num z) → IsWord (number z)
 value_word z h = word_within 9223372036854775808 9223372036854775807 z (omega arith) (omega arith) (value_within z h)
 
 closed_mark : (k : Mark) → IsMark k → IsClosed (mark_words k)
+closed_mark (added x) h = (a_name (a.Mark m.Added), refl, (h, refl))
 closed_mark (sum x y z) h = (a_name (a.Mark m.Sum), refl, (h.0, refl, (h.1, refl, (h.2, refl))))
 closed_mark (put Uninit) h = (a_name (a.Mark m.Unset), refl)
 closed_mark (put (Num z)) h = (a_name (a.Mark m.Number), refl, (value_word z h, refl))
@@ -86,7 +87,7 @@ closed_line (format k) h = (a_name (a.Number n.Format), refl, (table_name, refl,
 closed_line (program s) h = (a_name (a.Text t.Program), refl, (h, refl))
 closed_line (budget k) h = (a_name (a.Number n.Budget), refl, (small k h, refl))
 closed_line (assign v s) h = (a_name a.Assign, refl, (h.0, refl, (h.1, refl)))
-closed_line (shard k j) h = (a_name a.Shard, refl, (small k h.0, refl, (small j h.1, refl)))
+closed_line (shard k j i) h = (a_name a.Shard, refl, (small k h.0, refl, (small j h.1, refl, (small i h.2, refl))))
 closed_line (before k) h = (a_name (a.Number n.Before), refl, (small k h, refl))
 closed_line (file s) h = (a_name (a.Text t.File), refl, (h, refl))
 closed_line (part k) h = (a_name (a.Number n.Part), refl, (small k h, refl))
@@ -126,6 +127,7 @@ letters_in [] = []
 letters_in (x ∷ xs) = elim (x.0) [ name w ↦ w | number z ↦ [] | text s ↦ [] ]
 
 abbrev mark_from : Name → List (Word × Gap) → Mark
+mark_from (a.Mark m.Added) ws = added (whole (word_at 0 ws))
 mark_from (a.Mark m.Sum) ws = sum (whole (word_at 0 ws)) (whole (word_at 1 ws)) (whole (word_at 2 ws))
 mark_from (a.Mark m.Unset) ws = put Uninit
 mark_from (a.Mark m.Number) ws = put (Num (whole (word_at 0 ws)))
@@ -137,6 +139,7 @@ abbrev mark_in : List (Word × Gap) → Mark
 mark_in ws = mark_from (with_letters the_names (letters_in ws)) (rest_of ws)
 
 mark_again : (k : Mark) → mark_in (mark_words k) ≡ k
+mark_again (added x) = refl
 mark_again (sum x y z) = refl
 mark_again (put Uninit) = refl
 mark_again (put (Num z)) = refl
@@ -149,7 +152,7 @@ line_from (a.Number n.Format) ws = format (size (word_at 1 ws))
 line_from (a.Number x) ws = number_line_of x (size (word_at 0 ws))
 line_from (a.Text x) ws = text_line_of x (bytes_in (word_at 0 ws))
 line_from a.Assign ws = assign (bytes_in (word_at 0 ws)) (bytes_in (word_at 1 ws))
-line_from a.Shard ws = shard (size (word_at 0 ws)) (size (word_at 1 ws))
+line_from a.Shard ws = shard (size (word_at 0 ws)) (size (word_at 1 ws)) (size (word_at 2 ws))
 line_from a.Scalar ws = scalar (size (word_at 0 ws)) (mark_in (rest_of ws))
 line_from a.Element ws = element (bytes_in (word_at 0 ws)) (mark_in (rest_of ws))
 line_from a.Last ws = last (size (word_at 0 ws)) (bytes_in (word_at 1 ws))
@@ -163,7 +166,7 @@ line_again (format k) = refl
 line_again (program s) = refl
 line_again (budget k) = refl
 line_again (assign v s) = refl
-line_again (shard k j) = refl
+line_again (shard k j i) = refl
 line_again (before k) = refl
 line_again (file s) = refl
 line_again (part k) = refl

@@ -38,6 +38,7 @@ text_letters t.Output = codes "output"
 text_letters t.End = codes "end"
 
 abbrev mark_letters : MarkName → List ℕ
+mark_letters m.Added = codes "add"
 mark_letters m.Sum = codes "sum"
 mark_letters m.Unset = codes "unset"
 mark_letters m.Number = codes "number"
@@ -60,7 +61,7 @@ all_test [] = true
 all_test (b ∷ bs) = is_ascii_lowercase b && all_test bs
 
 abbrev pub the_names : List Name
-the_names = Number n.Format ∷ Number n.Budget ∷ Number n.Before ∷ Number n.Part ∷ Number n.Array ∷ Number n.Records ∷ Text t.Program ∷ Text t.File ∷ Text t.Output ∷ Text t.End ∷ Assign ∷ Shard ∷ Scalar ∷ Element ∷ Last ∷ Mark m.Sum ∷ Mark m.Unset ∷ Mark m.Number ∷ Mark m.Text ∷ Mark m.Maybe ∷ Mark m.Created ∷ []
+the_names = Number n.Format ∷ Number n.Budget ∷ Number n.Before ∷ Number n.Part ∷ Number n.Array ∷ Number n.Records ∷ Text t.Program ∷ Text t.File ∷ Text t.Output ∷ Text t.End ∷ Assign ∷ Shard ∷ Scalar ∷ Element ∷ Last ∷ Mark m.Added ∷ Mark m.Sum ∷ Mark m.Unset ∷ Mark m.Number ∷ Mark m.Text ∷ Mark m.Maybe ∷ Mark m.Created ∷ []
 
 -- the name whose first word has these letters
 abbrev pub with_letters : List Name → List ℕ → Name
@@ -83,6 +84,7 @@ known Shard = refl
 known Scalar = refl
 known Element = refl
 known Last = refl
+known (Mark m.Added) = refl
 known (Mark m.Sum) = refl
 known (Mark m.Unset) = refl
 known (Mark m.Number) = refl
@@ -119,6 +121,7 @@ first_word Shard = record { gap = Space; rest = []; proper = all_passed (codes "
 first_word Scalar = record { gap = Space; rest = []; proper = all_passed (codes "scalar") (omega arith) (omega arith) (search arith); is = refl }
 first_word Element = record { gap = Space; rest = []; proper = all_passed (codes "key") (omega arith) (omega arith) (search arith); is = refl }
 first_word Last = record { gap = Space; rest = []; proper = all_passed (codes "last") (omega arith) (omega arith) (search arith); is = refl }
+first_word (Mark m.Added) = record { gap = Space; rest = []; proper = all_passed (codes "add") (omega arith) (omega arith) (search arith); is = refl }
 first_word (Mark m.Sum) = record { gap = Space; rest = []; proper = all_passed (codes "sum") (omega arith) (omega arith) (search arith); is = refl }
 first_word (Mark m.Unset) = record { gap = Newline; rest = []; proper = all_passed (codes "unset") (omega arith) (omega arith) (search arith); is = refl }
 first_word (Mark m.Number) = record { gap = Space; rest = []; proper = all_passed (codes "number") (omega arith) (omega arith) (search arith); is = refl }

@@ -3,8 +3,8 @@ use Rattle.std.specs.Prelude.{◌≡◌, ◌≤◌, ◌<◌, ◌^◌, ℕ, ℤ, 
 use Rattle.pawk_words.specs.declared.word.Gap.{Gap}
 use Rattle.pawk_words.specs.declared.word.Gap.TheVariants.{Space, Newline}
 use Rattle.pawk_words.specs.Words.{Word, name, number, text, IsWord, written_all, size_limit}
-use Rattle.pawk_scalar.specs.Range.{FitsWord}
-use Rattle.pawk_scalar.specs.Value.{Val, Uninit, Num, Text, Maybe, lent_value}
+use Rattle.pawk_value.specs.Range.{FitsWord}
+use Rattle.pawk_value.specs.Value.{Val, Uninit, Num, Text, Maybe, lent_value}
 use Rattle.pawk_lines.specs.declared.line.Line.{Line as Lent}
 use Rattle.pawk_lines.specs.declared.line.Line.TheVariants as lent
 use Rattle.pawk_lines.specs.declared.line.Mark.{Mark as LentMark}
@@ -12,9 +12,10 @@ use Rattle.pawk_lines.specs.declared.line.Mark.TheVariants as lent_mark
 
 -- ---- lines
 
--- what a part noted of a cell: the sum of amounts with its least and greatest prefix sum, a value, or nothing more
--- than that the cell was created
+-- what a part noted of a cell: the sum of amounts, which is each prefix sum, too; a sum with its least and greatest
+-- prefix sum; a value; or nothing more than that the cell was created
 pub data Mark : Type 0 where
+  added : ℤ → Mark
   sum : ℤ → ℤ → ℤ → Mark
   put : Val → Mark
   created : Mark
@@ -24,7 +25,7 @@ pub data Line : Type 0 where
   program : List ℕ → Line
   budget : ℕ → Line
   assign : List ℕ → List ℕ → Line
-  shard : ℕ → ℕ → Line
+  shard : ℕ → ℕ → ℕ → Line
   before : ℕ → Line
   file : List ℕ → Line
   part : ℕ → Line
@@ -38,6 +39,7 @@ pub data Line : Type 0 where
 
 -- the mark that a mark of the program shows
 abbrev pub shown_mark : LentMark → Mark
+shown_mark (lent_mark.Added total) = added total
 shown_mark (lent_mark.Sum total least greatest) = sum total least greatest
 shown_mark (lent_mark.Put value) = put (lent_value value)
 shown_mark lent_mark.Created = created
@@ -48,7 +50,7 @@ shown (lent.Format n) = format n
 shown (lent.Program t) = program t.now
 shown (lent.Budget n) = budget n
 shown (lent.Assign variable value) = assign variable.now value.now
-shown (lent.Shard n of) = shard n of
+shown (lent.Shard n m of) = shard n m of
 shown (lent.Before n) = before n
 shown (lent.File t) = file t.now
 shown (lent.Part n) = part n
@@ -76,6 +78,7 @@ IsValue (Text t) = IsText t
 IsValue (Maybe t) = IsText t
 
 abbrev pub IsMark : Mark → Type 0
+IsMark (added total) = IsWord (number total)
 IsMark (sum total least greatest) = IsWord (number total) × IsWord (number least) × IsWord (number greatest)
 IsMark (put value) = IsValue value
 IsMark created = Unit {0}
@@ -85,7 +88,7 @@ IsLine (format n) = IsCount n
 IsLine (program t) = IsText t
 IsLine (budget n) = IsCount n
 IsLine (assign variable value) = IsText variable × IsText value
-IsLine (shard n of) = IsCount n × IsCount of
+IsLine (shard n m of) = IsCount n × IsCount m × IsCount of
 IsLine (before n) = IsCount n
 IsLine (file t) = IsText t
 IsLine (part n) = IsCount n
@@ -113,6 +116,7 @@ value_words (Text t) = named (codes "text") ∷ (text t, Newline) ∷ []
 value_words (Maybe t) = named (codes "maybe") ∷ (text t, Newline) ∷ []
 
 abbrev pub mark_words : Mark → List (Word × Gap)
+mark_words (added total) = named (codes "add") ∷ (number total, Newline) ∷ []
 mark_words (sum total least greatest) = named (codes "sum") ∷ (number total, Space) ∷ (number least, Space) ∷ (number greatest, Newline) ∷ []
 mark_words (put value) = value_words value
 mark_words created = (name (codes "created"), Newline) ∷ []
@@ -122,7 +126,7 @@ line_words (format n) = named (codes "pawk") ∷ named (codes "table") ∷ (coun
 line_words (program t) = named (codes "program") ∷ (text t, Newline) ∷ []
 line_words (budget n) = named (codes "budget") ∷ (count n, Newline) ∷ []
 line_words (assign variable value) = named (codes "assign") ∷ (text variable, Space) ∷ (text value, Newline) ∷ []
-line_words (shard n of) = named (codes "shard") ∷ (count n, Space) ∷ (count of, Newline) ∷ []
+line_words (shard n m of) = named (codes "shard") ∷ (count n, Space) ∷ (count m, Space) ∷ (count of, Newline) ∷ []
 line_words (before n) = named (codes "before") ∷ (count n, Newline) ∷ []
 line_words (file t) = named (codes "file") ∷ (text t, Newline) ∷ []
 line_words (part n) = named (codes "part") ∷ (count n, Newline) ∷ []

@@ -28,6 +28,7 @@ text_line_words text_line.Output = named (codes "output") ∷ []
 text_line_words text_line.End = named (codes "end") ∷ []
 
 abbrev pub mark_name_words : MarkName → List (Word × Gap)
+mark_name_words mark_name.Added = named (codes "add") ∷ []
 mark_name_words mark_name.Sum = named (codes "sum") ∷ []
 mark_name_words mark_name.Unset = (name (codes "unset"), Newline) ∷ []
 mark_name_words mark_name.Number = named (codes "number") ∷ []

@@ -4,6 +4,7 @@
 //! is read again, and only what can have been written is read.
 #![tactic(auto)]
 
+mod element;
 mod failure;
 pub mod laws;
 mod line;

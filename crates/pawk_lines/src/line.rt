@@ -1,6 +1,6 @@
 //! The lines of a table file.
 
-use pawk_scalar::ValueRef;
+use pawk_value::ValueRef;
 
 /// A line. Its texts are lent.
 #[derive(Clone, Copy)]
@@ -18,10 +18,12 @@ pub enum Line<'a> {
         /// The text that is assigned.
         value: &'a [u8],
     },
-    /// Which shard of how many the table is of.
+    /// Which shards of how many the table is of: these two and all between them.
     Shard {
-        /// The number of the shard.
-        number: u64,
+        /// The number of the first shard.
+        first: u64,
+        /// The number of the last shard.
+        last: u64,
         /// How many shards there are.
         of: u64,
     },
@@ -65,6 +67,9 @@ pub enum Line<'a> {
 /// What a part noted of a scalar or of an element.
 #[derive(Clone, Copy)]
 pub enum Mark<'a> {
+    /// Amounts were added: one, or more so that each sum of the first ones is the same. This is the sum of all, of a size
+    /// of at most 18446744073709551616.
+    Added(i128),
     /// Amounts were added. Each number has a size of at most 18446744073709551616.
     Sum {
         /// The sum of all amounts.

@@ -63,6 +63,8 @@ pub(crate) enum TextLine {
 /// The name of a mark.
 #[derive(Clone, Copy)]
 pub(crate) enum MarkName {
+    /// `add`
+    Added,
     /// `sum`
     Sum,
     /// `unset`
@@ -97,7 +99,8 @@ pub(crate) const LINE_NAMES: [Name; 15] = [
 ];
 
 /// The names of marks.
-pub(crate) const MARK_NAMES: [Name; 6] = [
+pub(crate) const MARK_NAMES: [Name; 7] = [
+    Name::Mark(MarkName::Added),
     Name::Mark(MarkName::Sum),
     Name::Mark(MarkName::Number),
     Name::Mark(MarkName::Text),
@@ -168,6 +171,7 @@ impl MarkName {
         ensures { result.now ≡ spelling (Name.Mark self) }
     {
         match self {
+            MarkName::Added => b"add ",
             MarkName::Sum => b"sum ",
             MarkName::Unset => b"unset\n",
             MarkName::Number => b"number ",
@@ -197,7 +201,7 @@ impl Name {
 }
 
 /// The bytes after these first ones.
-fn after<'a>(first: &[u8], bytes: &'a [u8]) -> Result<&'a [u8], Failure>
+pub(crate) fn after<'a>(first: &[u8], bytes: &'a [u8]) -> Result<&'a [u8], Failure>
     ensures { MatchResult result (λ rest. bytes.now ≡ first.now ++ rest.now)
         (FailsAfter first.now bytes.now) }
 {

@@ -4,16 +4,15 @@ ghost use Rattle.std.specs.Prelude.{◌≡◌, ◌++◌, ℕ, List, drop, IfOk, 
 ghost use Rattle.pawk_words.specs.Words.{written_all};
 ghost use Rattle.pawk_lines.specs.Lines as spec;
 ghost use Rattle.pawk_lines.specs.Lines.{shown, shown_mark, IsMark, mark_words, BeginsLine};
-ghost use Rattle.pawk_lines.specs.Reading.{IsInFront, IsCutShort, IsDamaged};
-ghost use Rattle.pawk_lines.specs.Reading.{Fails, Lines, Marks, AfterLine, AfterMark};
-ghost use Rattle.pawk_lines.specs.Reading.{IsLineAfter, IsMarkAfter};
+ghost use Rattle.pawk_lines.specs.Reading.{IsInFront, IsCutShort, IsDamaged, Fails, Lines, Marks, AfterLine, AfterMark, IsLineAfter, IsMarkAfter};
 
+use crate::element::whole_element;
 use crate::failure::Failure;
 use crate::line::{Line, Mark};
 use crate::name::{LINE_NAMES, MARK_NAMES, MarkName, Name, NumberLine, TextLine, read_name};
 use crate::number::SUMS;
 use crate::word::{read_count, read_number, read_text, read_value};
-use pawk_scalar::ValueRef;
+use pawk_value::ValueRef;
 use pawk_words::{Damage, Gap};
 
 /// A line that was read.
@@ -23,6 +22,16 @@ pub struct ReadLine<'a> {
     pub line: Line<'a>,
     /// How many bytes it takes, with its newline.
     pub length: usize,
+}
+
+/// What follows `add `.
+fn read_added(bytes: &[u8]) -> Result<(Mark<'_>, &[u8]), Failure>
+    ensures { MatchResult result (λ found.
+        IsMarkAfter (Name.Mark MarkName.Added) bytes.now (shown_mark found.0) found.1.now)
+        (Fails (AfterMark (Name.Mark MarkName.Added)) bytes.now) }
+{
+    let (sum, rest) = read_number(bytes, SUMS, Gap::Newline)?;
+    Ok((Mark::Added(sum), rest))
 }
 
 /// What follows `sum `.
@@ -49,6 +58,7 @@ fn after_mark_name(name: MarkName, bytes: &[u8]) -> Result<(Mark<'_>, &[u8]), Fa
         (Fails (AfterMark (Name.Mark name)) bytes.now) }
 {
     match name {
+        MarkName::Added => read_added(bytes),
         MarkName::Sum => read_sum(bytes),
         MarkName::Unset => Ok((Mark::Put(ValueRef::Uninit), bytes)),
         MarkName::Number => {
@@ -68,7 +78,7 @@ fn after_mark_name(name: MarkName, bytes: &[u8]) -> Result<(Mark<'_>, &[u8]), Fa
 }
 
 /// The mark in front of the bytes, and what follows it.
-fn read_mark(bytes: &[u8]) -> Result<(Mark<'_>, &[u8]), Failure>
+pub(crate) fn read_mark(bytes: &[u8]) -> Result<(Mark<'_>, &[u8]), Failure>
     ensures { MatchResult result
         (λ found. IsMark (shown_mark found.0)
         × (bytes.now ≡ written_all (mark_words (shown_mark found.0)) ++ found.1.now))
@@ -118,9 +128,10 @@ fn read_shard(bytes: &[u8]) -> Result<(Line<'_>, &[u8]), Failure>
         (λ found. IsLineAfter Name.Shard bytes.now (shown found.0) found.1.now)
         (Fails (AfterLine Name.Shard) bytes.now) }
 {
-    let (number, rest) = read_count(bytes, Gap::Space)?;
+    let (first, rest) = read_count(bytes, Gap::Space)?;
+    let (last, rest) = read_count(rest, Gap::Space)?;
     let (of, rest) = read_count(rest, Gap::Newline)?;
-    Ok((Line::Shard { number, of }, rest))
+    Ok((Line::Shard { first, last, of }, rest))
 }
 
 /// What follows `scalar `.
@@ -180,6 +191,9 @@ fn read_front(bytes: &[u8]) -> Result<(Line<'_>, &[u8]), Failure>
         (λ found. BeginsLine bytes.now (shown found.0) found.1.now)
         (Fails Lines bytes.now) }
 {
+    if let Some(found) = whole_element(bytes) {
+        return Ok(found);
+    }
     let (name, rest) = read_name(&LINE_NAMES, bytes)?;
     after_line_name(name, rest)
 }

@@ -4,7 +4,7 @@ ghost use Rattle.std.specs.Prelude.{◌≡◌, ◌≢◌, ◌≤◌, ◌++◌, �
 ghost use Rattle.pawk_words.specs.Words as words;
 ghost use Rattle.pawk_words.specs.Words.{number, text, written, Begins, size_limit};
 ghost use Rattle.pawk_words.specs.Reading as reading;
-ghost use Rattle.pawk_scalar.specs.Range.{FitsWord};
+ghost use Rattle.pawk_value.specs.Range.{FitsWord};
 ghost use Rattle.pawk_lines.specs.Lines.{IsCount, IsText, count};
 ghost use Rattle.pawk_lines.specs.Reading.{Fails, IsWithin, Numbers, Texts, may_begin_text};
 
@@ -13,6 +13,7 @@ use crate::number::{COUNTS, Range, VALUES, begins_number, is_within};
 use pawk_words::{Damage, Gap, Word, read_word};
 
 /// The word in front of the bytes, if this gap is after it, and what follows the gap.
+#[inline(always)]
 fn next_word(bytes: &[u8], gap: Gap) -> Result<Option<(Word<'_>, &[u8])>, Damage>
     ensures found { IfOk result (λ answer. IfSome answer (λ found.
         Begins bytes.now (words.shown found.0) gap found.1.now)) }
@@ -34,6 +35,7 @@ fn next_word(bytes: &[u8], gap: Gap) -> Result<Option<(Word<'_>, &[u8])>, Damage
 }
 
 /// The number that a word is, if it is one of the range.
+#[inline(always)]
 fn number_in(word: Word<'_>, range: Range) -> Option<i128>
     ensures { MatchOption result
         ((z : ℤ) → IsWithin range.below range.above z → words.shown word.entry ≢ number z)

@@ -3,15 +3,13 @@
 ghost use Rattle.std.specs.Prelude.{◌≡◌, ◌++◌, ◌∷◌, [], take, length, OnOk};
 ghost use Rattle.pawk_words.specs.Words.{IsWord, number, written_all};
 ghost use Rattle.pawk_words.specs.Words as words;
-ghost use Rattle.pawk_scalar.specs.Value.{Num, lent_value};
-ghost use Rattle.pawk_lines.specs.Lines.{shown, shown_mark, IsLine, IsMark, IsValue, IsText, line_bytes};
-ghost use Rattle.pawk_lines.specs.Lines.{mark_words, value_words, sum, assign, shard, scalar};
-ghost use Rattle.pawk_lines.specs.Lines.{element, last};
+ghost use Rattle.pawk_value.specs.Value.{Num, lent_value};
+ghost use Rattle.pawk_lines.specs.Lines.{shown, shown_mark, IsLine, IsMark, IsValue, IsText, line_bytes, mark_words, value_words, added, sum, assign, shard, scalar, element, last};
 ghost use Rattle.pawk_lines.specs.Names.{spelling, number_line_of, text_line_of};
 
 use crate::line::{Line, Mark};
 use crate::name::{MarkName, Name, NumberLine, TextLine};
-use pawk_scalar::ValueRef;
+use pawk_value::ValueRef;
 use pawk_words::{Gap, Word, push_word};
 use std::alloc::AllocError;
 
@@ -60,6 +58,17 @@ fn push_value(out: &mut Vec<u8>, value: ValueRef<'_>) -> Result<(), AllocError>
     }
 }
 
+/// Writes a sum that is its extremes, too.
+fn push_added(out: &mut Vec<u8>, sum: i128) -> Result<(), AllocError>
+    requires { IsWord (number sum) }
+    ensures written { OnOk result
+        (out.new.items ≡ out.old.items ++ written_all (mark_words (added sum))) }
+    ensures kept { take (length out.old.items) out.new.items ≡ out.old.items }
+{
+    push_name(out, Name::Mark(MarkName::Added))?;
+    push_word(out, Word::Number(sum), Gap::Newline)
+}
+
 /// Writes a sum with its extremes.
 fn push_sum(out: &mut Vec<u8>, total: i128, least: i128, greatest: i128) -> Result<(), AllocError>
     requires total { IsWord (number total) }
@@ -83,6 +92,7 @@ fn push_mark(out: &mut Vec<u8>, mark: Mark<'_>) -> Result<(), AllocError>
     ensures kept { take (length out.old.items) out.new.items ≡ out.old.items }
 {
     match mark {
+        Mark::Added(sum) => push_added(out, sum),
         Mark::Sum {
             total,
             least,
@@ -127,14 +137,15 @@ fn push_assign(out: &mut Vec<u8>, name: &[u8], value: &[u8]) -> Result<(), Alloc
     push_word(out, Word::Text(value), Gap::Newline)
 }
 
-/// Writes which shard of how many it is.
-fn push_shard(out: &mut Vec<u8>, number: u64, of: u64) -> Result<(), AllocError>
+/// Writes which shards of how many they are.
+fn push_shard(out: &mut Vec<u8>, first: u64, last: u64, of: u64) -> Result<(), AllocError>
     ensures written { OnOk result
-        (out.new.items ≡ out.old.items ++ line_bytes (shard number of)) }
+        (out.new.items ≡ out.old.items ++ line_bytes (shard first last of)) }
     ensures kept { take (length out.old.items) out.new.items ≡ out.old.items }
 {
     push_name(out, Name::Shard)?;
-    push_word(out, Word::Number(i128::from(number)), Gap::Space)?;
+    push_word(out, Word::Number(i128::from(first)), Gap::Space)?;
+    push_word(out, Word::Number(i128::from(last)), Gap::Space)?;
     push_word(out, Word::Number(i128::from(of)), Gap::Newline)
 }
 
@@ -188,7 +199,7 @@ pub fn push_line(out: &mut Vec<u8>, line: Line<'_>) -> Result<(), AllocError>
         Line::Program(text) => push_text_line(out, TextLine::Program, text),
         Line::Budget(steps) => push_number_line(out, NumberLine::Budget, steps),
         Line::Assign { name, value } => push_assign(out, name, value),
-        Line::Shard { number, of } => push_shard(out, number, of),
+        Line::Shard { first, last, of } => push_shard(out, first, last, of),
         Line::Before(records) => push_number_line(out, NumberLine::Before, records),
         Line::File(name) => push_text_line(out, TextLine::File, name),
         Line::Part(records) => push_number_line(out, NumberLine::Part, records),

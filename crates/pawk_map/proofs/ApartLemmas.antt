@@ -1,23 +1,22 @@
 -- Pieces of a file whose chunks were run apart, as their lines tell of them.
-use Rattle.std.proofs.Common.{◌≡◌, ◌∙◌, ℕ, ◌+◌, Bool, true, false, List, [], ◌∷◌, ◌++◌, length, map, Option, Some, None, Vec, Global, refl, ap, sym, subst, append-nil, length-append, add-zero, arith}
-use Rattle.std.specs.Prelude.{All, MatchOption}
-use Rattle.std.specs.List.{flat_map}
+use Rattle.std.proofs.Common.{◌≡◌, ◌∙◌, ℕ, true, false, List, [], ◌∷◌, ◌++◌, length, map, Option, Some, None, Vec, Global, refl, ap, sym, subst, append-nil, add-zero, arith}
+use Rattle.std.specs.Prelude.{All, MatchOption, is_some}
 use Rattle.std.proofs.lemmas.List.Concat.{flat_map-cons}
-use Rattle.std.proofs.lemmas.List.Elements.{All-head, All-tail}
+use Rattle.std.proofs.lemmas.List.Elements.{All-head}
 use Rattle.pawk_records.specs.Records.{records_by}
 use Rattle.pawk_input.specs.Input.{Item, file_items}
 use Rattle.pawk_merge.specs.MergeViews.{chunk_of}
 use Rattle.pawk_merge.specs.declared.chunk_result.ChunkResult.{ChunkResult}
 use Rattle.pawk_merge_law.specs.Phases.{Phase, MayRun}
 use Rattle.pawk_merge_law.specs.ChunkedRuns.{Ran, HasRecord, all_of}
-use Rattle.pawk_tables.specs.Layout.{Section, kept}
-use Rattle.pawk_flow.specs.declared.piece.Piece.{Piece}
-use Rattle.pawk_flow.specs.Pieces.{piece_items}
+use Rattle.pawk_tables.specs.Layout.{kept}
+use Rattle.pawk_pieces.specs.declared.piece.Piece.{Piece}
+use Rattle.pawk_pieces.specs.Pieces.{piece_items}
 use Rattle.pawk_shards.specs.Apart.{LeavesLaw}
 use Rattle.pawk_shards.specs.Joined.{NotesLaw}
 use Rattle.pawk_shards.specs.Numbers.{AreSameButNumbers}
 use Rattle.pawk_shards.specs.Told.{kept_records}
-use Rattle.pawk_map.specs.Sections.{DoesNotGoThrough, EndsKept, SaySections}
+use Rattle.pawk_map.specs.Sections.{DoesNotGoThrough, SaySections}
 use Rattle.pawk_map.specs.Parted.{AreTablesOf, all_through, parts_from}
 use Rattle.pawk_map.specs.Runs.{DoNotGoThrough, IsApart, SayParts}
 use Rattle.pawk_map.specs.declared.apart.Apart.{Apart}
@@ -71,6 +70,10 @@ module _ (p : Phase) (may : MayRun p) where
       has_front (x ∷ xs) ys h = tt
 
 -- ---- pieces
+
+pub is_none : {A : Type 0} (o : Option A) → is_some o ≡ false → o ≡ None
+is_none None h = refl
+is_none (Some x) h = absurd cc
 
 module _ (p : Phase) (nr : ℕ) (piece : Piece) (x : Apart) (items : List Item) where
   abbrev records : List (List ℕ)

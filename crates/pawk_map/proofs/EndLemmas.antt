@@ -1,31 +1,22 @@
 -- The end of a run over a shard: all its files, and its table file.
-use Rattle.std.proofs.Common.{◌≡◌, ◌∙◌, ℕ, ◌+◌, ◌<◌, ◌≤◌, List, [], ◌∷◌, ◌++◌, length, get_or, take, drop, Option, Some, None, refl, ap, sym, subst, inl, inr, append_assoc, append-nil, length-append, add-zero, arith}
-use Rattle.std.specs.Prelude.{All, ◌⊎◌}
-use Rattle.std.proofs.KnownBytes.{Appends-trans}
-use Rattle.std.specs.Io.KnownBytes.{Appends}
-use Rattle.sha2.specs.Hashers.{Holds256}
-use Rattle.sha2.specs.Sha256.{sha256}
-use Rattle.sha2.specs.declared.Sha256.{Sha256}
+use Rattle.std.proofs.Common.{◌≡◌, ◌∙◌, ℕ, ◌+◌, ◌<◌, ◌≤◌, List, [], ◌∷◌, ◌++◌, length, get_or, take, drop, Option, None, refl, ap, sym, subst, inl, inr, append-nil, add-zero, arith}
+use Rattle.std.specs.Prelude.{◌⊎◌}
 use Rattle.pawk_records.specs.Records.{records_by}
 use Rattle.pawk_input.specs.Input.{File, Item, items}
-use Rattle.pawk_lines.specs.Lines.{IsLine, line_bytes}
-use Rattle.pawk_lines.specs.Lines as lines
-use Rattle.pawk_parts.specs.Parts.{all_bytes}
-use Rattle.pawk_tables.specs.Layout.{Header, Section, header_lines, AllSpell, IsBody, IsTableFile, end_bytes}
-use Rattle.pawk_lines.specs.Lines.{Line}
+use Rattle.pawk_tables.specs.Layout.{Section}
 use Rattle.pawk_merge_law.specs.ChunkedRuns.{all_of}
 use Rattle.pawk_shards.specs.Numbers.{AreSameButNumbers}
 use Rattle.pawk_shards.specs.Told.{Tell}
-use Rattle.pawk_feeds.specs.Feeds.{IsFileOf}
-use Rattle.pawk_feeds.specs.declared.feed.Feed.{Feed}
-use Rattle.pawk_feeds.proofs.TurnsLemmas.{whole_at, take_at, take_all}
-use Rattle.pawk_map.specs.Sections.{EndsKept, SaySections}
-use Rattle.pawk_map.specs.Maps.{Ground, Writes, Goes, Tells, Adds, AreFilesOf, TellFiles, held_items, numbered_in, records_of}
+use Rattle.pawk_window.specs.Feeds.{IsFileOf}
+use Rattle.pawk_window.specs.declared.feed.Feed.{Feed}
+use Rattle.pawk_window.proofs.PlaceLemmas.{whole_at, take_at, take_all}
+use Rattle.pawk_map.specs.Sections.{EndsKept}
+use Rattle.pawk_map.specs.Maps.{Ground, Goes, Tells, Adds, AreFilesOf, TellFiles, held_items, numbered_in, records_of}
 use Rattle.pawk_map.specs.declared.draft.Course.{Course}
 use Rattle.pawk_map.specs.declared.draft.Course.TheVariants.{On, Over}
 use Rattle.pawk_map.specs.declared.draft.Draft.{Draft}
 use Rattle.pawk_map.specs.declared.draft.Progress.{Progress}
-use Rattle.pawk_map.proofs.TellLemmas.{same_then, same_append, same_refl, same_length}
+use Rattle.pawk_map.proofs.TellLemmas.{same_then, same_append, same_refl}
 use Rattle.pawk_map.proofs.MapLemmas.{adds_none, adds_then, adds_over, tells_then}
 use Rattle.pawk_map.proofs.FileLemmas.{files_append, some_files, records_append, records_one, records_are}
 

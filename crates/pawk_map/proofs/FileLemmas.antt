@@ -1,22 +1,21 @@
 -- A run over a shard, file by file.
-use Rattle.std.proofs.Common.{◌≡◌, ◌∙◌, ℕ, zero, suc, ◌+◌, ◌<◌, ◌≤◌, Bool, true, false, List, [], ◌∷◌, ◌++◌, length, get_or, take, drop, Option, Some, None, IfSome, refl, ap, sym, subst, append_assoc, append-nil, length-append, take-append-drop, add_assoc, add-zero, add-one, arith}
-use Rattle.std.specs.List.{flat_map}
+use Rattle.std.proofs.Common.{◌≡◌, ◌∙◌, ℕ, ◌+◌, true, false, List, [], ◌∷◌, ◌++◌, length, Option, Some, None, IfSome, refl, ap, sym, subst, append_assoc, append-nil, length-append, add-zero, arith}
 use Rattle.std.proofs.lemmas.Grind.{flat_map-append}
 use Rattle.std.proofs.lemmas.List.Concat.{flat_map-cons}
 use Rattle.std.proofs.KnownBytes.{Consumes-nil, Consumes-trans}
 use Rattle.std.specs.Io.KnownBytes.{Consumes, IsAtEnd}
 use Rattle.pawk_records.specs.Records.{records_by}
 use Rattle.pawk_records.proofs.BlocksLemmas.{no_records}
-use Rattle.pawk_input.specs.Input.{File, Item, file_items, items, items_from}
+use Rattle.pawk_input.specs.Input.{File, file_items, items, items_from}
 use Rattle.pawk_shards.specs.Numbers.{AreSameButNumbers}
-use Rattle.pawk_feeds.specs.Feeds.{IsFileOf}
-use Rattle.pawk_feeds.specs.declared.feed.Feed.{Feed}
+use Rattle.pawk_window.specs.Feeds.{IsFileOf}
+use Rattle.pawk_window.specs.declared.feed.Feed.{Feed}
 use Rattle.pawk_map.specs.Maps.{Ground, Adds, ReadsOn, AreFilesOf, numbered_in, records_of}
 use Rattle.pawk_map.specs.declared.draft.Course.{Course}
 use Rattle.pawk_map.specs.declared.draft.Course.TheVariants.{On, Over}
 use Rattle.pawk_map.specs.declared.draft.Draft.{Draft}
 use Rattle.pawk_map.specs.declared.stream.Stream.{Stream}
-use Rattle.pawk_map.proofs.TellLemmas.{same_refl, same_append, same_then, same_back, same_file, file_append}
+use Rattle.pawk_map.proofs.TellLemmas.{same_refl, same_append, same_file, file_append}
 use Rattle.pawk_map.proofs.MapLemmas.{adds_none, adds_then, adds_over, adds_same}
 
 -- ---- records of a file

@@ -1,5 +1,5 @@
 -- A run over a shard, piece by piece.
-use Rattle.std.proofs.Common.{◌≡◌, ◌∙◌, ℕ, ◌+◌, List, [], ◌∷◌, ◌++◌, length, Option, Some, None, refl, ap, sym, subst, append_assoc, append-nil, length-append, add_assoc, add-zero, arith}
+use Rattle.std.proofs.Common.{◌≡◌, ◌∙◌, ℕ, ◌+◌, List, [], ◌∷◌, ◌++◌, length, Option, refl, ap, sym, subst, append_assoc, append-nil, length-append, add_assoc, add-zero, arith}
 use Rattle.std.proofs.KnownBytes.{Appends-nil, Appends-trans}
 use Rattle.sha2.specs.Hashers.{Holds256}
 use Rattle.sha2.specs.declared.Sha256.{Sha256}
@@ -9,14 +9,13 @@ use Rattle.pawk_merge_law.specs.Phases.{Phase}
 use Rattle.pawk_merge_law.specs.ChunkedRuns.{all_of}
 use Rattle.pawk_shards.specs.Numbers.{AreSameButNumbers}
 use Rattle.pawk_shards.specs.Told.{Tell}
-use Rattle.pawk_map.specs.Sections.{DoesNotGoThrough, EndsKept, SaySections, name_after}
+use Rattle.pawk_map.specs.Sections.{DoesNotGoThrough, EndsKept, name_after}
 use Rattle.pawk_map.specs.Maps.{Writes, Goes, Ground, Tells, Adds, held_items}
 use Rattle.pawk_map.specs.declared.draft.Course.{Course}
 use Rattle.pawk_map.specs.declared.draft.Course.TheVariants.{On, Over}
 use Rattle.pawk_map.specs.declared.draft.Draft.{Draft}
-use Rattle.pawk_map.specs.declared.draft.Held.{Held}
 use Rattle.pawk_map.specs.declared.draft.Progress.{Progress}
-use Rattle.pawk_map.proofs.TellLemmas.{same_refl, same_append, same_then, same_length, say_none, say_append, name_append, all_append, tell_append}
+use Rattle.pawk_map.proofs.TellLemmas.{same_refl, same_append, same_then, say_none, say_append, name_append, all_append, tell_append}
 
 -- ---- what was written
 

@@ -1,5 +1,5 @@
 -- The table file of a shard.
-use Rattle.std.proofs.Common.{◌≡◌, ◌∙◌, ℕ, ◌+◌, List, [], ◌∷◌, ◌++◌, length, Option, Some, None, Result, Ok, Err, refl, ap, sym, subst, append_assoc, append-nil}
+use Rattle.std.proofs.Common.{◌≡◌, ◌∙◌, ℕ, ◌+◌, List, [], ◌++◌, length, Option, Result, Ok, refl, ap, sym, subst, append_assoc}
 use Rattle.std.specs.Prelude.{All}
 use Rattle.std.proofs.KnownBytes.{Appends-trans}
 use Rattle.std.proofs.lemmas.List.Elements.{All-nil}
@@ -17,11 +17,10 @@ use Rattle.pawk_lines.specs.Lines.{Line, IsLine, line_bytes}
 use Rattle.pawk_lines.specs.Lines as lines
 use Rattle.pawk_parts.specs.Parts.{all_bytes}
 use Rattle.pawk_tables.specs.Layout.{Header, Section, header_lines, AllSpell, IsBody, IsTableFile, end_bytes}
-use Rattle.pawk_merge_law.specs.Phases.{Phase, MayRun}
-use Rattle.pawk_flow.specs.Begins.{AreRolesFrom, Begins, IsStart}
-use Rattle.pawk_flow.specs.Pieces.{phase_between}
-use Rattle.pawk_flow.specs.declared.begin.Start.{Start}
-use Rattle.pawk_map.specs.Sections.{SaySections}
+use Rattle.pawk_merge_law.specs.Phases.{MayRun}
+use Rattle.pawk_pieces.specs.Begins.{AreRolesFrom, IsStart}
+use Rattle.pawk_pieces.specs.Pieces.{phase_between}
+use Rattle.pawk_pieces.specs.declared.begin.Start.{Start}
 use Rattle.pawk_map.specs.Maps.{Ground, Goes, TellFiles, Writes}
 use Rattle.pawk_map.specs.Orders.{IsEmptyFile, IsFileFrom, WritesAll, ground_from, header_in}
 use Rattle.pawk_map.specs.declared.draft.Progress.{Progress}
@@ -102,3 +101,24 @@ pub may_from : (o : MapOrder) (start : Start) (roles : Roles) → IsStart (code_
     MayRun (phase_between (code_view o.job.code.now) (roles_view roles) o.job.budget start.flow)
 may_from o start roles begun is =
     let h = subst (λ (r : Result Roles Reason). AreRolesFrom (code_view o.job.code.now) o.job.budget (pairs_of o.assignments.now) (pairs_of o.first.now) start.rs.items start.flow r) is begun.roles in h.2
+
+-- the records after BEGIN, whose record state and RS are lent
+abbrev pub ground_lent : MapOrder → Start → Roles → RecordState → List ℕ → Ground
+ground_lent o start roles state rs = record {
+  phase = record {
+    code = code_view o.job.code.now;
+    roles = roles_view roles;
+    eres = (code_view o.job.code.now).expressions;
+    budget = o.job.budget;
+    globals = start.flow.globals;
+    state = state;
+    output = [];
+  };
+  rs = rs;
+  nr = state.nr + o.before;
+  scalars = length start.flow.globals.scalars;
+  arrays = length start.flow.globals.arrays;
+}
+
+pub lent_ground : (o : MapOrder) (start : Start) (roles : Roles) (state : RecordState) (rs : List ℕ) → state ≡ start.flow.state → rs ≡ start.rs.items → ground_lent o start roles state rs ≡ ground_from o start roles
+lent_ground o start roles state rs same lent = λ i. ground_lent o start roles (same i) (lent i)

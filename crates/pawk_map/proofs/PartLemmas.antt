@@ -1,28 +1,24 @@
 -- What chunks that were run apart leave, in lines.
-use Rattle.std.proofs.Common.{◌≡◌, ◌∙◌, ℕ, ◌+◌, ◌-◌, Bool, true, false, ◌&&◌, List, [], ◌∷◌, ◌++◌, length, map, refl, ap, sym, subst, append_assoc, append-nil, length-append, add_assoc, add-zero, arith}
+use Rattle.std.proofs.Common.{◌≡◌, ◌∙◌, ℕ, ◌+◌, ◌-◌, Bool, true, false, ◌&&◌, List, [], ◌∷◌, ◌++◌, length, map, refl, ap, sym, subst, append_assoc, length-append, add-zero, arith}
 use Rattle.std.specs.Prelude.{All}
-use Rattle.std.specs.List.{flat_map}
 use Rattle.std.proofs.lemmas.List.Concat.{flat_map-cons}
 use Rattle.std.proofs.lemmas.List.Elements.{All-head, All-tail, All-nil, All-cons}
 use Rattle.pawk_input.specs.Input.{Item}
 use Rattle.pawk_store.specs.RecordStates.{RecordState}
-use Rattle.pawk_semantics.specs.Records.{Left as SpecLeft, through}
-use Rattle.pawk_semantics.specs.LeftViews.{left_view}
-use Rattle.pawk_semantics.specs.declared.left.Left.{Left}
-use Rattle.pawk_semantics.specs.declared.left.Left.TheVariants.{Through, NextFile, Exit, Fault, Clash}
+use Rattle.pawk_store.specs.Records.{Left as SpecLeft, through}
+use Rattle.pawk_store.specs.LeftViews.{left_view}
+use Rattle.pawk_store.specs.declared.left.Left.{Left}
+use Rattle.pawk_store.specs.declared.left.Left.TheVariants.{Through, NextFile, Exit, Fault, Clash}
 use Rattle.pawk_merge.specs.Merges.{Chunk}
 use Rattle.pawk_merge.specs.MergeViews.{chunk_of}
 use Rattle.pawk_merge.specs.declared.chunk_result.ChunkResult.{ChunkResult}
 use Rattle.pawk_merge_law.specs.Phases.{Phase, MayRun}
 use Rattle.pawk_merge_law.specs.ChunkedRuns.{IsTold, Ran, HasRecord, all_of}
-use Rattle.pawk_tables.specs.Layout.{Section, part}
 use Rattle.pawk_shards.specs.Apart.{LeavesLaw}
 use Rattle.pawk_shards.specs.Joined.{NotesLaw}
-use Rattle.pawk_shards.specs.Numbers.{AreSameButNumbers}
-use Rattle.pawk_shards.specs.Told.{Tell, IsPartOf}
-use Rattle.pawk_map.specs.Sections.{DoesNotGoThrough, name_after}
+use Rattle.pawk_shards.specs.Told.{Tell, one_chunk}
+use Rattle.pawk_map.specs.Sections.{name_after}
 use Rattle.pawk_map.specs.Parted.{AreTablesOf, all_through, is_through, parts_from}
-use Rattle.pawk_map.proofs.TellLemmas.{same_refl}
 
 -- ---- tests
 
@@ -79,10 +75,12 @@ module _ (p : Phase) (may : MayRun p) where
       let next : nr + length is ≡ r.state.nr = sym n.1 in
       let at : r.state.nr ≡ nr + (r.state.nr - nr) = let a = n.0 in let b = n.1 in omega (arith, a, b) in (
         record {
-          some = All-head HasRecord is chunks each;
-          counted = n.0;
-          state = (chunk_of r).state;
-          told = subst (λ (l : SpecLeft). IsTold p nr is (record (chunk_of r) { left = l })) on.0 ran.0;
+          origin = one_chunk (chunk_of r).state;
+          says = record {
+            some = All-head HasRecord is chunks each;
+            counted = n.0;
+            told = subst (λ (l : SpecLeft). IsTold p nr is (record (chunk_of r) { left = l })) on.0 ran.0;
+          };
         },
         subst (λ m. Tell p rs m name (parts_from r.state.nr results) chunks) at
             (parts_tell leaves rs name chunks results r.state.nr (All-tail HasRecord is chunks each)

@@ -1,5 +1,5 @@
 -- The results of the chunks of a plan that were run apart, as what chunks of their records leave.
-use Rattle.std.proofs.Common.{◌≡◌, ℕ, true, false, List, [], ◌∷◌, map, sym}
+use Rattle.std.proofs.Common.{◌≡◌, ℕ, true, false, List, [], ◌∷◌, map}
 use Rattle.std.specs.Prelude.{All}
 use Rattle.std.specs.List.{flat_map}
 use Rattle.std.proofs.lemmas.List.Elements.{All-head, All-tail, All-nil, All-cons}
@@ -8,7 +8,7 @@ use Rattle.pawk_input.specs.Input.{File, Item}
 use Rattle.pawk_input.specs.Plan.{chunk_items, IsChunkOf, IsPlaced}
 use Rattle.pawk_input.specs.declared.cutting.Chunk.{Chunk}
 use Rattle.pawk_merge.specs.declared.chunk_result.ChunkResult.{ChunkResult}
-use Rattle.pawk_chunks.specs.Chunks.{Opening, chunk_end, AreResults}
+use Rattle.pawk_merge_law.specs.Chunks.{Opening, chunk_end, AreResults}
 use Rattle.pawk_merge_law.specs.Phases.{MayRun}
 use Rattle.pawk_merge_law.specs.ChunkedRuns.{all_of}
 use Rattle.pawk_merge_law.specs.Gathered.{phase_of, AreNumbered}

@@ -1,10 +1,9 @@
 -- What is written of a table file.
-use Rattle.std.proofs.Common.{◌≡◌, ◌∙◌, ℕ, ◌+◌, ◌-◌, ◌≤◌, List, [], ◌∷◌, ◌++◌, length, take, drop, Option, Some, None, Result, Ok, Err, IfOk, refl, ap, sym, subst, append_assoc, append-nil, length-append, take-append-drop, arith}
+use Rattle.std.proofs.Common.{◌≡◌, ◌∙◌, ℕ, ◌+◌, ◌-◌, ◌≤◌, List, [], ◌∷◌, ◌++◌, length, take, drop, Option, Result, Ok, Err, IfOk, refl, ap, sym, subst, append-nil, length-append, take-append-drop, arith}
 use Rattle.std.specs.Prelude.{All}
-use Rattle.std.specs.List.{flat_map}
 use Rattle.std.proofs.lemmas.List.{take-append-le, drop-append-le, take_all, length-drop}
 use Rattle.std.proofs.lemmas.List.Concat.{flat_map-cons}
-use Rattle.std.proofs.lemmas.List.Elements.{All-head, All-tail, All-nil, All-cons, All-append}
+use Rattle.std.proofs.lemmas.List.Elements.{All-head, All-tail, All-nil, All-cons}
 use Rattle.hex.specs.Hex.{encode_lower}
 use Rattle.sha2.specs.Hashers.{Holds256}
 use Rattle.sha2.specs.Sha256.{sha256}
@@ -24,9 +23,8 @@ use Rattle.pawk_shards.specs.Numbers.{AreSameButNumbers}
 use Rattle.pawk_shards.specs.Told.{Tell, kept_records}
 use Rattle.pawk_map.specs.Sections.{Parts, SaySections, name_after}
 use Rattle.pawk_map.specs.Parted.{AreTablesOf, parts_from}
-use Rattle.pawk_map.specs.Maps.{Writes, Goes, GoesUnder, Ground, IsFront, Leads, Tells, held_items}
-use Rattle.pawk_map.specs.declared.draft.Course.TheVariants.{On, Over}
-use Rattle.pawk_map.specs.declared.draft.Held.{Held}
+use Rattle.pawk_map.specs.Maps.{Writes, Goes, GoesUnder, Ground, IsFront, Tells}
+use Rattle.pawk_map.specs.declared.draft.Course.TheVariants.{On}
 use Rattle.pawk_map.specs.declared.draft.Progress.{Progress}
 use Rattle.pawk_map.proofs.TellLemmas.{same_refl, say_none, say_append, name_append}
 use Rattle.pawk_map.proofs.MapLemmas.{writes_then, tells_none}

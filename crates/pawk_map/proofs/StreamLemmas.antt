@@ -1,15 +1,13 @@
 -- A run over a shard, window by window.
-use Rattle.std.proofs.Common.{◌≡◌, ◌∙◌, ℕ, zero, suc, ◌+◌, Bool, true, false, List, [], ◌∷◌, ◌++◌, length, Option, Some, None, refl, ap, sym, subst, append_assoc, append-nil, length-append, add_assoc, add-zero, arith}
-use Rattle.std.specs.Io.KnownBytes.{IsAtEnd}
+use Rattle.std.proofs.Common.{◌≡◌, ◌∙◌, ℕ, zero, suc, ◌+◌, Bool, true, false, List, [], ◌∷◌, ◌++◌, length, Option, Some, None, refl, ap, sym, subst, append_assoc, append-nil, add-zero, arith}
 use Rattle.pawk_records.specs.Records.{records_by}
 use Rattle.pawk_records.proofs.BlocksLemmas.{no_records}
-use Rattle.pawk_input.specs.Input.{Item, file_items}
+use Rattle.pawk_input.specs.Input.{Item}
 use Rattle.pawk_window.specs.Windows.{Contents, HaveCome, HoldsRecords, HasEnded}
-use Rattle.pawk_tables.specs.Layout.{Section}
 use Rattle.pawk_merge_law.specs.Phases.{Phase}
 use Rattle.pawk_merge_law.specs.ChunkedRuns.{all_of}
-use Rattle.pawk_flow.specs.declared.piece.Piece.{Piece}
-use Rattle.pawk_flow.specs.Pieces.{piece_items, piece_records}
+use Rattle.pawk_pieces.specs.declared.piece.Piece.{Piece}
+use Rattle.pawk_pieces.specs.Pieces.{piece_items, piece_records}
 use Rattle.pawk_shards.specs.Numbers.{AreSameButNumbers}
 use Rattle.pawk_shards.specs.Told.{Tell, kept_records}
 use Rattle.pawk_map.specs.Sections.{EndsKept, SaySections}
@@ -25,7 +23,7 @@ use Rattle.pawk_map.specs.declared.draft.Progress.{Progress}
 use Rattle.pawk_map.specs.declared.run.Run.{Run}
 use Rattle.pawk_map.specs.declared.stream.Stream.{Stream}
 use Rattle.pawk_map.proofs.TellLemmas.{same_refl, same_length, file_length}
-use Rattle.pawk_map.proofs.MapLemmas.{goes_none, ends_after, tells_none, adds_none, adds_then, adds_over, adds_same}
+use Rattle.pawk_map.proofs.MapLemmas.{goes_none, ends_after}
 use Rattle.pawk_map.proofs.FileLemmas.{numbered_append}
 
 -- ---- a piece

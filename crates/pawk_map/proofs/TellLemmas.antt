@@ -1,11 +1,8 @@
 -- Sections that tell of records, one after the other.
-use Rattle.std.proofs.Common.{◌≡◌, ◌∙◌, ℕ, ◌+◌, List, [], ◌∷◌, ◌++◌, length, refl, ap, sym, subst, append_assoc, append-nil, length-append, add_assoc, add-zero, arith}
-use Rattle.std.specs.Prelude.{All}
-use Rattle.std.specs.List.{flat_map}
+use Rattle.std.proofs.Common.{◌≡◌, ◌∙◌, ℕ, ◌+◌, List, [], ◌∷◌, ◌++◌, length, refl, ap, sym, subst, append_assoc, length-append, add-zero, arith}
 use Rattle.std.proofs.lemmas.Grind.{flat_map-append}
 use Rattle.std.proofs.lemmas.List.Concat.{flat_map-cons}
 use Rattle.std.proofs.lemmas.List.Elements.{All-append, All-nil}
-use Rattle.pawk_records.specs.Records.{records_by}
 use Rattle.pawk_input.specs.Input.{Item, file_items}
 use Rattle.pawk_lines.specs.Lines.{Line, IsLine, line_bytes}
 use Rattle.pawk_parts.specs.Parts.{all_bytes}
@@ -13,7 +10,7 @@ use Rattle.pawk_tables.specs.Layout.{Section, file, part, kept, AllSpell}
 use Rattle.pawk_merge_law.specs.Phases.{Phase}
 use Rattle.pawk_merge_law.specs.ChunkedRuns.{all_of}
 use Rattle.pawk_shards.specs.Numbers.{AreSameButNumbers}
-use Rattle.pawk_shards.specs.Told.{Tell, IsPartOf}
+use Rattle.pawk_shards.specs.Told.{Tell, IsPartOf, Says, Origin, one_chunk, two_parts}
 use Rattle.pawk_map.specs.Sections.{SaySections, name_after}
 
 -- ---- records, but for their numbers
@@ -101,6 +98,19 @@ all_append cs ds = flat_map-append (λ items. items) cs ds
 all_length : (c : List Item) (cs : List (List Item)) → length (all_of (c ∷ cs)) ≡ length c + length (all_of cs)
 all_length c cs = ap length (flat_map-cons (λ items. items) c cs) ∙ length-append c (all_of cs)
 
+-- A part is of as many records as it says.
+says_counted : (p : Phase) (o : Origin) (nr : ℕ) (chunk : List Item) (count : ℕ) (output : List ℕ) (table : _) → Says p o nr chunk count output table → length chunk ≡ count
+says_counted p (one_chunk state) nr chunk count output table h = h.counted
+says_counted p (two_parts first second) nr chunk count output table h =
+    let a = says_counted p first nr h.first_items h.first_count h.first_output h.first_table h.first in
+    let b = says_counted p second (nr + h.first_count) h.second_items h.second_count h.second_output h.second_table h.second in
+    let l : length chunk ≡ length h.first_items + length h.second_items = ap length (sym h.items) ∙ length-append h.first_items h.second_items in
+    let n : h.first_count + h.second_count ≡ count = h.counted in
+    omega (arith, a, b, l, n)
+
+part_counted : (p : Phase) (nr : ℕ) (chunk : List Item) (count : ℕ) (output : List ℕ) (table : _) → IsPartOf p nr chunk count output table → length chunk ≡ count
+part_counted p nr chunk count output table h = says_counted p h.origin nr chunk count output table h.says
+
 module _ (p : Phase) (rs : List ℕ) where
   pub tell_append : (nr : ℕ) (name : List ℕ) (ss ts : List Section) (cs ds : List (List Item)) →
       Tell p rs nr name ss cs → Tell p rs (nr + length (all_of cs)) (name_after name ss) ts ds → Tell p rs nr name (ss ++ ts) (cs ++ ds)
@@ -109,7 +119,7 @@ module _ (p : Phase) (rs : List ℕ) where
   tell_append nr name (file other ∷ ss) ts cs ds h k = tell_append nr other ss ts cs ds h k
   tell_append nr name (part count output table ∷ ss) ts [] ds h k = absurd h
   tell_append nr name (part count output table ∷ ss) ts (c ∷ cs) ds h k =
-      let counted : length c ≡ count = h.0.counted in
+      let counted : length c ≡ count = part_counted p nr c count output table h.0 in
       let l = all_length c cs in
       let e : nr + length (all_of (c ∷ cs)) ≡ nr + count + length (all_of cs) = omega (arith, l, counted) in
       (h.0, tell_append (nr + count) name ss ts cs ds h.1 (subst (λ n. Tell p rs n (name_after name ss) ts ds) e k))

@@ -10,8 +10,8 @@ use Rattle.pawk_merge_law.specs.ChunkedRuns.{all_of}
 use Rattle.pawk_tables.specs.Layout.{Section}
 use Rattle.pawk_shards.specs.Numbers.{AreSameButNumbers}
 use Rattle.pawk_shards.specs.Told.{Tell, kept_records}
-use Rattle.pawk_feeds.specs.Feeds.{IsFileOf}
-use Rattle.pawk_feeds.specs.declared.feed.Feed.{Feed}
+use Rattle.pawk_window.specs.Feeds.{IsFileOf}
+use Rattle.pawk_window.specs.declared.feed.Feed.{Feed}
 use Rattle.pawk_map.specs.Sections.{name_after, SaySections, EndsKept}
 use Rattle.pawk_map.specs.declared.draft.Course.{Course}
 use Rattle.pawk_map.specs.declared.draft.Course.TheVariants.{On, Over}

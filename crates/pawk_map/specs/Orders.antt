@@ -12,11 +12,11 @@ use Rattle.pawk_lines.specs.Lines.{IsLine, line_bytes}
 use Rattle.pawk_lines.specs.Lines as lines
 use Rattle.pawk_tables.specs.Layout.{Header, Section, IsTableFile, end_bytes}
 use Rattle.pawk_tables.specs.Views.{shard_of}
-use Rattle.pawk_flow.specs.Begins.{Begins}
-use Rattle.pawk_flow.specs.Pieces.{phase_between}
-use Rattle.pawk_flow.specs.declared.begin.Begun.{Begun}
-use Rattle.pawk_flow.specs.declared.begin.Begun.TheVariants.{Ended, Flows}
-use Rattle.pawk_flow.specs.declared.begin.Start.{Start}
+use Rattle.pawk_pieces.specs.Begins.{Begins}
+use Rattle.pawk_pieces.specs.Pieces.{phase_between}
+use Rattle.pawk_pieces.specs.declared.begin.Begun.{Begun}
+use Rattle.pawk_pieces.specs.declared.begin.Begun.TheVariants.{Ended, Flows}
+use Rattle.pawk_pieces.specs.declared.begin.Start.{Start}
 use Rattle.pawk_map.specs.Maps.{Ground, TellFiles}
 use Rattle.pawk_map.specs.Sections.{SaySections}
 use Rattle.pawk_map.specs.declared.mapped.Mapped.{Mapped}

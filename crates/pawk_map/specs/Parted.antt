@@ -1,7 +1,7 @@
 -- Parts of chunks that were run apart, as the code has them.
 use Rattle.std.specs.Prelude.{◌≡◌, ℕ, ◌-◌, Bool, true, false, ◌&&◌, List, [], ◌∷◌, length, All}
-use Rattle.pawk_semantics.specs.declared.left.Left.{Left}
-use Rattle.pawk_semantics.specs.declared.left.Left.TheVariants.{Through, NextFile, Exit, Fault, Clash}
+use Rattle.pawk_store.specs.declared.left.Left.{Left}
+use Rattle.pawk_store.specs.declared.left.Left.TheVariants.{Through, NextFile, Exit, Fault, Clash}
 use Rattle.pawk_merge.specs.declared.chunk_result.ChunkResult.{ChunkResult}
 use Rattle.pawk_tables.specs.Layout.{Section, part}
 

@@ -1,8 +1,8 @@
 -- What stays the same of a run over a shard.
-use Rattle.std.specs.Prelude.{◌≡◌, ℕ, ◌+◌, ◌≤◌, length}
-use Rattle.pawk_chunks.specs.Task.{IsCrew}
+use Rattle.std.specs.Prelude.{◌+◌, ◌≤◌, length}
+use Rattle.pawk_board.specs.Limits.{IsCrew}
 use Rattle.pawk_merge_law.specs.Phases.{MayRun}
-use Rattle.pawk_threads.specs.Cuttings.{IsSized}
+use Rattle.pawk_routes.specs.Cuttings.{IsSized}
 use Rattle.pawk_map.specs.Maps.{Ground}
 use Rattle.pawk_map.specs.Runs.{phase_in}
 use Rattle.pawk_map.specs.declared.stream.Reading.{Reading}

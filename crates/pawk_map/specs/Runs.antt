@@ -7,8 +7,8 @@ use Rattle.pawk_store.specs.StateViews.{state_of}
 use Rattle.pawk_merge_law.specs.Phases.{Phase}
 use Rattle.pawk_merge_law.specs.ChunkedRuns.{HasRecord, all_of}
 use Rattle.pawk_tables.specs.Layout.{Section}
-use Rattle.pawk_flow.specs.declared.piece.Piece.{Piece}
-use Rattle.pawk_flow.specs.Pieces.{piece_items}
+use Rattle.pawk_pieces.specs.declared.piece.Piece.{Piece}
+use Rattle.pawk_pieces.specs.Pieces.{piece_items}
 use Rattle.pawk_shards.specs.Numbers.{AreSameButNumbers}
 use Rattle.pawk_shards.specs.Told.{Tell}
 use Rattle.pawk_map.specs.Sections.{SaySections, name_after, DoesNotGoThrough, EndsKept}

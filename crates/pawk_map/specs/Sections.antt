@@ -2,7 +2,7 @@
 use Rattle.std.specs.Prelude.{◌≡◌, ℕ, ◌+◌, ◌≤◌, List, [], ◌∷◌, ◌++◌, length, take, drop, All}
 use Rattle.pawk_records.specs.Records.{records_by}
 use Rattle.pawk_input.specs.Input.{Item}
-use Rattle.pawk_semantics.specs.Records.{through}
+use Rattle.pawk_store.specs.Records.{through}
 use Rattle.pawk_merge.specs.Merges.{Chunk}
 use Rattle.pawk_merge_law.specs.Phases.{Phase}
 use Rattle.pawk_merge_law.specs.ChunkedRuns.{IsTold, all_of}

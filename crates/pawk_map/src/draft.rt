@@ -18,8 +18,8 @@ use std::alloc::{AllocError, Global};
 
 /// How far a table file is written.
 #[derive(Drop)]
-pub(crate) struct Progress {
-    /// Of what was written.
+pub struct Progress {
+    /// The digest of what was written.
     pub digest: Sha256,
     /// The name of the file that the last section is of; before the first section none.
     pub name: Vec<u8>,
@@ -27,24 +27,29 @@ pub(crate) struct Progress {
     pub records: u64,
 }
 
-/// The last record that came: its file's name, how many records of the file came before, and its bytes.
+/// The last record that came, which is held back from what is written.
 #[derive(Drop)]
-pub(crate) struct Held {
+pub struct Held {
+    /// The name of its file.
     pub name: Vec<u8>,
+    /// How many records of the file came before.
     pub fnr: u64,
+    /// Its bytes, with what ends it.
     pub bytes: Vec<u8>,
 }
 
 /// A table file as far as it is written, and the last record that came, which is held back.
 #[derive(Drop)]
-pub(crate) struct Draft {
+pub struct Draft {
+    /// How far the file is written.
     pub progress: Progress,
+    /// The record that is held back, if there is one.
     pub held: Option<Held>,
 }
 
 /// Whether more records of a shard are run.
 #[derive(Clone, Copy, PartialEq, Eq, Drop)]
-pub(crate) enum Course {
+pub enum Course {
     /// All so far went through.
     On,
     /// The last ones did not, and are kept as bytes: those that follow are left unread.
@@ -86,9 +91,12 @@ fn file_line(alloc: Global, last: &[u8], name: &[u8]) -> Result<Vec<u8>, AllocEr
     Ok(line)
 }
 
-/// Writes lines of sections that have so many records of a file, after the line of the file where that is not there yet. Where there
-/// is no record nothing is written.
-pub(crate) fn write_sections<K: Sink>(
+/// Writes lines of sections that have so many records of a file of this name, after the line of the file where the last section
+/// that was written is not of it. Where there is no record nothing is written.
+///
+/// `Write` comes where a write failed, `Memory` where memory was refused, and `Input` where there are more records than can be
+/// counted.
+pub fn write_sections<K: Sink>(
     alloc: Global,
     progress: Progress,
     name: &[u8],
@@ -142,10 +150,12 @@ fn keep_last<K: Sink>(
     write_sections(alloc, progress, &name, &lines, count, sink)
 }
 
-/// Writes the record that is held back, if there is one, as bytes.
+/// Writes the record that is held back, if there is one, as bytes: the section of a table file that keeps it. The bytes of `RS` are
+/// at most one.
 ///
-/// The refusals are those of `write_lines`, `Memory` where memory was refused, and `Input` where there are too many records.
-pub(crate) fn keep_held<K: Sink>(
+/// `Write` comes where a write failed, `Memory` where memory was refused, and `Input` where there are more records than can be
+/// counted.
+pub fn keep_held<K: Sink>(
     alloc: Global,
     rs: &[u8],
     draft: Draft,

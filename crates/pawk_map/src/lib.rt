@@ -9,13 +9,15 @@ mod map;
 mod mapped;
 mod order;
 mod parts;
-mod reading;
 mod refusal;
 mod run;
 mod stream;
 mod write;
 
+pub use apart::{Apart, Setting, run_apart};
+pub use draft::{Course, Draft, Held, Progress, keep_held, write_sections};
 pub use map::map_feeds;
 pub use mapped::Mapped;
 pub use order::MapOrder;
 pub use refusal::MapRefusal;
+pub use write::{end_file, write_lines};

@@ -8,11 +8,11 @@ ghost use Rattle.pawk_records.specs.Separator.{rs_of};
 ghost use Rattle.pawk_code.specs.ProgramViews.{code_view};
 ghost use Rattle.pawk_input.specs.Input.{File};
 ghost use Rattle.pawk_store.specs.Openings.{pairs_of};
-ghost use Rattle.pawk_threads.specs.Task.{IsCrew};
+ghost use Rattle.pawk_board.specs.Limits.{IsCrew};
 ghost use Rattle.pawk_lines.specs.Lines.{IsLine};
 ghost use Rattle.pawk_parts.specs.Parts.{all_bytes};
 ghost use Rattle.pawk_tables.specs.Layout.{header_lines};
-ghost use Rattle.pawk_flow.specs.Begins.{IsStart};
+ghost use Rattle.pawk_pieces.specs.Begins.{IsStart};
 ghost use Rattle.pawk_map.specs.Maps.{AreFilesOf, Writes};
 ghost use Rattle.pawk_map.specs.Orders.{IsEmptyFile, IsFileFrom, IsMapOf, WritesAll};
 ghost use Rattle.pawk_map.specs.Orders.{header_in};
@@ -27,13 +27,12 @@ use crate::stream::{Reading, Stream, add_all};
 use crate::write::{end_file, write_lines};
 use pawk_chunks::Gate;
 use pawk_device::{Sink, Source};
-use pawk_feeds::Feed;
-use pawk_flow::{Begun, Flow, Start, begin_flow};
+use pawk_pieces::{Begun, Flow, Start, begin_flow};
 use pawk_records::Separator;
+use pawk_routes::{Cutting, Way};
 use pawk_tables::laws::files_are_written;
 use pawk_tables::{Header, push_header};
-use pawk_threads::{Cutting, Way};
-use pawk_window::Window;
+use pawk_window::{Feed, Window};
 use sha2::{Digest, Sha256};
 use std::alloc::Global;
 use std::sync::Wait;
@@ -46,7 +45,12 @@ fn write_header<K: Sink>(
     alloc: Global,
     order: MapOrder<'_>,
     sink: &mut K,
-) -> Result<Sha256, MapRefusal> {
+) -> Result<Sha256, MapRefusal>
+    ensures wrote { IfOk result (λ digest. (old : SpecDigest) × Holds256 old []
+        × Writes (K.taken sink.old) (K.taken sink.new) old digest
+        (all_bytes (header_lines (header_in order.entry)))) }
+    ensures lines { IfOk result (λ _. All IsLine (header_lines (header_in order.entry))) }
+{
     let mut digest = Sha256::new();
     let mut lines = Vec::new(alloc);
     let header = Header {
@@ -67,7 +71,11 @@ fn map_nothing<K: Sink>(
     alloc: Global,
     order: MapOrder<'_>,
     sink: &mut K,
-) -> Result<Mapped, MapRefusal> {
+) -> Result<Mapped, MapRefusal>
+    ensures { IfOk result (λ mapped. (bytes : List ℕ)
+        × Appends (K.taken sink.old) (K.taken sink.new) bytes
+        × IsEmptyFile order.entry bytes mapped) }
+{
     files_are_written();
     let digest = write_header(alloc, order, sink)?;
     end_file(alloc, digest, 0, sink)?;
@@ -80,6 +88,11 @@ fn map_nothing<K: Sink>(
 /// A run over a shard before its first record, of which so much was written; its window has so many bytes.
 fn stream_of(alloc: Global, digest: Sha256, separator: Separator, window: usize) -> Stream
     requires window { 0 < window }
+    ensures digest { result.draft.progress.digest ≡ digest }
+    ensures name { result.draft.progress.name.items ≡ [] }
+    ensures records { result.draft.progress.records ≡ 0 }
+    ensures held { result.draft.held ≡ None }
+    ensures by_rs { result.window.rs ≡ rs_of separator }
 {
     let progress = Progress {
         digest,
@@ -109,6 +122,9 @@ fn map_records<S: Source, K: Sink, G: Gate + Sync, R: Threads + Wait>(
 ) -> Result<Mapped, MapRefusal>
     requires usable { IsUsable reading }
     requires window { 0 < window }
+    ensures { IfOk result (λ mapped. (files : List File) × AreFilesOf S.left feeds.old files
+        × WritesAll (ground_of reading.entry) (K.taken sink.old) (K.taken sink.new)
+        digest files mapped) }
 {
     let alloc = reading.setting.alloc;
     let stream = stream_of(alloc, digest, Separator::of(reading.rs), window);
@@ -135,6 +151,9 @@ fn map_on<S: Source, K: Sink, G: Gate + Sync, R: Threads + Wait>(
     requires window { 0 < order.window }
     requires begun { IsStart (code_view order.job.code.now) order.job.budget
         (pairs_of order.assignments.now) (pairs_of order.first.now) start }
+    ensures { IfOk result (λ mapped. (files : List File) × AreFilesOf S.left feeds.old files
+        × (bytes : List ℕ) × Appends (K.taken sink.old) (K.taken sink.new) bytes
+        × IsFileFrom order.entry files bytes mapped start) }
 {
     files_are_written();
     let Start {
@@ -201,6 +220,9 @@ pub fn map_feeds<S: Source, K: Sink, G: Gate + Sync, R: Threads + Wait>(
 ) -> Result<Mapped, MapRefusal>
     requires workers { IsCrew order.workers }
     requires window { 0 < order.window }
+    ensures { IfOk result (λ mapped. (files : List File) × AreFilesOf S.left feeds.old files
+        × (bytes : List ℕ) × Appends (K.taken sink.old) (K.taken sink.new) bytes
+        × IsMapOf order.entry files bytes mapped) }
 {
     match begin_flow(alloc, order.job, order.assignments, order.first)? {
         Begun::Ended(_, _) => map_nothing(alloc, order, sink),

@@ -2,7 +2,7 @@
 
 ghost use Rattle.std.specs.Prelude.{◌≡◌, ◌∷◌, [], ℕ, List, IfOk, MatchOption};
 ghost use Rattle.pawk_input.specs.Input.{file_at, files_of};
-ghost use Rattle.pawk_semantics.specs.declared.left.Left.{Left as CodeLeft};
+ghost use Rattle.pawk_store.specs.declared.left.Left.{Left as CodeLeft};
 ghost use Rattle.pawk_tables.specs.Layout.{kept};
 ghost use Rattle.pawk_map.specs.Parted.{AreTablesOf, all_through, parts_from};
 ghost use Rattle.pawk_map.specs.Parted as spec;
@@ -11,7 +11,7 @@ ghost use Rattle.pawk_map.specs.Sections.{SaySections};
 use crate::refusal::MapRefusal;
 use pawk_input::Input;
 use pawk_merge::ChunkResult;
-use pawk_semantics::Left;
+use pawk_store::Left;
 use pawk_tables::{push_kept, push_part};
 use std::alloc::{AllocError, Global};
 

@@ -2,9 +2,9 @@
 
 use pawk_admit::Reason;
 use pawk_chunks::CrewRefusal;
-use pawk_flow::PieceRefusal;
+use pawk_pieces::PieceRefusal;
+use pawk_routes::Refusal;
 use pawk_tables::TableRefusal;
-use pawk_threads::Refusal;
 use pawk_window::FillError;
 use std::alloc::{AllocError, AllocFailed};
 use thiserror::Error;

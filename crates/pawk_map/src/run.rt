@@ -21,7 +21,9 @@ pub(crate) struct Run {
 }
 
 /// Whether more records are run after a piece whose chunks were all left through, or not.
-fn course_after(is_through: bool) -> Course {
+fn course_after(is_through: bool) -> Course
+    ensures { result ≡ spec.course_after is_through }
+{
     if is_through { Course::On } else { Course::Over }
 }
 
@@ -32,7 +34,10 @@ pub(crate) fn write_apart<K: Sink>(
     name: &[u8],
     apart: Apart,
     sink: &mut K,
-) -> Result<Run, MapRefusal> {
+) -> Result<Run, MapRefusal>
+    ensures { IfOk result (spec.WritesApart (K.taken sink.old) (K.taken sink.new)
+        progress name.now apart) }
+{
     let Apart {
         lines,
         records,

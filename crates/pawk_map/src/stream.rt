@@ -3,8 +3,8 @@
 ghost use Rattle.std.specs.Prelude.{◌≡◌, ◌+◌, ◌++◌, List, None, length, IfOk};
 ghost use Rattle.pawk_records.specs.Records.{records_by};
 ghost use Rattle.pawk_input.specs.Input.{File};
-ghost use Rattle.pawk_flow.specs.Pieces.{piece_items, piece_records};
-ghost use Rattle.pawk_feeds.specs.Feeds.{IsFileOf};
+ghost use Rattle.pawk_pieces.specs.Pieces.{piece_items, piece_records};
+ghost use Rattle.pawk_window.specs.Feeds.{IsFileOf};
 ghost use Rattle.pawk_map.specs.Maps.{Adds, AreFilesOf, ReadsOn, Tells, held_items};
 ghost use Rattle.pawk_map.specs.Maps.{numbered_in, records_of};
 ghost use Rattle.pawk_map.specs.Readings.{IsUsable, ground_of};
@@ -12,15 +12,13 @@ ghost use Rattle.pawk_map.specs.Readings.{IsUsable, ground_of};
 use crate::apart::{Setting, run_apart};
 use crate::cut::part_last;
 use crate::draft::{Course, Draft, Held, Progress, held_of};
-use crate::reading::next_records;
 use crate::refusal::MapRefusal;
 use crate::run::{Run, write_apart};
 use pawk_chunks::Gate;
 use pawk_device::{Sink, Source};
-use pawk_feeds::Feed;
-use pawk_flow::Piece;
+use pawk_pieces::Piece;
 use pawk_records::Separator;
-use pawk_window::Window;
+use pawk_window::{Feed, Window};
 use std::sync::Wait;
 use std::thread::Threads;
 
@@ -54,6 +52,10 @@ fn run_piece<K: Sink, G: Gate + Sync, R: Threads + Wait>(
 ) -> Result<Run, MapRefusal>
     requires usable { IsUsable reading }
     requires by_rs { piece.rs.now ≡ reading.rs.now }
+    ensures tells { IfOk result (λ run. Tells (ground_of reading.entry)
+        (K.taken sink.old) (K.taken sink.new) progress (piece_items piece.entry)
+        run.course run.progress) }
+    ensures counted { IfOk result (λ run. run.records ≡ length (piece_records piece.entry)) }
 {
     let name = piece.name;
     let before = progress
@@ -74,6 +76,9 @@ fn run_held<K: Sink, G: Gate + Sync, R: Threads + Wait>(
     gate: &G,
 ) -> Result<(Progress, Course), MapRefusal>
     requires usable { IsUsable reading }
+    ensures { IfOk result (λ r. Tells (ground_of reading.entry)
+        (K.taken sink.old) (K.taken sink.new) progress
+        (held_items reading.entry.rs.now held) r.1 r.0) }
 {
     match held {
         Some(Held { name, fnr, bytes }) => {
@@ -114,6 +119,13 @@ fn hold_last<K: Sink, G: Gate + Sync, R: Threads + Wait>(
 ) -> Result<Added, MapRefusal>
     requires usable { IsUsable reading }
     requires by_rs { piece.rs.now ≡ reading.rs.now }
+    ensures adds { IfOk result (λ added. Adds (ground_of reading.entry)
+        (K.taken sink.old) (K.taken sink.new) (record { progress = progress; held = None })
+        (numbered_in piece.entry.name.now piece.entry.fnr
+        (piece_records piece.entry ++ records_by reading.entry.rs.now last.items))
+        added.course added.draft) }
+    ensures counted { IfOk result (λ added. added.fnr ≡ piece.entry.fnr
+        + length (piece_records piece.entry ++ records_by reading.entry.rs.now last.items)) }
 {
     let (name, fnr) = (piece.name, piece.fnr);
     let Run {
@@ -146,6 +158,12 @@ fn add_piece<K: Sink, G: Gate + Sync, R: Threads + Wait>(
 ) -> Result<Added, MapRefusal>
     requires usable { IsUsable reading }
     requires by_rs { piece.rs.now ≡ reading.rs.now }
+    ensures adds { IfOk result (λ added. Adds (ground_of reading.entry)
+        (K.taken sink.old) (K.taken sink.new) draft
+        (numbered_in piece.entry.name.now piece.entry.fnr (piece_records piece.entry))
+        added.course added.draft) }
+    ensures counted { IfOk result (λ added. added.course ≡ Course.On →
+        added.fnr ≡ piece.entry.fnr + length (piece_records piece.entry)) }
 {
     let Piece {
         rs,
@@ -199,6 +217,12 @@ fn step<S: Source, K: Sink, G: Gate + Sync, R: Threads + Wait>(
     gate: &G,
 ) -> Result<(Stream, Course, u64), MapRefusal>
     requires usable { IsUsable reading }
+    requires by_rs { stream.window.rs ≡ reading.rs.now }
+    ensures reads { IfOk result (λ r. ReadsOn (ground_of reading.entry)
+        (S.left feed.old.source) (S.left feed.new.source) (K.taken sink.old) (K.taken sink.new)
+        feed.old.name.items stream fnr r.1 r.0 r.2) }
+    ensures by_rs { IfOk result (λ r. r.0.window.rs ≡ reading.entry.rs.now) }
+    ensures name { feed.new.name ≡ feed.old.name }
 {
     let Stream {
         draft,
@@ -210,7 +234,7 @@ fn step<S: Source, K: Sink, G: Gate + Sync, R: Threads + Wait>(
         rs: reading.rs,
         name: feed.name.as_slice(),
         fnr,
-        bytes: next_records(&mut window, spare, &mut feed.source)?,
+        bytes: window.next_records(spare, &mut feed.source)?,
     };
     let Added {
         draft,
@@ -236,6 +260,11 @@ fn add_feed<S: Source, K: Sink, G: Gate + Sync, R: Threads + Wait>(
     gate: &G,
 ) -> Result<(Stream, Course), MapRefusal>
     requires usable { IsUsable reading }
+    requires by_rs { stream.window.rs ≡ reading.rs.now }
+    ensures adds { IfOk result (λ r. (file : File) × IsFileOf S.left feed.old file
+        × Adds (ground_of reading.entry) (K.taken sink.old) (K.taken sink.new) stream.draft
+        (numbered_in file.name 0 (records_by reading.entry.rs.now file.bytes)) r.1 r.0.draft) }
+    ensures by_rs { IfOk result (λ r. r.0.window.rs ≡ reading.entry.rs.now) }
 {
     let mut stream = stream;
     stream.window.clear();
@@ -266,6 +295,10 @@ pub(crate) fn add_all<S: Source, K: Sink, G: Gate + Sync, R: Threads + Wait>(
     gate: &G,
 ) -> Result<(Stream, Course), MapRefusal>
     requires usable { IsUsable reading }
+    requires by_rs { stream.window.rs ≡ reading.rs.now }
+    ensures { IfOk result (λ r. (files : List File) × AreFilesOf S.left feeds.old files
+        × Adds (ground_of reading.entry) (K.taken sink.old) (K.taken sink.new) stream.draft
+        (records_of reading.entry.rs.now files) r.1 r.0.draft) }
 {
     let mut stream = stream;
     for feed in feeds.iter_mut() {

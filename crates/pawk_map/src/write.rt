@@ -14,10 +14,10 @@ use pawk_tables::{push_end, push_records};
 use sha2::{Digest, Sha256};
 use std::alloc::Global;
 
-/// Writes bytes of a file to a sink, and takes them into the digest of what was written.
+/// Writes bytes of a table file to a sink, and takes them into the digest of what was written.
 ///
 /// `Write` comes where a write failed, or took nothing.
-pub(crate) fn write_lines<K: Sink>(
+pub fn write_lines<K: Sink>(
     sink: &mut K,
     digest: &mut Sha256,
     lines: &[u8],
@@ -47,10 +47,11 @@ pub(crate) fn write_last<K: Sink>(sink: &mut K, lines: &[u8]) -> Result<(), MapR
     }
 }
 
-/// Writes the end of a file whose sections have so many records, after bytes of which this is the digest, and hands on all of it.
+/// Writes the end of a table file whose sections have so many records, after bytes of which this is the digest, and hands on all of
+/// the file.
 ///
 /// `Write` comes where a write or the flush failed, `Memory` where memory was refused.
-pub(crate) fn end_file<K: Sink>(
+pub fn end_file<K: Sink>(
     alloc: Global,
     digest: Sha256,
     records: u64,

@@ -3,7 +3,7 @@ use Rattle.std.proofs.Common.{◌≡◌, ℕ, suc, ◌+◌, ◌<◌, List, [], �
 use Rattle.std.specs.Prelude.{◌↔◌, IsTrue, is_some, MatchOption}
 use Rattle.std.specs.Option.{option_map}
 use Rattle.pawk_store.specs.Globals.{Globals}
-use Rattle.pawk_semantics.specs.Records.{Left, through, next_file, exit, fault, clash, End}
+use Rattle.pawk_store.specs.Records.{Left, through, next_file, exit, fault, clash, End}
 use Rattle.pawk_merge.specs.Tables.{all_take}
 use Rattle.pawk_merge.specs.Merges.{Chunk, Stop, at_cell, at_fault, at_clash, with_chunk, after_leaving, merge}
 use Rattle.pawk_merge.specs.Extents.{Extent, stop_here, one_more, extend, merge_far, answer_of, stop_after, stop_at, merge_more}

@@ -3,10 +3,10 @@ use Rattle.std.proofs.Common.{◌≡◌, ◌++◌, ◌∷◌, [], ℕ, true, fal
 use Rattle.std.proofs.lemmas.List.{append-nil}
 use Rattle.std.specs.Result.{IsErrAnd}
 use Rattle.pawk_store.specs.Globals.{Globals}
-use Rattle.pawk_semantics.specs.Records.{End}
+use Rattle.pawk_store.specs.Records.{End}
 use Rattle.pawk_merge.specs.Tables.{all_take, join_table}
 use Rattle.pawk_merge.specs.Merges.{Chunk, Stop, with_chunk, merge}
-use Rattle.pawk_semantics.specs.Outputs.{in_a_row}
+use Rattle.pawk_store.specs.Outputs.{in_a_row}
 use Rattle.pawk_merge.specs.MergeViews.{stop_of, Merges, Continues, Goes}
 use Rattle.pawk_merge.specs.declared.merging.Merged.{Merged}
 use Rattle.pawk_merge.specs.declared.stop.JoinStop.{JoinStop}

@@ -1,8 +1,7 @@
 -- How far chunks are merged, where a stop is met: what came before it is kept.
-use Rattle.std.specs.Prelude.{◌≡◌, ℕ, suc, ◌+◌, ◌<◌, List, [], ◌∷◌, length, take, Option, Some, None, MatchOption}
-use Rattle.std.specs.Prelude.{Result, Ok, Err, if◌then◌else◌}
+use Rattle.std.specs.Prelude.{◌≡◌, ℕ, suc, ◌+◌, ◌<◌, List, [], ◌∷◌, length, take, Option, Some, None, MatchOption, Result, Ok, Err, if◌then◌else◌}
 use Rattle.pawk_store.specs.Globals.{Globals}
-use Rattle.pawk_semantics.specs.Records.{Left, through, next_file, exit, fault, clash, End}
+use Rattle.pawk_store.specs.Records.{Left, through, next_file, exit, fault, clash, End}
 use Rattle.pawk_frozen.specs.Marks.{Table}
 use Rattle.pawk_merge.specs.Tables.{all_take}
 use Rattle.pawk_merge.specs.Merges.{Chunk, Stop, at_cell, at_fault, at_clash, with_chunk, merge}

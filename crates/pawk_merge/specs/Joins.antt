@@ -1,6 +1,6 @@
 -- What becomes of one cell, where what a chunk noted of it is joined to the globals.
 use Rattle.std.specs.Prelude.{ℤ, ◌+ℤ◌, ◌&&◌, Bool, true, false, Option, Some, Result, Ok, Err}
-use Rattle.pawk_value.specs.Fault.{Fault}
+use Rattle.pawk_value.specs.declared.faults.Fault.{Fault}
 use Rattle.pawk_value.specs.Range.{in_range}
 use Rattle.pawk_value.specs.Value.{Val, Uninit, Num}
 use Rattle.pawk_value.specs.Conversion.{num_of}

@@ -2,9 +2,9 @@
 use Rattle.std.specs.Prelude.{◌≡◌, Bool, true, false, Option, Some, None, Result, Ok, Err, if◌then◌else◌}
 use Rattle.pawk_store.specs.Globals.{Globals}
 use Rattle.pawk_store.specs.StateViews.{state_of}
-use Rattle.pawk_semantics.specs.Outputs.{in_a_row}
-use Rattle.pawk_semantics.specs.Records.{Left, End}
-use Rattle.pawk_semantics.specs.LeftViews.{left_view}
+use Rattle.pawk_store.specs.Outputs.{in_a_row}
+use Rattle.pawk_store.specs.Records.{Left, End}
+use Rattle.pawk_store.specs.LeftViews.{left_view}
 use Rattle.pawk_merge.specs.Merges.{Chunk, Stop, at_cell, at_fault, at_clash, after_leaving}
 use Rattle.pawk_merge.specs.Tables.{all_take}
 use Rattle.pawk_frozen.specs.Marks.{Table}

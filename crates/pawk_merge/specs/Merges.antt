@@ -2,7 +2,7 @@
 use Rattle.std.specs.Prelude.{ℕ, ◌++◌, List, [], ◌∷◌, Result, Ok, Err, if◌then◌else◌}
 use Rattle.pawk_store.specs.Globals.{Globals}
 use Rattle.pawk_store.specs.RecordStates.{RecordState}
-use Rattle.pawk_semantics.specs.Records.{Left, through, next_file, exit, fault, clash, End}
+use Rattle.pawk_store.specs.Records.{Left, through, next_file, exit, fault, clash, End}
 use Rattle.pawk_frozen.specs.Marks.{Table}
 use Rattle.pawk_merge.specs.Tables.{all_take, join_table}
 

@@ -1,8 +1,7 @@
 //! What a chunk leaves.
 
 use pawk_frozen::Table;
-use pawk_semantics::Left;
-use pawk_store::RecordState;
+use pawk_store::{Left, RecordState};
 
 /// What a chunk leaves.
 #[derive(Drop)]

@@ -3,8 +3,8 @@
 ghost use Rattle.std.specs.Prelude.{◌≡◌, ◌↔◌, map, true, IfOk, IsTrue, OnOk};
 ghost use Rattle.std.specs.Option.{option_map};
 ghost use Rattle.pawk_store.specs.StateViews.{state_of};
-ghost use Rattle.pawk_semantics.specs.Records.{through};
-ghost use Rattle.pawk_semantics.specs.LeftViews.{left_view};
+ghost use Rattle.pawk_store.specs.Records.{through};
+ghost use Rattle.pawk_store.specs.LeftViews.{left_view};
 ghost use Rattle.pawk_merge.specs.Merges.{before_chunks};
 ghost use Rattle.pawk_merge.specs.MergeViews.{chunk_of};
 ghost use Rattle.pawk_merge.specs.Extents as spec;
@@ -17,8 +17,7 @@ use crate::merging::Merged;
 use crate::stop::MergeStop;
 use crate::table::{join_table, takes_table};
 use pawk_frozen::Table;
-use pawk_semantics::Left;
-use pawk_store::{Globals, RecordState};
+use pawk_store::{Globals, Left, RecordState};
 use std::alloc::{AllocError, Global};
 
 /// How far chunks are merged.

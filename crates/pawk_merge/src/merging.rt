@@ -2,7 +2,7 @@
 
 ghost use Rattle.std.specs.Prelude.{◌≡◌, ◌++◌, ◌∷◌, [], map, OnOk};
 ghost use Rattle.pawk_store.specs.StateViews.{state_of};
-ghost use Rattle.pawk_semantics.specs.LeftViews.{left_view};
+ghost use Rattle.pawk_store.specs.LeftViews.{left_view};
 ghost use Rattle.pawk_merge.specs.Merges.{before_chunks};
 ghost use Rattle.pawk_merge.specs.Merges as spec;
 ghost use Rattle.pawk_merge.specs.Tables as tables;
@@ -12,8 +12,7 @@ use crate::chunk_result::ChunkResult;
 use crate::stop::JoinStop;
 use crate::table::join_table;
 use pawk_frozen::Table;
-use pawk_semantics::Left;
-use pawk_store::{Globals, RecordState};
+use pawk_store::{Globals, Left, RecordState};
 use std::alloc::Global;
 
 /// The end of chunks that are merged.

@@ -5,3 +5,15 @@ pub mod ReadyLemmas
 pub mod NumberLemmas
 pub mod ResultLemmas
 pub mod MergeLemmas
+pub mod PiecesLemmas
+pub mod WindowLemmas
+pub mod PartingLemmas
+pub mod ExtentLemmas
+pub mod FilesLemmas
+pub mod StreamLemmas
+pub mod CutLemmas
+pub mod WindowNumberLemmas
+pub mod WayLemmas
+pub mod FlowLemmas
+pub mod RedoneLemmas
+pub mod AdderLemmas

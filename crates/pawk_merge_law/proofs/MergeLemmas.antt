@@ -3,7 +3,7 @@ use Rattle.std.proofs.Common.{◌≡◌, ℕ, List, [], ◌∷◌, Bool, true, f
 use Rattle.std.specs.Prelude.{MatchResult}
 use Rattle.std.specs.Result.{result_map_both}
 use Rattle.pawk_store.specs.Globals.{Globals}
-use Rattle.pawk_semantics.specs.Records.{Left, through, next_file, exit, fault, clash, End}
+use Rattle.pawk_store.specs.Records.{Left, through, next_file, exit, fault, clash, End}
 use Rattle.pawk_merge.specs.Tables.{all_take}
 use Rattle.pawk_merge.specs.Merges.{Chunk, Stop, at_cell, with_chunk, after_leaving, merge}
 use Rattle.pawk_merge_law.specs.Gathered.{after_output}

@@ -6,8 +6,8 @@ use Rattle.pawk_store.specs.Globals.{Globals}
 use Rattle.pawk_store.specs.RecordStates.{RecordState}
 use Rattle.pawk_admit.specs.declared.role.Role.{Role}
 use Rattle.pawk_admit.specs.declared.role.Role.TheVariants.{Fixed, Adder, Setter, Reader}
-use Rattle.pawk_semantics.specs.Records.{Left, through}
-use Rattle.pawk_semantics.specs.Steady.{IsSteady, state_after_records, AreSameButRecord}
+use Rattle.pawk_store.specs.Records.{Left, through}
+use Rattle.pawk_store.specs.Steady.{IsSteady, state_after_records, AreSameButRecord}
 use Rattle.pawk_commute.specs.Settings.{Setting, PermitsFor, role_of_cell, Extends, Agrees, entry_at, MayBegin}
 use Rattle.pawk_merge_law.specs.Phases.{Phase, MayRun}
 

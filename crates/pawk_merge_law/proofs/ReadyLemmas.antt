@@ -8,8 +8,8 @@ use Rattle.std.proofs.lemmas.List.Elements.{All-head, All-tail}
 use Rattle.pawk_value.specs.Range.{FitsWord}
 use Rattle.pawk_value.specs.Value.{Val, lent_value}
 use Rattle.pawk_value.specs.Conversion.{num_of}
-use Rattle.pawk_scalar.specs.declared.values.ValueRef.{ValueRef}
-use Rattle.pawk_scalar.specs.declared.values.ValueRef.TheVariants as value
+use Rattle.pawk_value.specs.declared.values.ValueRef.{ValueRef}
+use Rattle.pawk_value.specs.declared.values.ValueRef.TheVariants as value
 use Rattle.pawk_array.specs.Entries.{Entries, order, Rise, found, keys, value_of}
 use Rattle.pawk_world.specs.Worlds.{Cell, scalar, element}
 use Rattle.pawk_store.specs.Globals.{Globals, value_at}

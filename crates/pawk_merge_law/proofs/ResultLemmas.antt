@@ -7,7 +7,7 @@ use Rattle.pawk_input.specs.Input.{File, Item, file_at}
 use Rattle.pawk_input.specs.Plan.{chunk_bytes, chunk_items, IsChunkOf}
 use Rattle.pawk_input.specs.declared.cutting.Chunk.{Chunk}
 use Rattle.pawk_merge.specs.declared.chunk_result.ChunkResult.{ChunkResult}
-use Rattle.pawk_chunks.specs.Chunks.{Opening, chunk_state, chunk_end, Leaves, AreResults}
+use Rattle.pawk_merge_law.specs.Chunks.{Opening, chunk_state, chunk_end, Leaves, AreResults}
 use Rattle.pawk_merge_law.specs.ChunkedRuns.{IsTold, Ran, HasRecord}
 use Rattle.pawk_merge.specs.MergeViews.{chunk_of}
 use Rattle.pawk_merge_law.specs.Gathered.{phase_of, AreNumbered}

@@ -10,10 +10,10 @@ use Rattle.pawk_admit.specs.declared.role.Role.TheVariants.{Fixed, Reader}
 use Rattle.pawk_admit.specs.Roles.{Roles}
 use Rattle.pawk_frozen.specs.Frozens.{Frozen}
 use Rattle.pawk_frozen.specs.Frozens as frozen
-use Rattle.pawk_semantics.specs.Records.{Left, through, next_file, exit, fault, clash, End}
-use Rattle.pawk_semantics.specs.Runs.{records_from}
-use Rattle.pawk_semantics.specs.Laws.{LeftBy, SameEnd}
-use Rattle.pawk_semantics.specs.Steady.{StaysInFile, RecordsKeep, RecordsKeepLaw, onward, RecordsFollowLaw, AreSameButRecord, ReadsAnewLaw}
+use Rattle.pawk_store.specs.Records.{Left, through, next_file, exit, fault, clash, End}
+use Rattle.pawk_store.specs.Runs.{records_from}
+use Rattle.pawk_store.specs.Laws.{LeftBy, SameEnd}
+use Rattle.pawk_store.specs.Steady.{StaysInFile, RecordsKeep, RecordsKeepLaw, onward, RecordsFollowLaw, AreSameButRecord, ReadsAnewLaw}
 use Rattle.pawk_commute.specs.Traces.{Event, created, Traced, traced}
 use Rattle.pawk_commute.specs.TracedRuns.{plain, TracedLaw, with_trace_before, TraceIsAppendedLaw}
 use Rattle.pawk_commute.specs.Settings.{PermitsFor, MayBegin}

@@ -3,9 +3,9 @@ use Rattle.std.specs.Prelude.{◌≡◌, ℕ, ◌+◌, List, [], ◌∷◌, leng
 use Rattle.pawk_input.specs.Input.{Item}
 use Rattle.pawk_store.specs.RecordStates.{RecordState}
 use Rattle.pawk_frozen.specs.Frozens.{Frozen, blank_world, calls}
-use Rattle.pawk_semantics.specs.Records.{through, End}
-use Rattle.pawk_semantics.specs.Runs.{records_from}
-use Rattle.pawk_semantics.specs.Steady.{AreSameButRecord}
+use Rattle.pawk_store.specs.Records.{through, End}
+use Rattle.pawk_store.specs.Runs.{records_from}
+use Rattle.pawk_store.specs.Steady.{AreSameButRecord}
 use Rattle.pawk_merge.specs.Merges.{Chunk, merge}
 use Rattle.pawk_merge_law.specs.Phases.{Phase, MayRun, opening, in_order, FaultsOrCreates}
 

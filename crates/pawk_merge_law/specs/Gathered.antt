@@ -4,11 +4,11 @@ use Rattle.pawk_input.specs.Input.{File, Item, items}
 use Rattle.pawk_input.specs.Plan.{chunk_items, IsChunkOf, IsPlanOf}
 use Rattle.pawk_input.specs.declared.cutting.Chunk.{Chunk}
 use Rattle.pawk_store.specs.Globals.{Globals}
-use Rattle.pawk_semantics.specs.Records.{End}
+use Rattle.pawk_store.specs.Records.{End}
 use Rattle.pawk_merge.specs.Merges.{before_chunks, merge}
 use Rattle.pawk_merge.specs.MergeViews.{chunk_of}
 use Rattle.pawk_merge.specs.declared.chunk_result.ChunkResult.{ChunkResult}
-use Rattle.pawk_chunks.specs.Chunks.{Opening, chunk_end, AreResults}
+use Rattle.pawk_merge_law.specs.Chunks.{Opening, chunk_end, AreResults}
 use Rattle.pawk_merge_law.specs.Phases.{Phase, MayRun, in_order, FaultsOrCreates}
 
 -- the records after BEGIN, which wrote this

@@ -8,9 +8,9 @@ use Rattle.pawk_store.specs.Globals.{Globals, value_at, calls}
 use Rattle.pawk_store.specs.RecordStates.{RecordState}
 use Rattle.pawk_admit.specs.declared.role.Role.TheVariants.{Adder, Reader}
 use Rattle.pawk_admit.specs.Roles.{Roles, role_of_array}
-use Rattle.pawk_semantics.specs.Records.{Left, through, next_file, exit, fault, clash, End}
-use Rattle.pawk_semantics.specs.Runs.{records_from}
-use Rattle.pawk_semantics.specs.Allows.{AllowsMain}
+use Rattle.pawk_store.specs.Records.{Left, through, next_file, exit, fault, clash, End}
+use Rattle.pawk_store.specs.Runs.{records_from}
+use Rattle.pawk_store.specs.Allows.{AllowsMain}
 use Rattle.pawk_commute.specs.Traces.{Event, created, Traced, traced}
 use Rattle.pawk_commute.specs.Settings.{PermitsFor, role_of_cell, FitSlots, AreInOrder, FitsIfOk}
 

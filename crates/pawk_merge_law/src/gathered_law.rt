@@ -2,7 +2,7 @@
 
 ghost use Rattle.pawk_merge_law.specs.Gathered.{ResultsFromLaw, ResultsLaw};
 
-use crate::law::chunks_merge;
+use crate::merge_law::chunks_merge;
 
 /// The results of chunks, whose records are numbered on from those that came before, each chunk run over the
 /// globals that those left, and their merge: where it succeeds, the chunks' records in order end with the

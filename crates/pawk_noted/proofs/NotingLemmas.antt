@@ -5,7 +5,7 @@ use Rattle.std.specs.Prelude.{nat_eq, Contains}
 use Rattle.std.proofs.lemmas.Map.Views.{Contains-from_any}
 use Rattle.std.proofs.lemmas.List.Elements.{All-contains, All-from_recursion, Contains-append_left, Contains-append_cases, Contains-push, Contains-push_cases}
 use Rattle.pawk_array.specs.Texts.{texts_in}
-use Rattle.pawk_value.specs.Fault.{Fault}
+use Rattle.pawk_value.specs.declared.faults.Fault.{Fault}
 use Rattle.pawk_value.specs.Value.{Val}
 use Rattle.pawk_code.specs.declared.word.Sign.{Sign}
 use Rattle.pawk_world.specs.declared.halt.Halt.{Halt}

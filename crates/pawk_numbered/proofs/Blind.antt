@@ -1,10 +1,10 @@
 -- Parts of a run that do not look at NR: what all of them rest on, and places.
 use Rattle.std.proofs.Common.{◌≡◌, ℕ, ℤ, zero, suc, ◌+◌, List, ◌++◌, refl, ap, ◌∙◌, Bool, true, false, if◌then◌else◌, Result, Ok, Err}
 use Rattle.std.specs.Prelude.{◌||◌}
-use Rattle.pawk_value.specs.Fault.{Fault}
+use Rattle.pawk_value.specs.declared.faults.Fault.{Fault}
 use Rattle.pawk_value.specs.Value.{Val, Num}
 use Rattle.pawk_value.specs.Conversion.{num_of, text_of, truth_of as truth_in}
-use Rattle.pawk_scalar.specs.declared.arithmetic.Op.{Op}
+use Rattle.pawk_value.specs.declared.arithmetic.Op.{Op}
 use Rattle.pawk_record.specs.Records.{Record, with_field, with_text}
 use Rattle.pawk_world.specs.Halts.{Halt}
 use Rattle.pawk_world.specs.Sums.{arith_by, op_of}
@@ -13,10 +13,10 @@ use Rattle.pawk_world.specs.Worlds as world
 use Rattle.pawk_store.specs.RecordStates.{RecordState, is_paragraph}
 use Rattle.pawk_store.specs.Slots.{fs_slot, ofs_slot}
 use Rattle.pawk_code.specs.declared.word.Sign.{Sign}
-use Rattle.pawk_semantics.specs.Parts.{Hold, value, global_array, local_array, Moment, Outcome, gives, halts, Part, give, halt_with, settle, ask, then_do, bind, as_number, as_truth, as_text, tick, tick_at}
-use Rattle.pawk_semantics.specs.Places.{Aim, parameter, cell, local_element, nowhere, text_at, with_record, field_value, read_at, old_at, write_at, change_at, add_at, holds_in, remove_in, clear_of, keys_of}
-use Rattle.pawk_semantics.specs.Places as places
-use Rattle.pawk_semantics.specs.Meaning.{decide}
+use Rattle.pawk_store.specs.Parts.{Hold, value, global_array, local_array, Moment, Outcome, gives, halts, Part, give, halt_with, settle, ask, then_do, bind, as_number, as_truth, as_text, tick, tick_at}
+use Rattle.pawk_store.specs.Places.{Aim, parameter, cell, local_element, nowhere, text_at, with_record, field_value, read_at, old_at, write_at, change_at, add_at, holds_in, remove_in, clear_of, keys_of}
+use Rattle.pawk_store.specs.Places as places
+use Rattle.pawk_store.specs.Meaning.{decide}
 
 -- a record state, a moment and an outcome with this many records read before
 abbrev pub later_state : ℕ → RecordState → RecordState

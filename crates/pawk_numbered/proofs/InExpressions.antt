@@ -1,7 +1,7 @@
 -- Expressions that do not read NR do not look at it.
 use Rattle.std.proofs.Common.{◌≡◌, ℕ, pos, suc, List, [], ◌∷◌, ◌++◌, refl, true, false, not, Result, Ok, length}
 use Rattle.std.specs.Prelude.{◌==◌, is_some, int_le}
-use Rattle.pawk_value.specs.Fault.{Fault}
+use Rattle.pawk_value.specs.declared.faults.Fault.{Fault}
 use Rattle.pawk_value.specs.Value.{Val, Num, Text, Maybe}
 use Rattle.pawk_world.specs.Sums.{arith_by, op_of}
 use Rattle.pawk_world.specs.Worlds.{Calls}
@@ -9,18 +9,13 @@ use Rattle.pawk_world.specs.Worlds as world
 use Rattle.pawk_store.specs.Slots.{subsep_slot}
 use Rattle.pawk_code.specs.declared.leaf.Special.{Special}
 use Rattle.pawk_code.specs.declared.leaf.Special.TheVariants as special
-use Rattle.pawk_code.specs.Expressions.{Expr, leaf, numeric, test, textual, read, choice, assign, call, Leaf, number, text, global, local}
-use Rattle.pawk_code.specs.Expressions.{Exprs, none, more, Place, to_global, to_local, to_element, to_field, Numeric, arithmetic, signed}
-use Rattle.pawk_code.specs.Expressions.{change, step, function, split, replace, find, NumericFunction, length_of, index_of, whole, Test}
-use Rattle.pawk_code.specs.Expressions.{compare, both, either, negation, matches, member, Textual, join, suffix, substring, letters}
-use Rattle.pawk_code.specs.Expressions.{formatted, Pattern, fixed_pattern, spelled_by, FieldsBy, by_fs, by_fixed, by_value, Format}
-use Rattle.pawk_code.specs.Expressions.{fixed_format, Argument, pass, pass_array, Arguments, no_arguments, more_arguments}
+use Rattle.pawk_code.specs.Expressions.{Expr, leaf, numeric, test, textual, read, choice, assign, call, Leaf, number, text, global, local, Exprs, none, more, Place, to_global, to_local, to_element, to_field, Numeric, arithmetic, signed, change, step, function, split, replace, find, NumericFunction, length_of, index_of, whole, Test, compare, both, either, negation, matches, member, Textual, join, suffix, substring, letters, formatted, Pattern, fixed_pattern, spelled_by, FieldsBy, by_fs, by_fixed, by_value, Format, fixed_format, Argument, pass, pass_array, Arguments, no_arguments, more_arguments}
 use Rattle.pawk_code.specs.Expressions as code
-use Rattle.pawk_semantics.specs.Parts.{Hold, value, Part}
-use Rattle.pawk_semantics.specs.Places.{Aim, parameter, cell, array_at, element_of, index_by, text_at}
-use Rattle.pawk_semantics.specs.Places as places
-use Rattle.pawk_semantics.specs.Builtins.{within_limit, joined_by, index, bytes_where, is_from, letters_in, Replaced, replaced_by, found_by, sign_of, side_of, related, same_truth, formatted_text, decimal}
-use Rattle.pawk_semantics.specs.Meaning.{one_or_zero, both_of, pattern_of, value_of_leaf, key_of, fill_from, pieces_of, split_into, put_replaced, eval, number_of, function_of, truth_of, text_of_textual, joined_texts, suffixed, texts_of, values_of, arguments_of, argument_of, aim_of, operand_of, format_of, separator_of}
+use Rattle.pawk_store.specs.Parts.{Hold, value, Part}
+use Rattle.pawk_store.specs.Places.{Aim, parameter, cell, array_at, element_of, index_by, text_at}
+use Rattle.pawk_store.specs.Places as places
+use Rattle.pawk_store.specs.Builtins.{within_limit, joined_by, index, bytes_where, is_from, letters_in, Replaced, replaced_by, found_by, sign_of, side_of, related, same_truth, formatted_text, decimal}
+use Rattle.pawk_store.specs.Meaning.{one_or_zero, both_of, pattern_of, value_of_leaf, key_of, fill_from, pieces_of, split_into, put_replaced, eval, number_of, function_of, truth_of, text_of_textual, joined_texts, suffixed, texts_of, values_of, arguments_of, argument_of, aim_of, operand_of, format_of, separator_of}
 use Rattle.pawk_numbered.specs.Mentions.{is_number_of_records, in_leaf, in_expression, in_expressions, in_place, in_numeric, in_function_of_number, in_test, in_textual, in_pattern, in_fields_by, in_format, in_argument, in_arguments}
 use Rattle.pawk_numbered.proofs.Blind.{IsBlind, neither, none_of_three, bind_blind, give_blind, settle_blind, number_blind, truth_blind, text_blind, if_blind, decide_blind, read_at_blind, write_at_blind, change_at_blind, holds_in_blind, clear_of_blind}
 

@@ -1,6 +1,6 @@
 -- Records of a program whose rules and functions do not read NR do not look at it.
 use Rattle.std.proofs.Common.{◌≡◌, ℕ, suc, ◌+◌, List, [], ◌∷◌, Option, Some, None, refl, ap, ◌∙◌, Bool, true, false, if◌then◌else◌, arith}
-use Rattle.pawk_value.specs.Fault.{Fault}
+use Rattle.pawk_value.specs.declared.faults.Fault.{Fault}
 use Rattle.pawk_value.specs.Value.{Maybe}
 use Rattle.pawk_record.specs.Records.{read as read_record}
 use Rattle.pawk_world.specs.Halts.{Halt}
@@ -12,13 +12,13 @@ use Rattle.pawk_code.specs.Expressions.{Expr}
 use Rattle.pawk_code.specs.Statements.{Stmts}
 use Rattle.pawk_code.specs.Programs.{Selector, always, matching, between, Rule, Function, Code}
 use Rattle.pawk_input.specs.Input.{Item}
-use Rattle.pawk_semantics.specs.Limits.{greatest_calls}
-use Rattle.pawk_semantics.specs.Parts.{Moment, Outcome, gives, halts, Part, give}
-use Rattle.pawk_semantics.specs.Places.{text_at}
-use Rattle.pawk_semantics.specs.Meaning.{call_at}
-use Rattle.pawk_semantics.specs.Records.{Left, through, clash, is_inside, End, end_of_halt, end_of, run_part, after_read, holds, does, reads, begins, in_range, selects, does_rule, rules_from, one_record}
-use Rattle.pawk_semantics.specs.Records as records
-use Rattle.pawk_semantics.specs.Runs.{is_skipped, after_leaving, records_from}
+use Rattle.pawk_store.specs.Limits.{greatest_calls}
+use Rattle.pawk_store.specs.Parts.{Moment, Outcome, gives, halts, Part, give}
+use Rattle.pawk_store.specs.Places.{text_at}
+use Rattle.pawk_store.specs.Meaning.{call_at}
+use Rattle.pawk_store.specs.Records.{Left, through, clash, is_inside, End, end_of_halt, end_of, run_part, after_read, holds, does, reads, begins, in_range, selects, does_rule, rules_from, one_record}
+use Rattle.pawk_store.specs.Records as records
+use Rattle.pawk_store.specs.Runs.{is_skipped, after_leaving, records_from}
 use Rattle.pawk_numbered.specs.Mentions.{in_expression, in_body, in_selector, in_rules, in_functions, reads_number}
 use Rattle.pawk_numbered.specs.Laws.{with_records_before, with_number}
 use Rattle.pawk_numbered.proofs.Blind.{later_state, later_outcome, IsBlind, neither, none_of_three, bind_blind, give_blind, settle_blind, truth_blind, dropped_blind, if_blind}

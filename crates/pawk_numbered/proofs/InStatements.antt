@@ -1,8 +1,8 @@
 -- Statements and calls that do not read NR do not look at it.
 use Rattle.std.proofs.Common.{◌≡◌, ℕ, pos, zero, suc, List, [], ◌∷◌, ◌++◌, Option, Some, None, refl, Bool, true, false, Result, Ok, length, take}
 use Rattle.std.specs.Prelude.{slice_get}
-use Rattle.pawk_value.specs.Fault.{Fault}
-use Rattle.pawk_value.specs.Fault.TheVariants as fault
+use Rattle.pawk_value.specs.declared.faults.Fault.{Fault}
+use Rattle.pawk_value.specs.declared.faults.Fault.TheVariants as fault
 use Rattle.pawk_value.specs.Value.{Val, Text}
 use Rattle.pawk_world.specs.Halts as halt
 use Rattle.pawk_world.specs.Worlds.{Calls}
@@ -11,15 +11,13 @@ use Rattle.pawk_code.specs.declared.name.Array.{Array}
 use Rattle.pawk_code.specs.declared.name.Variable.{Variable}
 use Rattle.pawk_code.specs.declared.program.ParameterKind.{ParameterKind}
 use Rattle.pawk_code.specs.Expressions.{Expr, Exprs}
-use Rattle.pawk_code.specs.Statements.{Simple, set, add, count, print, printf, delete, clear, Leave, break, continue, next_record}
-use Rattle.pawk_code.specs.Statements.{next_file, exit, return, Head, Stmt, simple, leave, when, choose, repeat, do_while, loop, walk}
-use Rattle.pawk_code.specs.Statements.{Stmts, done, next}
+use Rattle.pawk_code.specs.Statements.{Simple, set, add, count, print, printf, delete, clear, Leave, break, continue, next_record, next_file, exit, return, Head, Stmt, simple, leave, when, choose, repeat, do_while, loop, walk, Stmts, done, next}
 use Rattle.pawk_code.specs.Statements as statement
 use Rattle.pawk_code.specs.Programs.{Function}
-use Rattle.pawk_semantics.specs.Parts.{Hold, gives, Part, entry_of}
-use Rattle.pawk_semantics.specs.Places.{Aim, array_at, variable_aim, text_at}
-use Rattle.pawk_semantics.specs.Builtins.{joined_by, sign_of, formatted_text}
-use Rattle.pawk_semantics.specs.Meaning.{Way, on, by_break, by_continue, by_return, value_of_way, left_by, status_by, and_then, after_left, after_turn, turns, while_loop, print_text, print_line, visit_keys, for_keys, subscripts, act, leaves, act_or_none, test_or_true, exec, execs, run_function, run_function_at, call_at}
+use Rattle.pawk_store.specs.Parts.{Hold, gives, Part, entry_of}
+use Rattle.pawk_store.specs.Places.{Aim, array_at, variable_aim, text_at}
+use Rattle.pawk_store.specs.Builtins.{joined_by, sign_of, formatted_text}
+use Rattle.pawk_store.specs.Meaning.{Way, on, by_break, by_continue, by_return, value_of_way, left_by, status_by, and_then, after_left, after_turn, turns, while_loop, print_text, print_line, visit_keys, for_keys, subscripts, act, leaves, act_or_none, test_or_true, exec, execs, run_function, run_function_at, call_at}
 use Rattle.pawk_numbered.specs.Mentions.{in_expression, in_expressions, in_place, in_format, in_simple, in_expression_if_any, in_simple_if_any, in_leave, in_head, in_statement, in_body, in_functions}
 use Rattle.pawk_numbered.proofs.Blind.{IsBlind, neither, none_of_three, bind_blind, give_blind, halt_blind, settle_blind, tick_blind, number_blind, truth_blind, dropped_blind, if_blind, decide_blind, write_at_blind, add_at_blind, remove_in_blind, clear_of_blind, keys_of_blind}
 use Rattle.pawk_numbered.proofs.InExpressions.{key_of_blind, eval_blind, texts_blind, values_blind, aim_blind, format_blind}

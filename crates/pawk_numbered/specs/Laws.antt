@@ -4,8 +4,8 @@ use Rattle.std.specs.Prelude.{◌≡◌, ℕ, ◌+◌, false, List, Option}
 use Rattle.pawk_world.specs.Worlds.{Calls}
 use Rattle.pawk_code.specs.Programs.{Code}
 use Rattle.pawk_input.specs.Input.{Item}
-use Rattle.pawk_semantics.specs.Records.{End}
-use Rattle.pawk_semantics.specs.Runs.{records_from}
+use Rattle.pawk_store.specs.Records.{End}
+use Rattle.pawk_store.specs.Runs.{records_from}
 use Rattle.pawk_numbered.specs.Mentions.{reads_number}
 
 -- an end with this many more records read before

@@ -2,7 +2,7 @@
 
 ghost use Rattle.pawk_numbered.specs.Laws.{UnnumberedLaw, FromNoneLaw};
 
-use pawk_semantics::law::Policy;
+use pawk_store::law::Policy;
 
 /// Records of a program whose rules and functions do not read `NR` may be numbered later: over any
 /// world, with more records read before they end as without those, but that `NR` is greater by as

@@ -1,9 +1,9 @@
 -- Why a run is refused.
 use Rattle.std.proofs.Common.{◌≡◌, ◌⊎◌, ℕ, Bool, true, false, List, Option, None, Some, Result, Err, refl, sym, subst, inl, inr}
 use Rattle.std.specs.Io.KnownBytes.{Keeps}
-use Rattle.pawk_threads.specs.declared.report.Refusal.{Refusal}
-use Rattle.pawk_threads.specs.declared.report.Refusal.TheVariants as of_run
-use Rattle.pawk_semantics.specs.Runs.{reads_records}
+use Rattle.pawk_routes.specs.declared.report.Refusal.{Refusal}
+use Rattle.pawk_routes.specs.declared.report.Refusal.TheVariants as of_run
+use Rattle.pawk_store.specs.Runs.{reads_records}
 use Rattle.pawk_par.specs.Refusals.{refusal_of}
 use Rattle.pawk_par.specs.Streams.{Devices, Basis, meant, AreWanted, IsUncut, LacksMemory, ReadNothing, TookPart, WroteNothing, WhyRefused, WhyUnwritten}
 use Rattle.pawk_par.specs.declared.request.Request.{Request}

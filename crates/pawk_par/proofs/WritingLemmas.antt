@@ -3,7 +3,7 @@ use Rattle.std.proofs.Common.{◌≡◌, ℕ, zero, suc, ◌+◌, ◌<◌, ◌�
 use Rattle.std.specs.declared.alloc.Global.{Global}
 use Rattle.std.proofs.Math.Seq.{drop-nil, take-append_seam, drop-append_seam}
 use Rattle.std.proofs.lemmas.List.{take-append-le}
-use Rattle.pawk_semantics.specs.Outputs.{in_a_row}
+use Rattle.pawk_store.specs.Outputs.{in_a_row}
 use Rattle.pawk_device.proofs.TransferLemmas.{take-more}
 
 -- one more text

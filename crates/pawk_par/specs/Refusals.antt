@@ -1,7 +1,7 @@
 -- The numbers of refusals, and the refusals of runs.
 use Rattle.std.specs.Prelude.{ℕ}
-use Rattle.pawk_threads.specs.declared.report.Refusal.{Refusal}
-use Rattle.pawk_threads.specs.declared.report.Refusal.TheVariants as of_run
+use Rattle.pawk_routes.specs.declared.report.Refusal.{Refusal}
+use Rattle.pawk_routes.specs.declared.report.Refusal.TheVariants as of_run
 use Rattle.pawk_par.specs.declared.refusal.StreamRefusal.{StreamRefusal}
 use Rattle.pawk_par.specs.declared.refusal.StreamRefusal.TheVariants.{Memory, Thread, Cutting, Program, Settings, Read, Write, Input}
 

@@ -6,13 +6,13 @@ use Rattle.pawk_code.specs.Programs.{Code}
 use Rattle.pawk_input.specs.Input.{File}
 use Rattle.pawk_input.specs.Limits.{most_bytes}
 use Rattle.pawk_store.specs.Globals.{Globals}
-use Rattle.pawk_semantics.specs.Records.{End}
-use Rattle.pawk_semantics.specs.Runs.{Finish, reads_records}
+use Rattle.pawk_store.specs.Records.{End}
+use Rattle.pawk_store.specs.Runs.{Finish, reads_records}
 use Rattle.pawk_threads.specs.RunEnds.{ending_view}
 use Rattle.pawk_threads.specs.Ending.{Ending}
-use Rattle.pawk_threads.specs.Cuttings.{HasNoPlan}
-use Rattle.pawk_threads.specs.Routes.{IsRoute, begin_end, whole_run}
-use Rattle.pawk_threads.specs.declared.report.Report.{Report}
+use Rattle.pawk_routes.specs.Cuttings.{HasNoPlan}
+use Rattle.pawk_routes.specs.Routes.{IsRoute, begin_end, whole_run}
+use Rattle.pawk_routes.specs.declared.report.Report.{Report}
 use Rattle.pawk_par.specs.Requests.{IsAccepted, WhyUnaccepted}
 use Rattle.pawk_par.specs.declared.request.Request.{Request}
 use Rattle.pawk_par.specs.declared.refusal.StreamRefusal.{StreamRefusal}

@@ -14,7 +14,7 @@ pub use pawk_store::Seed;
 pub use pawk_syntax::SyntaxRefusal;
 pub use pawk_threads::{
     ChunkResult, Chunked, Cutting, Ending, Gate, Job, Left, Open, Opening, Outcome, Place, Refusal,
-    Report, Route, Task, Way, merge_results, run, run_chunk, work,
+    Report, Route, STACK_BYTES, Task, Way, merge_results, run, run_chunk, work,
 };
 pub use preparing::prepare;
 pub use refusal::StreamRefusal;

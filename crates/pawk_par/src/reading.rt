@@ -5,7 +5,7 @@ ghost use Rattle.std.specs.Io.KnownBytes.{Keeps};
 ghost use Rattle.pawk_code.specs.ProgramViews.{code_view};
 ghost use Rattle.pawk_input.specs.Limits.{most_bytes};
 ghost use Rattle.pawk_input.specs.Input.{files_of, total_size, whole_files};
-ghost use Rattle.pawk_semantics.specs.Runs.{reads_records};
+ghost use Rattle.pawk_store.specs.Runs.{reads_records};
 ghost use Rattle.pawk_par.specs.Streams.{AreBytes, IsInput, WhyUnread, standard_input};
 
 use crate::refusal::StreamRefusal;

@@ -1,8 +1,8 @@
 //! Runs from a source to a sink.
 
 ghost use Rattle.std.specs.Prelude.{IfOk, IfErr};
-ghost use Rattle.pawk_threads.specs.Task.{IsCrew};
-ghost use Rattle.pawk_threads.specs.Cuttings.{IsSized};
+ghost use Rattle.pawk_routes.specs.Limits.{IsCrew};
+ghost use Rattle.pawk_routes.specs.Cuttings.{IsSized};
 ghost use Rattle.pawk_par.specs.Streams.{Answers, WhyRefused, devices};
 
 use crate::preparing::prepare;

@@ -2,7 +2,7 @@
 
 ghost use Rattle.std.specs.Prelude.{◌≡◌, ◌<◌, ◌^◌, length, IfOk, IfErr, IfSome, OnOk};
 ghost use Rattle.std.specs.Io.KnownBytes.{Appends};
-ghost use Rattle.pawk_semantics.specs.Outputs.{in_a_row};
+ghost use Rattle.pawk_store.specs.Outputs.{in_a_row};
 ghost use Rattle.pawk_par.specs.Streams.{TookPart, WhyUnwritten};
 
 use crate::refusal::StreamRefusal;

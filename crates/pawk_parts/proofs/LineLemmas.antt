@@ -11,7 +11,7 @@ use Rattle.pawk_world.specs.Worlds as cell
 use Rattle.pawk_frozen.specs.Marks.{blank, mark_at, with_mark}
 use Rattle.pawk_lines.specs.Lines.{Line, IsLine, line_bytes}
 use Rattle.pawk_lines.specs.Lines as lines
-use Rattle.pawk_parts.specs.Parts.{Noted, noted, all_noted, all_bytes, is_mark_line, mark_of}
+use Rattle.pawk_parts.specs.Parts.{Noted, noted, all_noted, all_bytes, is_mark_line, is_only, mark_of}
 use Rattle.pawk_parts.specs.Writing.{Say, Appends}
 
 -- ---- lines one after the other
@@ -76,13 +76,13 @@ pub is_below : (k n : ℕ) → k < n → nat_lt k n ≡ true
 is_below k n h = (Decides-ltb k n).1 h
 
 -- a mark of a cell of which nothing was noted
-pub scalar_said : (slot : ℕ) (m : lines.Mark) (n : Noted) → slot < length n.table.scalars → mark_at (cell.scalar slot) n.table ≡ blank →
+pub scalar_said : (slot : ℕ) (m : lines.Mark) (n : Noted) → slot < length n.table.scalars → is_only m ≡ true → mark_at (cell.scalar slot) n.table ≡ blank →
     noted (lines.scalar slot m) n ≡ Some (record n { table = with_mark (cell.scalar slot) (mark_of m) n.table })
-scalar_said slot m n within none = rw (is_below slot (length n.table.scalars) within, none) refl
+scalar_said slot m n within only none = rw (is_below slot (length n.table.scalars) within, only, none) refl
 
 pub array_said : (slot : ℕ) (n : Noted) → slot < length n.table.arrays → noted (lines.array slot) n ≡ Some (record n { array = Some slot })
 array_said slot n within = rw (is_below slot (length n.table.arrays) within) refl
 
-pub element_said : (slot : ℕ) (key : List ℕ) (m : lines.Mark) (n : Noted) → n.array ≡ Some slot → mark_at (cell.element slot key) n.table ≡ blank →
+pub element_said : (slot : ℕ) (key : List ℕ) (m : lines.Mark) (n : Noted) → n.array ≡ Some slot → is_only m ≡ true → mark_at (cell.element slot key) n.table ≡ blank →
     noted (lines.element key m) n ≡ Some (record n { table = with_mark (cell.element slot key) (mark_of m) n.table })
-element_said slot key m n array none = rw (array, none) refl
+element_said slot key m n array only none = rw (array, only, none) refl

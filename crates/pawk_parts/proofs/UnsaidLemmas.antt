@@ -1,6 +1,6 @@
 -- No lines leave a mark that no line says.
 use Rattle.std.proofs.Common.{◌≡◌, ℕ, zero, suc, Bool, true, false, List, [], ◌∷◌, get_or, set, replicate, Option, Some, None, refl, sym, ◌∙◌, subst}
-use Rattle.std.specs.Prelude.{nat_lt, if◌then◌else◌, length}
+use Rattle.std.specs.Prelude.{nat_lt, if◌then◌else◌, ◌&&◌, length}
 use Rattle.std.specs.Option.{option_and_then}
 use Rattle.std.specs.List.{All}
 use Rattle.std.specs.Str.{bytes_eq}
@@ -12,7 +12,7 @@ use Rattle.pawk_world.specs.Worlds as cell
 use Rattle.pawk_frozen.specs.Marks.{Mark, Marks, Table, blank, summed, last_put, created, blank_table, mark_at, with_mark, put_mark}
 use Rattle.pawk_lines.specs.Lines.{Line, IsLine, IsMark}
 use Rattle.pawk_lines.specs.Lines as lines
-use Rattle.pawk_parts.specs.Parts.{Noted, noted, all_noted, nothing_noted, table_in, mark_of, is_blank, SayTable, with_new_key}
+use Rattle.pawk_parts.specs.Parts.{Noted, noted, all_noted, nothing_noted, table_in, mark_of, is_only, is_blank, SayTable, with_new_key}
 use Rattle.pawk_parts.specs.Writing.{MayBeSaid, MayBeLeft, HasUnsaid}
 
 pub may_be_left : (m : Mark) → MayBeSaid m → MayBeLeft m
@@ -22,6 +22,7 @@ may_be_left (last_put value) h = tt
 may_be_left created h = tt
 
 may_be_said : (m : lines.Mark) → IsMark m → MayBeSaid (mark_of m)
+may_be_said (lines.added total) h = (h, h, h)
 may_be_said (lines.sum total least greatest) h = h
 may_be_said (lines.put value) h = tt
 may_be_said lines.created h = tt
@@ -89,13 +90,13 @@ key_said : (o : Option ℕ) (key : List ℕ) (m : lines.Mark) (n k : Noted) → 
 key_said None key m n k h e all = let bad : None ≡ Some k = e in cc
 key_said (Some slot) key m n k h e all =
     let c = cell.element slot key in
-    let is = at_true (is_blank (mark_at c n.table)) (record n { table = with_mark c (mark_of m) n.table }) k e in
+    let is = at_true (is_only m && is_blank (mark_at c n.table)) (record n { table = with_mark c (mark_of m) n.table }) k e in
     subst (λ (x : Noted). AllSaid x.table) is (with_mark_said c (mark_of m) n.table h all)
 
 line_said : (l : Line) (n k : Noted) → IsLine l → noted l n ≡ Some k → AllSaid n.table → AllSaid k.table
 line_said (lines.scalar slot m) n k h e all =
     let c = cell.scalar slot in
-    let is = at_both (nat_lt slot (length n.table.scalars)) (is_blank (mark_at c n.table)) (record n { table = with_mark c (mark_of m) n.table }) k e in
+    let is = at_both (nat_lt slot (length n.table.scalars)) (is_only m && is_blank (mark_at c n.table)) (record n { table = with_mark c (mark_of m) n.table }) k e in
     subst (λ (x : Noted). AllSaid x.table) is (with_mark_said c (mark_of m) n.table (may_be_said m h.1) all)
 line_said (lines.array slot) n k h e all =
     let is = at_true (nat_lt slot (length n.table.arrays)) (record n { array = Some slot }) k e in

@@ -1,8 +1,9 @@
 -- What a part of the records noted of the globals, in lines: a line for each scalar and each element of which something was
 -- noted; the elements of an array come after a line with its slot.
-use Rattle.std.specs.Prelude.{◌≡◌, ℕ, nat_lt, Bool, true, false, if◌then◌else◌, List, [], ◌∷◌, length, take, drop, Option, Some, None}
+use Rattle.std.specs.Prelude.{◌≡◌, ℕ, nat_lt, Bool, true, false, not, ◌&&◌, if◌then◌else◌, List, [], ◌∷◌, length, take, drop, Option, Some, None}
 use Rattle.std.specs.List.{All, AllPass, flat_map}
 use Rattle.std.specs.Option.{option_and_then}
+use Rattle.std.specs.Ordering.{int_eq}
 use Rattle.pawk_world.specs.Worlds.{Cell}
 use Rattle.pawk_world.specs.Worlds as cell
 use Rattle.pawk_frozen.specs.Marks.{Table, blank_table, mark_at, with_mark}
@@ -22,9 +23,15 @@ is_mark_line (lines.element key m) = true
 is_mark_line _ = false
 
 abbrev pub mark_of : lines.Mark → marks.Mark
+mark_of (lines.added total) = marks.summed total total total
 mark_of (lines.sum total least greatest) = marks.summed total least greatest
 mark_of (lines.put value) = marks.last_put value
 mark_of lines.created = marks.created
+
+-- whether no other mark says the same: a sum that is each sum on the way, too, is said by the mark of one number
+abbrev pub is_only : lines.Mark → Bool
+is_only (lines.sum total least greatest) = not (int_eq least total && int_eq greatest total)
+is_only _ = true
 
 abbrev pub is_blank : marks.Mark → Bool
 is_blank marks.blank = true
@@ -38,14 +45,15 @@ pub record Noted : Type 0 where
 -- a mark of a cell of which nothing was noted so far
 abbrev pub with_new_mark : Cell → lines.Mark → Noted → Option Noted
 with_new_mark c m n =
-    if is_blank (mark_at c n.table) then Some (record n { table = with_mark c (mark_of m) n.table }) else None
+    if is_only m && is_blank (mark_at c n.table) then Some (record n { table = with_mark c (mark_of m) n.table }) else None
 
 -- a key of the array of this slot, if there is one
 abbrev pub with_new_key : Option ℕ → List ℕ → lines.Mark → Noted → Option Noted
 with_new_key None key m n = None
 with_new_key (Some slot) key m n = with_new_mark (cell.element slot key) m n
 
--- what one line more says; none where it says nothing: there is no such slot, no array for a key, or a mark for the cell before
+-- what one line more says; none where it says nothing: there is no such slot, no array for a key, a mark for the cell
+-- before, or a mark that is said otherwise
 abbrev pub noted : Line → Noted → Option Noted
 noted (lines.scalar slot m) n = if nat_lt slot (length n.table.scalars) then with_new_mark (cell.scalar slot) m n else None
 noted (lines.array slot) n = if nat_lt slot (length n.table.arrays) then Some (record n { array = Some slot }) else None

@@ -49,7 +49,7 @@ impl Reader {
 
     /// Notes the mark of a scalar.
     ///
-    /// `Damage` where there is no such slot, or something was noted of the scalar before.
+    /// `Damage` where there is no such slot, something was noted of the scalar before, or a shorter mark says the same.
     fn note_scalar(&mut self, slot: u64, mark: Mark<'_>) -> Result<(), TableRefusal>
         ensures { let line = noted (lines.scalar slot (shown_mark mark.entry)) (noted_by self.old) in
             MatchResult result (λ _. line ≡ Some (noted_by self.new))
@@ -84,7 +84,7 @@ impl Reader {
 
     /// Notes the mark of an element.
     ///
-    /// `Damage` where no array began, or something was noted of the element before.
+    /// `Damage` where no array began, something was noted of the element before, or a shorter mark says the same.
     fn note_element(&mut self, key: &[u8], mark: Mark<'_>) -> Result<(), TableRefusal>
         ensures { let line
             = noted (lines.element key.now (shown_mark mark.entry)) (noted_by self.old) in

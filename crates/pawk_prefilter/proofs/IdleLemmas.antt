@@ -9,11 +9,11 @@ use Rattle.pawk_store.specs.RecordStates.{RecordState}
 use Rattle.pawk_ere.specs.Words.{HoldsNone}
 use Rattle.pawk_code.specs.Expressions.{Expr, leaf, numeric, test, field, find, Test, both, either, matches, Pattern, fixed_pattern}
 use Rattle.pawk_code.specs.Programs.{Selector, always, matching, between, Rule, Function}
-use Rattle.pawk_semantics.specs.Limits.{greatest_calls}
-use Rattle.pawk_semantics.specs.Parts.{Hold, Moment, Outcome, gives, Part, give, settle, then_do, bind, as_truth}
-use Rattle.pawk_semantics.specs.Meaning.{one_or_zero, place_of_match, decide, set_match, eval, truth_of, call_at}
-use Rattle.pawk_semantics.specs.Builtins.{same_truth}
-use Rattle.pawk_semantics.specs.Records.{is_inside, holds, does, in_range, selects, rules_from}
+use Rattle.pawk_store.specs.Limits.{greatest_calls}
+use Rattle.pawk_store.specs.Parts.{Hold, Moment, Outcome, gives, Part, give, settle, then_do, bind, as_truth}
+use Rattle.pawk_store.specs.Meaning.{one_or_zero, place_of_match, decide, set_match, eval, truth_of, call_at}
+use Rattle.pawk_store.specs.Builtins.{same_truth}
+use Rattle.pawk_store.specs.Records.{is_inside, holds, does, in_range, selects, rules_from}
 use Rattle.pawk_prefilter.specs.Needs.{NeedsInRecord, IsIdle, IsIdleTest, IsIdleSelector, IsIdleRule, resets, resets_test, resets_selector, any_resets, reset_if}
 
 -- ---- what a match that finds nothing sets

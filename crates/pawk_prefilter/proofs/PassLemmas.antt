@@ -12,9 +12,9 @@ use Rattle.pawk_store.specs.Slots.{fs_slot}
 use Rattle.pawk_ere.specs.Words.{HoldsNone}
 use Rattle.pawk_code.specs.Programs.{Code}
 use Rattle.pawk_input.specs.Input.{Item}
-use Rattle.pawk_semantics.specs.Parts.{then_do}
-use Rattle.pawk_semantics.specs.Records.{through, is_inside, End, end_of, opening_moment, run_part, after_read, one_record, rules_from}
-use Rattle.pawk_semantics.specs.Runs.{after_leaving, records_from}
+use Rattle.pawk_store.specs.Parts.{then_do}
+use Rattle.pawk_store.specs.Records.{through, is_inside, End, end_of, opening_moment, run_part, after_read, one_record, rules_from}
+use Rattle.pawk_store.specs.Runs.{after_leaving, records_from}
 use Rattle.pawk_prefilter.specs.Needs.{IsIdleRule, any_resets, reset_if, past, PassLaw}
 use Rattle.pawk_prefilter.proofs.IdleLemmas.{same_ranges, rules_idle}
 

@@ -17,10 +17,10 @@ use Rattle.pawk_world.specs.Worlds.{Calls}
 use Rattle.pawk_store.specs.Slots.{fs_slot}
 use Rattle.pawk_input.specs.Input.{Item}
 use Rattle.pawk_input.specs.Passing.{PassesOver}
-use Rattle.pawk_semantics.specs.Records.{End, is_inside}
-use Rattle.pawk_semantics.specs.Runs.{records_from}
+use Rattle.pawk_store.specs.Records.{End, is_inside}
+use Rattle.pawk_store.specs.Runs.{records_from}
 use Rattle.pawk_prefilter.proofs.PassLemmas.{passes}
-use Rattle.pawk_semantics.specs.Builtins.{found_by, pattern_at, pattern_or_fault}
+use Rattle.pawk_store.specs.Builtins.{found_by, pattern_at, pattern_or_fault}
 use Rattle.pawk_prefilter.specs.Needs.{Needs, NeedsInRecord, IsIdle, IsIdleTest, IsIdleSelector, IsIdleRule, any_resets, past}
 
 -- ---- an expression

@@ -8,9 +8,9 @@ use Rattle.pawk_ere.specs.Words.{HoldsNone}
 use Rattle.pawk_code.specs.Expressions.{Expr, leaf, numeric, test, field, find, Test, both, either, matches, Pattern, fixed_pattern}
 use Rattle.pawk_code.specs.Programs.{Selector, always, matching, between, Rule, Code}
 use Rattle.pawk_input.specs.Input.{Item}
-use Rattle.pawk_semantics.specs.Builtins.{found_by, fixed_at}
-use Rattle.pawk_semantics.specs.Records.{End, is_inside}
-use Rattle.pawk_semantics.specs.Runs.{records_from}
+use Rattle.pawk_store.specs.Builtins.{found_by, fixed_at}
+use Rattle.pawk_store.specs.Records.{End, is_inside}
+use Rattle.pawk_store.specs.Runs.{records_from}
 
 module _ (eres words : List (List ℕ)) where
   -- the expression of this number, of the texts between slashes, matches nothing in a text that holds none of the words

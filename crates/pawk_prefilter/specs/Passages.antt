@@ -5,7 +5,7 @@ use Rattle.pawk_code.specs.Programs.{Code, Rule}
 use Rattle.pawk_store.specs.declared.state.RecordState.{RecordState}
 use Rattle.pawk_store.specs.StateViews.{state_of}
 use Rattle.pawk_prefilter.specs.Needs.{IsIdleRule, any_resets}
-use Rattle.pawk_semantics.specs.Records.{Left, End}
+use Rattle.pawk_store.specs.Records.{Left, End}
 
 -- the bytes of texts
 abbrev pub texts_of : List (Vec ℕ Global) → List (List ℕ)

@@ -6,8 +6,8 @@ use Rattle.std.proofs.lemmas.List.Folds.{drop_split}
 use Rattle.std.specs.Prelude.{OnOk, slice_get, slice_index_or}
 use Rattle.std.specs.declared.ops.Range.{Range}
 use Rattle.pawk_fields.specs.FieldSeparator.{range_of}
-use Rattle.pawk_scalar.specs.Conversion.{text_of}
-use Rattle.pawk_scalar.specs.Value.{Val, Uninit, Maybe}
+use Rattle.pawk_value.specs.Conversion.{text_of}
+use Rattle.pawk_value.specs.Value.{Val, Uninit, Maybe}
 use Rattle.pawk_record.specs.declared.layout.Kind.{Kind}
 use Rattle.pawk_record.specs.declared.layout.Kind.TheVariants as kinds
 use Rattle.pawk_record.specs.declared.layout.Layout.{Layout}

@@ -4,8 +4,8 @@ use Rattle.std.proofs.Math.Seq.{take-append_seam}
 use Rattle.std.proofs.lemmas.List.{drop_at}
 use Rattle.std.specs.Prelude.{slice_get, slice_range}
 use Rattle.std.specs.declared.ops.Range.{Range}
-use Rattle.pawk_scalar.specs.Conversion.{text_of}
-use Rattle.pawk_scalar.specs.Value.{Val, Uninit, Num, Text, Maybe}
+use Rattle.pawk_value.specs.Conversion.{text_of}
+use Rattle.pawk_value.specs.Value.{Val, Uninit, Num, Text, Maybe}
 use Rattle.pawk_record.specs.declared.layout.Layout.{Layout}
 use Rattle.pawk_record.specs.Lines.{Adds, IsLaidOut, IsLaidOutTo, before_at, kind_of, places_from, value_of, values}
 use Rattle.pawk_record.specs.Records.{joined, joined_from}

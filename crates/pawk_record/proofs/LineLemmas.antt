@@ -2,7 +2,7 @@
 use Rattle.std.proofs.Common.{◌≡◌, ℕ, zero, suc, ◌+◌, ◌-◌, ◌<◌, ◌≤◌, max, arith, List, [], ◌∷◌, ◌++◌, length, set, replicate, Some, None, refl, ap, ◌∙◌, length-append}
 use Rattle.std.specs.Prelude.{slice_get}
 use Rattle.std.specs.declared.ops.Range.{Range}
-use Rattle.pawk_scalar.specs.Value.{Val, Uninit, Maybe}
+use Rattle.pawk_value.specs.Value.{Val, Uninit, Maybe}
 use Rattle.pawk_record.specs.declared.layout.Kind.{Kind}
 use Rattle.pawk_record.specs.Lines.{bytes_in, value_by, value_of, values}
 use Rattle.pawk_record.specs.Records.{padded, value_or_uninit, with_value}

@@ -2,10 +2,10 @@
 use Rattle.std.proofs.Common.{◌≡◌, ℕ, ◌≤◌, arith, Bool, List, [], ◌∷◌, ◌++◌, length, map, Option, Some, None, Ok, Err, refl, sym, ap, ◌∙◌, subst, false, length-append}
 use Rattle.std.specs.declared.ops.Range.{Range}
 use Rattle.std.specs.Prelude.{is_none}
-use Rattle.pawk_scalar.specs.Value.{Maybe}
-use Rattle.pawk_value.specs.Fault.{Fault}
-use Rattle.pawk_value.specs.Stop.{Stop}
-use Rattle.pawk_value.specs.Stop.TheVariants as stops
+use Rattle.pawk_value.specs.Value.{Maybe}
+use Rattle.pawk_value.specs.declared.faults.Fault.{Fault}
+use Rattle.pawk_value.specs.declared.faults.Stop.{Stop}
+use Rattle.pawk_value.specs.declared.faults.Stop.TheVariants as stops
 use Rattle.pawk_ere_automaton.specs.Regex.{Regex}
 use Rattle.pawk_fields.specs.FieldSeparator.{range_of, ranges_by, ranges_from}
 use Rattle.pawk_fields.specs.declared.separator.FieldSeparator.{FieldSeparator}

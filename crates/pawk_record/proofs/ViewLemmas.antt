@@ -5,9 +5,9 @@ use Rattle.std.proofs.lemmas.List.{length-map}
 use Rattle.std.proofs.lemmas.Option.{slice_get_past}
 use Rattle.std.specs.Prelude.{IfSome, is_none, slice_get}
 use Rattle.std.specs.declared.ops.Range.{Range}
-use Rattle.pawk_scalar.specs.Value.{Val}
-use Rattle.pawk_value.specs.Fault.{Fault}
-use Rattle.pawk_value.specs.Fault.TheVariants.{Field, Length}
+use Rattle.pawk_value.specs.Value.{Val}
+use Rattle.pawk_value.specs.declared.faults.Fault.{Fault}
+use Rattle.pawk_value.specs.declared.faults.Fault.TheVariants.{Field, Length}
 use Rattle.pawk_fields.specs.FieldSeparator.{range_of}
 use Rattle.pawk_fields.specs.FieldList.{fields_of}
 use Rattle.pawk_record.specs.declared.layout.Kind.{Kind}

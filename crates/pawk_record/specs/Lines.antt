@@ -1,8 +1,8 @@
 -- Where the fields are in a line, and what they are.
 use Rattle.std.specs.Prelude.{◌≡◌, ℕ, zero, suc, ◌+◌, ◌-◌, ◌^◌, ◌≤◌, ◌++◌, min, Bool, if◌then◌else◌, Option, None, Some, List, [], ◌∷◌, length, slice_range, slice_set, take, drop, map}
 use Rattle.std.specs.declared.ops.Range.{Range}
-use Rattle.pawk_scalar.specs.Conversion.{text_of}
-use Rattle.pawk_scalar.specs.Value.{Val, Uninit, Num, Text, Maybe}
+use Rattle.pawk_value.specs.Conversion.{text_of}
+use Rattle.pawk_value.specs.Value.{Val, Uninit, Num, Text, Maybe}
 use Rattle.pawk_record.specs.declared.layout.Kind.{Kind}
 use Rattle.pawk_record.specs.declared.layout.Kind.TheVariants as kinds
 use Rattle.pawk_record.specs.declared.layout.Layout.{Layout}

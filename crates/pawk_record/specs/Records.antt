@@ -1,11 +1,11 @@
 -- The record and its fields.
 -- POSIX.1-2017, awk, "Variables and Special Variables" (NF, FS, OFS), "Expressions in awk", "Input Files".
 use Rattle.std.specs.Prelude.{ℕ, zero, suc, ◌-◌, ◌≤◌, ◌++◌, Bool, if◌then◌else◌, nat_le, min, List, [], ◌∷◌, Option, Some, None, Result, Ok, Err, slice_get, slice_set, replicate, length, map}
-use Rattle.pawk_scalar.specs.Conversion.{text_of}
-use Rattle.pawk_scalar.specs.Limits.{length_limit}
-use Rattle.pawk_scalar.specs.Value.{Val, Uninit, Maybe}
-use Rattle.pawk_value.specs.Fault.{Fault}
-use Rattle.pawk_value.specs.Fault.TheVariants.{Field, Length}
+use Rattle.pawk_value.specs.Conversion.{text_of}
+use Rattle.pawk_value.specs.Limits.{length_limit}
+use Rattle.pawk_value.specs.Value.{Val, Uninit, Maybe}
+use Rattle.pawk_value.specs.declared.faults.Fault.{Fault}
+use Rattle.pawk_value.specs.declared.faults.Fault.TheVariants.{Field, Length}
 use Rattle.pawk_fields.specs.Splits.{bytes_of}
 use Rattle.pawk_fields.specs.FieldList.{fields_of}
 use Rattle.pawk_record.specs.Limits.{greatest_field}

@@ -1,7 +1,7 @@
 -- What separates the fields of a record, and which of them are left.
 use Rattle.std.specs.Prelude.{◌≡◌, ℕ, Bool, List, [], ◌∷◌, Option, Some, None, Result, Ok, Err}
-use Rattle.pawk_value.specs.Fault.{Fault}
-use Rattle.pawk_value.specs.Fault.TheVariants.{Fs, Ere}
+use Rattle.pawk_value.specs.declared.faults.Fault.{Fault}
+use Rattle.pawk_value.specs.declared.faults.Fault.TheVariants.{Fs, Ere}
 use Rattle.pawk_ere_syntax.specs.Tokens.{SpellsNone}
 use Rattle.pawk_ere.specs.Caches.{IsOfText}
 use Rattle.pawk_fields.specs.FieldSeparator.{ranges_from}

@@ -2,10 +2,10 @@
 
 ghost use Rattle.std.specs.Prelude.{◌≡◌, ◌+◌, ◌<◌, ◌≤◌, ◌++◌, true, false, [], None, Some, length, max, replicate, slice_get, slice_range, IfErr, IfOk, MatchOption, OnErr, OnOk};
 ghost use Rattle.pawk_fields.specs.FieldSeparator.{range_of};
-ghost use Rattle.pawk_scalar.specs.Conversion.{text_of};
-ghost use Rattle.pawk_scalar.specs.Limits.{length_limit};
-ghost use Rattle.pawk_scalar.specs.Value.{lent_value};
-ghost use Rattle.pawk_scalar.specs.declared.faults.Fault.TheVariants.{Length};
+ghost use Rattle.pawk_value.specs.Conversion.{text_of};
+ghost use Rattle.pawk_value.specs.Limits.{length_limit};
+ghost use Rattle.pawk_value.specs.Value.{lent_value};
+ghost use Rattle.pawk_value.specs.declared.faults.Fault.TheVariants.{Length};
 ghost use Rattle.pawk_fields.specs.FieldsOf.{IfFault};
 ghost use Rattle.pawk_record.specs.Lines.{Adds, IsJoined, IsLaidOut, Replaces, before_at, exchanged, kind_of, line_of, value_by, values, values_of};
 ghost use Rattle.pawk_record.specs.Records.{joined, value_or_uninit, with_value};

@@ -1,7 +1,7 @@
 //! The record and its fields.
 
 ghost use Rattle.std.specs.Prelude.{◌≡◌, ◌≤◌, length, Some, None, Ok, Err, [], IfErr, IfOk, IfSome, OnOk};
-ghost use Rattle.pawk_scalar.specs.Value.{lent_value};
+ghost use Rattle.pawk_value.specs.Value.{lent_value};
 ghost use Rattle.pawk_fields.specs.FieldsOf.{IfFault};
 ghost use Rattle.pawk_record.specs.Lines.{line_of};
 ghost use Rattle.pawk_record.specs.Records.{IsPrepared, field_at, read, with_field, with_text};

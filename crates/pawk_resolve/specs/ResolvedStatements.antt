@@ -1,7 +1,7 @@
 -- The code of statements (POSIX.1-2017, awk, "Actions" and "Output Statements").
 use Rattle.std.specs.Prelude.{Option}
 use Rattle.std.specs.Option.{option_map}
-use Rattle.pawk_scalar.specs.declared.arithmetic.Op.TheVariants as op
+use Rattle.pawk_value.specs.declared.arithmetic.Op.TheVariants as op
 use Rattle.pawk_syntax_tree.specs.Tree.{Tree, Trees}
 use Rattle.pawk_syntax_tree.specs.Tree as tree
 use Rattle.pawk_syntax_tree.specs.declared.statement.Jump.{Jump as Word}

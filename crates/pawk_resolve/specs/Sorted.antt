@@ -2,8 +2,8 @@
 use Rattle.std.specs.Prelude.{ℕ, ℤ, pos, nat_lt, Bool, true, false, if◌then◌else◌}
 use Rattle.pawk_lex.specs.declared.token.Builtin.{Builtin}
 use Rattle.pawk_lex.specs.declared.token.Builtin.TheVariants as b
-use Rattle.pawk_scalar.specs.Limits.{number_limit}
-use Rattle.pawk_scalar.specs.declared.arithmetic.Op.TheVariants as op
+use Rattle.pawk_value.specs.Limits.{number_limit}
+use Rattle.pawk_value.specs.declared.arithmetic.Op.TheVariants as op
 use Rattle.pawk_syntax_tree.specs.declared.tree.Single.{Single}
 use Rattle.pawk_syntax_tree.specs.declared.tree.Single.TheVariants as single
 use Rattle.pawk_syntax_tree.specs.declared.tree.Double.{Double}

@@ -4,8 +4,8 @@ ghost use Rattle.std.specs.Prelude.{◌≡◌};
 ghost use Rattle.pawk_resolve.specs.Sorted as spec;
 
 use pawk_code::word::Relation;
-use pawk_scalar::Op;
 use pawk_syntax_tree::tree::Double;
+use pawk_value::Op;
 
 /// What an operator with two operands does.
 #[derive(Clone, Copy)]

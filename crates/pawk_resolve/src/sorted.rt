@@ -9,8 +9,8 @@ use pawk_code::expression::{Expr, Format, Lvalue, Numeric, Test, Textual};
 use pawk_code::format::FixedFormat;
 use pawk_code::leaf::Leaf;
 use pawk_code::word::{Sign, Step};
-use pawk_scalar::NUMBER_LIMIT;
 use pawk_syntax_tree::tree::Single;
+use pawk_value::NUMBER_LIMIT;
 use std::alloc::{AllocError, Global};
 use std::mem::replace;
 

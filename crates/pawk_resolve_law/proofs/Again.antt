@@ -3,8 +3,8 @@ use Rattle.std.proofs.Common.{◌≡◌, ◌<◌, ℕ, true, false, pos, negsuc,
 use Rattle.std.specs.Prelude.{length}
 use Rattle.pawk_lex.specs.Bytes.{Text}
 use Rattle.pawk_lex.specs.declared.token.Builtin.TheVariants as b
-use Rattle.pawk_scalar.specs.declared.arithmetic.Op.{Op}
-use Rattle.pawk_scalar.specs.declared.arithmetic.Op.TheVariants as op
+use Rattle.pawk_value.specs.declared.arithmetic.Op.{Op}
+use Rattle.pawk_value.specs.declared.arithmetic.Op.TheVariants as op
 use Rattle.pawk_syntax_tree.specs.declared.tree.Double.{Double}
 use Rattle.pawk_syntax_tree.specs.declared.tree.Double.TheVariants as double
 use Rattle.pawk_syntax_tree.specs.Tree.{Tree, Trees, ere, variable, unary, binary, builtin}

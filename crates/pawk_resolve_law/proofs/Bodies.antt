@@ -3,7 +3,7 @@ use Rattle.std.proofs.Common.{◌≡◌, ℕ, true, false, ◌||◌, Option, Som
 use Rattle.std.specs.Prelude.{is_some, unwrap_or}
 use Rattle.std.specs.Option.{option_map}
 use Rattle.pawk_lex.specs.Bytes.{Text}
-use Rattle.pawk_scalar.specs.declared.arithmetic.Op.TheVariants as op
+use Rattle.pawk_value.specs.declared.arithmetic.Op.TheVariants as op
 use Rattle.pawk_syntax_tree.specs.Tree.{Tree, Trees, unary, binary}
 use Rattle.pawk_syntax_tree.specs.Tree as tree
 use Rattle.pawk_syntax_tree.specs.declared.statement.Jump.TheVariants as word

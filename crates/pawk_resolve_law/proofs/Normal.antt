@@ -3,7 +3,7 @@ use Rattle.std.proofs.Common.{◌≡◌, ◌<◌, ℕ, Bool, true, false, pos, n
 use Rattle.std.specs.Prelude.{is_some, unwrap_or}
 use Rattle.pawk_lex.specs.Bytes.{Text}
 use Rattle.pawk_lex.specs.declared.token.Builtin.TheVariants as b
-use Rattle.pawk_scalar.specs.Limits.{number_limit}
+use Rattle.pawk_value.specs.Limits.{number_limit}
 use Rattle.pawk_syntax_tree.specs.declared.tree.Single.{Single}
 use Rattle.pawk_syntax_tree.specs.declared.tree.Single.TheVariants as single
 use Rattle.pawk_syntax_tree.specs.declared.tree.Double.{Double}

@@ -1,6 +1,6 @@
 -- Code in normal form: each slot is in its table, each name of its kind, and what can be written in two ways is written in one.
 use Rattle.std.specs.Prelude.{◌≡◌, ◌<◌, ℕ, ℤ, pos, negsuc, true, false, None, length}
-use Rattle.pawk_scalar.specs.Limits.{number_limit}
+use Rattle.pawk_value.specs.Limits.{number_limit}
 use Rattle.pawk_code.specs.declared.name.Array.{Array}
 use Rattle.pawk_code.specs.declared.name.Array.TheVariants as array
 use Rattle.pawk_code.specs.Expressions.{Leaf, number, text, global, local, special, field, Expr, leaf, numeric, test, textual, read, choice, assign, call, Exprs, none, more, Place, to_global, to_local, to_element, to_field, Numeric, arithmetic, signed, change, step, function, split, replace, find, NumericFunction, length_of, index_of, whole, Test, compare, both, either, negation, matches, member, Textual, join, suffix, substring, letters, formatted, Pattern, fixed_pattern, spelled_by, FieldsBy, by_fs, by_fixed, by_value, Format, fixed_format, format_of, Argument, pass, pass_array, Arguments, no_arguments, more_arguments}

@@ -1,7 +1,7 @@
 -- Statements of code in normal form: an assignment, an addition or a step whose value is dropped is a statement of its own, and
 -- what is printed is said to be calm exactly where it is.
 use Rattle.std.specs.Prelude.{◌≡◌, IfSome}
-use Rattle.pawk_scalar.specs.declared.arithmetic.Op.TheVariants as op
+use Rattle.pawk_value.specs.declared.arithmetic.Op.TheVariants as op
 use Rattle.pawk_code.specs.declared.name.Variable.{Variable}
 use Rattle.pawk_code.specs.declared.name.Variable.TheVariants as variable
 use Rattle.pawk_code.specs.Expressions.{Expr, numeric, assign, change, step}

@@ -5,7 +5,7 @@ use Rattle.std.specs.Prelude.{◌≡◌, ◌<◌, Bool, true, false, ◌||◌, N
 use Rattle.pawk_lex.specs.Bytes.{Text}
 use Rattle.pawk_lex.specs.declared.token.Builtin.{Builtin}
 use Rattle.pawk_lex.specs.declared.token.Builtin.TheVariants as b
-use Rattle.pawk_scalar.specs.Limits.{number_limit}
+use Rattle.pawk_value.specs.Limits.{number_limit}
 use Rattle.pawk_syntax_tree.specs.declared.tree.Single.TheVariants as single
 use Rattle.pawk_syntax_tree.specs.Tree.{Tree, number, string, ere, variable, element, unary, binary, choice, member, call, builtin, Trees, none, more, takes_ere}
 use Rattle.pawk_syntax_check.specs.Mentions.{Role, as_target, role_under, role_left}

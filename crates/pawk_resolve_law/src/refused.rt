@@ -1,7 +1,7 @@
 //! What is in no normal form. Each is the contract of a function that does nothing.
 
 ghost use Rattle.std.specs.Prelude.{◌≡◌, ◌≤◌, ℕ, length, Some};
-ghost use Rattle.pawk_scalar.specs.declared.arithmetic.Op.TheVariants as op;
+ghost use Rattle.pawk_value.specs.declared.arithmetic.Op.TheVariants as op;
 ghost use Rattle.pawk_code.specs.Expressions.{Expr, Place, leaf, global, numeric, change};
 ghost use Rattle.pawk_code.specs.Statements.{simple, drop};
 ghost use Rattle.pawk_resolve.specs.Slots.{place};

@@ -21,10 +21,10 @@ use pawk_code::statement::{Head, Leave, Operands, Simple, Statement};
 use pawk_code::word::Sign;
 use pawk_resolve::scope::Scope;
 use pawk_resolve::sorted::nothing;
-use pawk_scalar::Op;
 use pawk_syntax_parse::build::both;
 use pawk_syntax_tree::statement::{Jump as Word, StatementTree as TreeStatement};
 use pawk_syntax_tree::tree::{ExpressionTree as Tree, Name};
+use pawk_value::Op;
 use std::alloc::{AllocError, Global};
 
 /// A number whose value is dropped.

@@ -1,7 +1,7 @@
 -- Texts that are put after another.
 use Rattle.std.proofs.Common.{◌≡◌, ◌≤◌, ℕ, suc, ◌+◌, ◌<◌, List, [], ◌∷◌, ◌++◌, if◌then◌else◌, Ok, Err, add-one, drop, drop-cons, get_or, length, ap, sym, refl, ◌∙◌, arith, le-leb}
 use Rattle.std.proofs.lemmas.List.{length-append}
-use Rattle.pawk_value.specs.Fault.TheVariants as fault
+use Rattle.pawk_value.specs.declared.faults.Fault.TheVariants as fault
 use Rattle.pawk_value.specs.Limits.{length_limit}
 use Rattle.pawk_value.specs.Value.{Val}
 use Rattle.pawk_value.specs.Conversion.{text_of}
@@ -9,9 +9,9 @@ use Rattle.pawk_world.specs.Worlds.{Calls}
 use Rattle.pawk_code.specs.declared.expression.Expr.{Expr}
 use Rattle.pawk_code.specs.Expressions.{exprs}
 use Rattle.pawk_code.specs.ExpressionViews.{view, views}
-use Rattle.pawk_semantics.specs.Builtins.{within_limit}
-use Rattle.pawk_semantics.specs.Parts.{Hold, Moment, Outcome, Part, gives, halts, give, then_do, bind, settle, as_text}
-use Rattle.pawk_semantics.specs.Meaning.{eval, suffixed}
+use Rattle.pawk_store.specs.Builtins.{within_limit}
+use Rattle.pawk_store.specs.Parts.{Hold, Moment, Outcome, Part, gives, halts, give, then_do, bind, settle, as_text}
+use Rattle.pawk_store.specs.Meaning.{eval, suffixed}
 
 abbrev with_front : {S : Type 0} → List ℕ → Outcome S (List ℕ) → Outcome S (List ℕ)
 with_front front (gives x m) = gives (front ++ x) m

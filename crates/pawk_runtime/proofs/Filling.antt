@@ -13,9 +13,9 @@ use Rattle.pawk_world.specs.Answers.{Answers}
 use Rattle.pawk_world.specs.Worlds.{Answer, Calls, write, element}
 use Rattle.pawk_world.specs.Worlds as world
 use Rattle.pawk_world.specs.Writings.{after, fill_after}
-use Rattle.pawk_semantics.specs.Parts.{value, global_array, local_array, Moment, Part, gives, then_do, ask}
-use Rattle.pawk_semantics.specs.Places.{table_at}
-use Rattle.pawk_semantics.specs.Meaning.{fill_from}
+use Rattle.pawk_store.specs.Parts.{value, global_array, local_array, Moment, Part, gives, then_do, ask}
+use Rattle.pawk_store.specs.Places.{table_at}
+use Rattle.pawk_store.specs.Meaning.{fill_from}
 use Rattle.pawk_runtime.specs.Yields.{Yields}
 
 -- what is asked does not look at the world that the moment had

@@ -6,9 +6,9 @@ use Rattle.pawk_world.specs.Worlds.{Calls}
 use Rattle.pawk_code.specs.declared.expression.Expr.{Expr}
 use Rattle.pawk_code.specs.Expressions.{exprs}
 use Rattle.pawk_code.specs.ExpressionViews.{view, views}
-use Rattle.pawk_semantics.specs.Builtins.{joined_by, joined_after}
-use Rattle.pawk_semantics.specs.Parts.{Hold, Moment, Part, gives, then_do, as_text}
-use Rattle.pawk_semantics.specs.Meaning.{eval, texts_of}
+use Rattle.pawk_store.specs.Builtins.{joined_by, joined_after}
+use Rattle.pawk_store.specs.Parts.{Hold, Moment, Part, gives, then_do, as_text}
+use Rattle.pawk_store.specs.Meaning.{eval, texts_of}
 use Rattle.pawk_runtime.specs.Plain.{between}
 
 after_more : (separator : List ℕ) (ts : List (List ℕ)) (t : List ℕ) → joined_after separator (ts ++ t ∷ []) ≡ joined_after separator ts ++ (separator ++ t)

@@ -2,12 +2,12 @@
 use Rattle.std.proofs.Common.{◌≡◌, ℕ, ◌<◌, ◌≤◌, ◌==◌, true, false, inl, inr, refl, List, length, pos, Ok, Err, arith}
 use Rattle.std.proofs.lemmas.Bool.Decides.{nat_tests}
 use Rattle.pawk_value.specs.Value.{Text}
-use Rattle.pawk_value.specs.Fault.TheVariants.{Length}
+use Rattle.pawk_value.specs.declared.faults.Fault.TheVariants.{Length}
 use Rattle.pawk_world.specs.Worlds.{Calls}
-use Rattle.pawk_semantics.specs.Builtins.{Replaced, within_limit}
-use Rattle.pawk_semantics.specs.Parts.{Moment, bind, give, settle}
-use Rattle.pawk_semantics.specs.Places.{Aim, write_at}
-use Rattle.pawk_semantics.specs.Meaning.{put_replaced}
+use Rattle.pawk_store.specs.Builtins.{Replaced, within_limit}
+use Rattle.pawk_store.specs.Parts.{Moment, bind, give, settle}
+use Rattle.pawk_store.specs.Places.{Aim, write_at}
+use Rattle.pawk_store.specs.Meaning.{put_replaced}
 use Rattle.pawk_builtins.specs.Replaces.{Left}
 
 -- where some were replaced, the place gets the text, if it is not too long

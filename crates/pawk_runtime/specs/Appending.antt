@@ -6,8 +6,8 @@ use Rattle.pawk_world.specs.Halts.{Halt, halt_of}
 use Rattle.pawk_world.specs.Worlds.{Calls}
 use Rattle.pawk_code.specs.Expressions.{Expr, Place}
 use Rattle.pawk_code.specs.Statements.{set}
-use Rattle.pawk_semantics.specs.Parts.{Hold, Moment, Part, gives, halts}
-use Rattle.pawk_semantics.specs.Meaning.{act}
+use Rattle.pawk_store.specs.Parts.{Hold, Moment, Part, gives, halts}
+use Rattle.pawk_store.specs.Meaning.{act}
 
 -- whatever the expressions between slashes and the functions are: where the answer is that it was assigned, the moment is
 -- the one after the assignment, else no moment changed; a halt is that of the assignment, and where memory was refused

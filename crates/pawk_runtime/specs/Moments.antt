@@ -3,9 +3,9 @@ use Rattle.std.specs.Prelude.{List, map}
 use Rattle.pawk_value.specs.Value.{shown, Uninit}
 use Rattle.pawk_store.specs.StateViews.{state_of}
 use Rattle.pawk_world.specs.Worlds as world
-use Rattle.pawk_semantics.specs.Parts.{Hold, value, global_array, local_array, Moment}
-use Rattle.pawk_semantics.specs.Places.{Aim}
-use Rattle.pawk_semantics.specs.Places as aim
+use Rattle.pawk_store.specs.Parts.{Hold, value, global_array, local_array, Moment}
+use Rattle.pawk_store.specs.Places.{Aim}
+use Rattle.pawk_store.specs.Places as aim
 use Rattle.pawk_runtime.specs.declared.run.Run.{Run}
 use Rattle.pawk_runtime.specs.declared.run.Parameter.{Parameter}
 use Rattle.pawk_runtime.specs.declared.run.Parameter.TheVariants as parameter

@@ -4,10 +4,10 @@ use Rattle.pawk_value.specs.Value.{Val}
 use Rattle.pawk_world.specs.Worlds.{Calls}
 use Rattle.pawk_code.specs.Expressions.{Expr, leaf, numeric, test, textual, read, choice, assign, call, Exprs}
 use Rattle.pawk_store.specs.Slots.{ofs_slot}
-use Rattle.pawk_semantics.specs.Builtins.{joined_by}
-use Rattle.pawk_semantics.specs.Parts.{Hold, Moment, Part, gives, as_text}
-use Rattle.pawk_semantics.specs.Places.{text_at}
-use Rattle.pawk_semantics.specs.Meaning.{eval, texts_of}
+use Rattle.pawk_store.specs.Builtins.{joined_by}
+use Rattle.pawk_store.specs.Parts.{Hold, Moment, Part, gives, as_text}
+use Rattle.pawk_store.specs.Places.{text_at}
+use Rattle.pawk_store.specs.Meaning.{eval, texts_of}
 
 -- a leaf, or what gives a number
 abbrev pub is_plain : Expr → Bool

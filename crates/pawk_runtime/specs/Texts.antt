@@ -4,8 +4,8 @@ use Rattle.pawk_value.specs.Held.{added}
 use Rattle.pawk_value.specs.Value.{Val}
 use Rattle.pawk_world.specs.Worlds.{Calls}
 use Rattle.pawk_code.specs.Expressions.{Textual}
-use Rattle.pawk_semantics.specs.Parts.{Hold, Moment, Part, gives}
-use Rattle.pawk_semantics.specs.Meaning.{text_of_textual}
+use Rattle.pawk_store.specs.Parts.{Hold, Moment, Part, gives}
+use Rattle.pawk_store.specs.Meaning.{text_of_textual}
 
 -- where it was found, the text is after what was there, and no moment changed; else nothing is
 abbrev pub IsQuickText : {S : Type 0} → Calls S → Textual → Moment S → List ℕ → List ℕ → Bool → Type 0

@@ -8,8 +8,8 @@ ghost use Rattle.pawk_value.specs.Limits.{length_limit};
 ghost use Rattle.pawk_value.specs.Value.{Val};
 ghost use Rattle.pawk_code.specs.Expressions.{exprs, global, join, leaf, more, textual, to_global};
 ghost use Rattle.pawk_code.specs.ExpressionViews.{place_view, textual_view, view, views};
-ghost use Rattle.pawk_semantics.specs.Meaning.{suffixed};
-ghost use Rattle.pawk_semantics.specs.Parts.{Hold, Part, gives};
+ghost use Rattle.pawk_store.specs.Meaning.{suffixed};
+ghost use Rattle.pawk_store.specs.Parts.{Hold, Part, gives};
 ghost use Rattle.pawk_runtime.specs.Moments.{moment};
 ghost use Rattle.pawk_runtime.specs.Appending.{IsAssigned};
 

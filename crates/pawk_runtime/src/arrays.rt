@@ -8,9 +8,9 @@ ghost use Rattle.pawk_code.specs.Expressions.{field};
 ghost use Rattle.pawk_code.specs.ExpressionViews.{fields_view};
 ghost use Rattle.pawk_builtins.specs.ExpressionViews.{texts_of};
 ghost use Rattle.pawk_builtins.specs.Pieces.{pieces_in};
-ghost use Rattle.pawk_semantics.specs.Parts.{as_text, bind, settle};
-ghost use Rattle.pawk_semantics.specs.Meaning.{fill_from, pieces_of, split_into, value_of_leaf};
-ghost use Rattle.pawk_semantics.specs.Places.{clear_of, holds_in, keys_of, remove_in};
+ghost use Rattle.pawk_store.specs.Parts.{as_text, bind, settle};
+ghost use Rattle.pawk_store.specs.Meaning.{fill_from, pieces_of, split_into, value_of_leaf};
+ghost use Rattle.pawk_store.specs.Places.{clear_of, holds_in, keys_of, remove_in};
 ghost use Rattle.pawk_runtime.specs.Moments.{moment, table_view};
 ghost use Rattle.pawk_runtime.specs.Yields.{Yields};
 

@@ -22,8 +22,8 @@ ghost use Rattle.pawk_code.specs.Expressions as codes;
 ghost use Rattle.pawk_code.specs.ExpressionViews.{function_view, pattern_view, place_view, view, views};
 ghost use Rattle.pawk_code.specs.Statements as actions;
 ghost use Rattle.pawk_builtins.specs.ExpressionViews.{expression_of, texts_of};
-ghost use Rattle.pawk_semantics.specs.Builtins.{found_by};
-ghost use Rattle.pawk_semantics.specs.Meaning.{
+ghost use Rattle.pawk_store.specs.Builtins.{found_by};
+ghost use Rattle.pawk_store.specs.Meaning.{
   act,
   aim_of,
   eval,
@@ -34,8 +34,8 @@ ghost use Rattle.pawk_semantics.specs.Meaning.{
   truth_of,
   value_of_leaf,
 };
-ghost use Rattle.pawk_semantics.specs.Parts.{Hold, Part, as_number, as_text, bind, settle};
-ghost use Rattle.pawk_semantics.specs.Places.{add_at};
+ghost use Rattle.pawk_store.specs.Parts.{Hold, Part, as_number, as_text, bind, settle};
+ghost use Rattle.pawk_store.specs.Places.{add_at};
 ghost use Rattle.pawk_runtime.specs.Moments.{moment};
 ghost use Rattle.pawk_runtime.specs.Yields.{Yields};
 

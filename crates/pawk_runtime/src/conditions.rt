@@ -7,8 +7,8 @@ ghost use Rattle.pawk_value.specs.Value.{Val};
 ghost use Rattle.pawk_code.specs.Expressions.{compare, field, leaf, matches, read, to_field};
 ghost use Rattle.pawk_code.specs.ExpressionViews.{leaf_view, pattern_view, view};
 ghost use Rattle.pawk_builtins.specs.ExpressionViews.{texts_of};
-ghost use Rattle.pawk_semantics.specs.Meaning.{eval, truth_of};
-ghost use Rattle.pawk_semantics.specs.Parts.{Hold, Part, as_truth, bind, gives, settle};
+ghost use Rattle.pawk_store.specs.Meaning.{eval, truth_of};
+ghost use Rattle.pawk_store.specs.Parts.{Hold, Part, as_truth, bind, gives, settle};
 ghost use Rattle.pawk_runtime.specs.Moments.{moment};
 
 use crate::operations::matches_field;

@@ -7,8 +7,8 @@ ghost use Rattle.pawk_value.specs.Conversion.{text_of};
 ghost use Rattle.pawk_value.specs.Held.{added};
 ghost use Rattle.pawk_code.specs.Expressions as codes;
 ghost use Rattle.pawk_code.specs.ExpressionViews.{leaf_view, view};
-ghost use Rattle.pawk_semantics.specs.Builtins.{letters_in};
-ghost use Rattle.pawk_semantics.specs.Meaning.{leaf_value};
+ghost use Rattle.pawk_store.specs.Builtins.{letters_in};
+ghost use Rattle.pawk_store.specs.Meaning.{leaf_value};
 ghost use Rattle.pawk_runtime.specs.Moments.{moment};
 ghost use Rattle.pawk_runtime.specs.Texts.{IsQuickText};
 

@@ -6,7 +6,7 @@ ghost use Rattle.pawk_value.specs.Held.{added, held_value};
 ghost use Rattle.pawk_value.specs.Value.{lent_value};
 ghost use Rattle.pawk_array.specs.Entries.{found, keys, put, touched, value_of, with_pieces, without};
 ghost use Rattle.pawk_array.specs.Texts.{AreWithin};
-ghost use Rattle.pawk_semantics.specs.Places.{table_at};
+ghost use Rattle.pawk_store.specs.Places.{table_at};
 
 use pawk_array::{AssociativeArray, Texts};
 use pawk_value::{Fault, Held, ValueRef, hold, to_num_lent};

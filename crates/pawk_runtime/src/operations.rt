@@ -7,10 +7,10 @@ ghost use Rattle.pawk_code.specs.Expressions.{field};
 ghost use Rattle.pawk_code.specs.ExpressionViews.{format_view};
 ghost use Rattle.pawk_builtins.specs.ExpressionViews.{expression_of};
 ghost use Rattle.pawk_builtins.specs.FormatViews.{format_text};
-ghost use Rattle.pawk_semantics.specs.Parts.{as_text, bind, give, settle};
-ghost use Rattle.pawk_semantics.specs.Builtins.{formatted_text, found_by, replaced_by, same_truth};
-ghost use Rattle.pawk_semantics.specs.Meaning.{put_replaced, value_of_leaf};
-ghost use Rattle.pawk_semantics.specs.Places.{read_at, variable_aim, write_at};
+ghost use Rattle.pawk_store.specs.Parts.{as_text, bind, give, settle};
+ghost use Rattle.pawk_store.specs.Builtins.{formatted_text, found_by, replaced_by, same_truth};
+ghost use Rattle.pawk_store.specs.Meaning.{put_replaced, value_of_leaf};
+ghost use Rattle.pawk_store.specs.Places.{read_at, variable_aim, write_at};
 ghost use Rattle.pawk_runtime.specs.Moments.{aim_view, hold_of, moment, table_view};
 ghost use Rattle.pawk_runtime.specs.Yields.{Yields};
 

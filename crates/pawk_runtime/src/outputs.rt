@@ -1,8 +1,8 @@
 //! Steps, keys and output.
 
 ghost use Rattle.std.specs.Prelude.{◌≤◌, ◌<◌, ◌∷◌, [], OnOk};
-ghost use Rattle.pawk_semantics.specs.Meaning.{key_of, print_line, print_text};
-ghost use Rattle.pawk_semantics.specs.Parts.{tick};
+ghost use Rattle.pawk_store.specs.Meaning.{key_of, print_line, print_text};
+ghost use Rattle.pawk_store.specs.Parts.{tick};
 ghost use Rattle.pawk_runtime.specs.Moments.{moment};
 ghost use Rattle.pawk_runtime.specs.Yields.{Yields};
 

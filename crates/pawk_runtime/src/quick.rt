@@ -7,8 +7,8 @@ ghost use Rattle.pawk_value.specs.Conversion.{num_of};
 ghost use Rattle.pawk_value.specs.Value.{Num, Val};
 ghost use Rattle.pawk_code.specs.ExpressionViews.{leaf_view, numeric_view, view};
 ghost use Rattle.pawk_code.specs.Expressions.{field, index_of, length_of, read, to_field};
-ghost use Rattle.pawk_semantics.specs.Meaning.{eval, function_of, leaf_value, number_of};
-ghost use Rattle.pawk_semantics.specs.Parts.{Hold, Part, as_number, as_truth, gives};
+ghost use Rattle.pawk_store.specs.Meaning.{eval, function_of, leaf_value, number_of};
+ghost use Rattle.pawk_store.specs.Parts.{Hold, Part, as_number, as_truth, gives};
 ghost use Rattle.pawk_runtime.specs.Moments.{moment};
 
 use crate::arithmetic::result_of;

@@ -4,9 +4,9 @@ ghost use Rattle.std.specs.Prelude.{◌≡◌, ◌≤◌, ◌++◌, [], drop, le
 ghost use Rattle.pawk_value.specs.Conversion.{text_of};
 ghost use Rattle.pawk_value.specs.Held.{added, held_value};
 ghost use Rattle.pawk_code.specs.Expressions.{field};
-ghost use Rattle.pawk_semantics.specs.Parts.{as_number, as_text, bind};
-ghost use Rattle.pawk_semantics.specs.Meaning.{value_of_leaf};
-ghost use Rattle.pawk_semantics.specs.Places.{cell, element_of, old_at, read_at};
+ghost use Rattle.pawk_store.specs.Parts.{as_number, as_text, bind};
+ghost use Rattle.pawk_store.specs.Meaning.{value_of_leaf};
+ghost use Rattle.pawk_store.specs.Places.{cell, element_of, old_at, read_at};
 ghost use Rattle.pawk_world.specs.Worlds.{element};
 ghost use Rattle.pawk_runtime.specs.Moments.{aim_view, moment, table_view};
 ghost use Rattle.pawk_runtime.specs.Yields.{Yields};

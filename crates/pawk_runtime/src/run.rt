@@ -1,7 +1,7 @@
 //! What a run of one record, or of BEGIN or END, has beside the globals.
 
 ghost use Rattle.std.specs.Prelude.{◌≡◌, ◌≤◌, ◌++◌, ◌∷◌, [], List, length, take, IfOk};
-ghost use Rattle.pawk_semantics.specs.Parts.{Hold, entry_of, with_locals};
+ghost use Rattle.pawk_store.specs.Parts.{Hold, entry_of, with_locals};
 ghost use Rattle.pawk_value.specs.Held.{held_value};
 ghost use Rattle.pawk_value.specs.Value.{shown};
 ghost use Rattle.pawk_store.specs.StateViews.{state_of};

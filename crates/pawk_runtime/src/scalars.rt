@@ -2,7 +2,7 @@
 
 ghost use Rattle.std.specs.Prelude.{◌≡◌, ◌++◌, OnOk};
 ghost use Rattle.pawk_value.specs.Conversion.{text_of};
-ghost use Rattle.pawk_semantics.specs.Builtins.{joined_by};
+ghost use Rattle.pawk_store.specs.Builtins.{joined_by};
 ghost use Rattle.pawk_runtime.specs.Joined.{first_of};
 
 use itoa::Buffer;

@@ -1,7 +1,7 @@
 //! Where places are, once their subscripts or indices are evaluated.
 
 ghost use Rattle.std.specs.Prelude.{◌≡◌};
-ghost use Rattle.pawk_semantics.specs.Places.{array_at, element_of, variable_aim};
+ghost use Rattle.pawk_store.specs.Places.{array_at, element_of, variable_aim};
 ghost use Rattle.pawk_runtime.specs.Moments.{aim_view, holds_of, table_view};
 
 use crate::run::{Parameter, give_back};

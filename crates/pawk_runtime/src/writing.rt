@@ -6,9 +6,9 @@ ghost use Rattle.pawk_value.specs.Conversion.{text_of};
 ghost use Rattle.pawk_code.specs.Expressions.{field};
 ghost use Rattle.pawk_code.specs.ExpressionViews.{leaf_view};
 ghost use Rattle.pawk_builtins.specs.Replaces.{Left};
-ghost use Rattle.pawk_semantics.specs.Builtins.{Replaced};
-ghost use Rattle.pawk_semantics.specs.Meaning.{place_of_match, put_replaced, set_match, value_of_leaf};
-ghost use Rattle.pawk_semantics.specs.Places.{
+ghost use Rattle.pawk_store.specs.Builtins.{Replaced};
+ghost use Rattle.pawk_store.specs.Meaning.{place_of_match, put_replaced, set_match, value_of_leaf};
+ghost use Rattle.pawk_store.specs.Places.{
   add_at,
   cell,
   change_at,
@@ -18,8 +18,8 @@ ghost use Rattle.pawk_semantics.specs.Places.{
   write_at,
 };
 ghost use Rattle.pawk_world.specs.Worlds.{element};
-ghost use Rattle.pawk_semantics.specs.Parts.{as_number, as_text, bind};
-ghost use Rattle.pawk_semantics.specs.Parts as parts;
+ghost use Rattle.pawk_store.specs.Parts.{as_number, as_text, bind};
+ghost use Rattle.pawk_store.specs.Parts as parts;
 ghost use Rattle.pawk_runtime.specs.Moments.{aim_view, hold_of, holds_of, moment, table_view};
 ghost use Rattle.pawk_runtime.specs.Yields.{Yields};
 

@@ -6,12 +6,12 @@ use Rattle.pawk_store.specs.Globals.{Globals}
 use Rattle.pawk_store.specs.RecordStates.{special_value}
 use Rattle.pawk_store.specs.StateViews.{state_of}
 use Rattle.pawk_runtime.specs.declared.run.Run.{Run}
-use Rattle.pawk_value.specs.Fault.TheVariants as faults
+use Rattle.pawk_value.specs.declared.faults.Fault.TheVariants as faults
 use Rattle.pawk_world.specs.Worlds.{Calls}
 use Rattle.pawk_code.specs.Programs.{Code}
 use Rattle.pawk_input.specs.Input.{File, items}
-use Rattle.pawk_semantics.specs.Records.{End}
-use Rattle.pawk_semantics.specs.Runs.{Finish, at_record, fault_at, finish_of, records_from, after_records, records_by_rs, take_separator}
+use Rattle.pawk_store.specs.Records.{End}
+use Rattle.pawk_store.specs.Runs.{Finish, at_record, fault_at, finish_of, records_from, after_records, records_by_rs, take_separator}
 use Rattle.pawk_sequential.specs.declared.ending.Ending.{Ending}
 use Rattle.pawk_sequential.specs.declared.finish.Finish.{Finish as CodeFinish}
 use Rattle.pawk_sequential.specs.declared.outcome.Outcome.{Outcome}

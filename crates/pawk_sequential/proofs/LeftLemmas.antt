@@ -2,8 +2,8 @@
 use Rattle.std.proofs.Common.{◌≡◌, Some, subst, ap}
 use Rattle.pawk_world.specs.declared.halt.Halt.{Halt as Code}
 use Rattle.pawk_world.specs.Halts.{Halt, halt_of}
-use Rattle.pawk_semantics.specs.Parts.{Moment, Outcome}
-use Rattle.pawk_semantics.specs.Records.{end_of, end_of_halt}
+use Rattle.pawk_store.specs.Parts.{Moment, Outcome}
+use Rattle.pawk_store.specs.Records.{end_of, end_of_halt}
 use Rattle.pawk_sequential.specs.Ends.{HaltsBy}
 
 -- the end of a part that halted so

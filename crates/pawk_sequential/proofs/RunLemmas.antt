@@ -4,8 +4,8 @@ use Rattle.std.proofs.lemmas.Bool.{false≢true, true≢false}
 use Rattle.pawk_world.specs.Worlds.{Calls}
 use Rattle.pawk_code.specs.Programs.{Code}
 use Rattle.pawk_input.specs.Input.{Item}
-use Rattle.pawk_semantics.specs.Records.{Left, through, next_file, exit, fault, clash, End, one_record, run_part}
-use Rattle.pawk_semantics.specs.Runs.{after_leaving, is_skipped, records_from}
+use Rattle.pawk_store.specs.Records.{Left, through, next_file, exit, fault, clash, End, one_record, run_part}
+use Rattle.pawk_store.specs.Runs.{after_leaving, is_skipped, records_from}
 use Rattle.pawk_sequential.specs.Ends.{ends_records, file_left}
 
 module _ {S : Type 0} where

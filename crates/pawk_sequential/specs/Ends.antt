@@ -4,10 +4,10 @@ use Rattle.pawk_store.specs.StateViews.{state_of}
 use Rattle.pawk_runtime.specs.declared.run.Run.{Run}
 use Rattle.pawk_world.specs.declared.halt.Halt.{Halt as Code}
 use Rattle.pawk_world.specs.Halts.{Halt, halt_of}
-use Rattle.pawk_semantics.specs.Parts.{Moment, Outcome, gives, halts}
-use Rattle.pawk_semantics.specs.Records.{Left as Leaving, through, next_file, exit, fault, clash, End}
-use Rattle.pawk_semantics.specs.LeftViews.{left_view}
-use Rattle.pawk_semantics.specs.declared.left.Left.{Left}
+use Rattle.pawk_store.specs.Parts.{Moment, Outcome, gives, halts}
+use Rattle.pawk_store.specs.Records.{Left as Leaving, through, next_file, exit, fault, clash, End}
+use Rattle.pawk_store.specs.LeftViews.{left_view}
+use Rattle.pawk_store.specs.declared.left.Left.{Left}
 
 -- whether no record is read after a part that is left so
 abbrev pub ends_records : Leaving → Bool

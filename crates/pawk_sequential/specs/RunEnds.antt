@@ -10,8 +10,8 @@ use Rattle.pawk_runtime.specs.declared.run.Run.{Run}
 use Rattle.pawk_world.specs.Worlds.{Calls}
 use Rattle.pawk_code.specs.Programs.{Code}
 use Rattle.pawk_input.specs.Input.{Item}
-use Rattle.pawk_semantics.specs.Records.{End}
-use Rattle.pawk_semantics.specs.Runs.{Place, in_begin, at_record, in_end, Ending, status, fault_at, disallowed, Finish, records_from, after_records}
+use Rattle.pawk_store.specs.Records.{End}
+use Rattle.pawk_store.specs.Runs.{Place, in_begin, at_record, in_end, Ending, status, fault_at, disallowed, Finish, records_from, after_records}
 use Rattle.pawk_sequential.specs.declared.ending.Place.{Place as CodePlace}
 use Rattle.pawk_sequential.specs.declared.ending.Place.TheVariants as place
 use Rattle.pawk_sequential.specs.declared.ending.Ending.{Ending as CodeEnding}

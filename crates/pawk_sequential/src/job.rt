@@ -3,7 +3,7 @@
 ghost use Rattle.std.specs.Prelude.{◌≡◌};
 ghost use Rattle.pawk_code.specs.ProgramViews.{code_view};
 ghost use Rattle.pawk_eval.specs.Contexts.{eres_of, functions_of};
-ghost use Rattle.pawk_semantics.specs.Runs as spec;
+ghost use Rattle.pawk_store.specs.Runs as spec;
 
 use pawk_code::program::Code;
 use pawk_eval::Context;

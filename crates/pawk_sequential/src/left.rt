@@ -2,12 +2,12 @@
 
 ghost use Rattle.std.specs.Prelude.{◌≡◌, IfOk};
 ghost use Rattle.pawk_runtime.specs.Moments.{moment};
-ghost use Rattle.pawk_semantics.specs.Parts.{Outcome};
-ghost use Rattle.pawk_semantics.specs.Records.{end_of};
+ghost use Rattle.pawk_store.specs.Parts.{Outcome};
+ghost use Rattle.pawk_store.specs.Records.{end_of};
 ghost use Rattle.pawk_sequential.specs.Ends.{EndsBy, HaltsBy, end_view};
 
 use pawk_runtime::Run;
-use pawk_semantics::Left;
+use pawk_store::Left;
 use pawk_world::{Halt, World};
 use std::alloc::AllocError;
 

@@ -24,6 +24,6 @@ pub use outcome::{Outcome, opening_run, run_one};
 pub use output::Output;
 pub use part::{actions, record};
 pub use pawk_runtime::Run;
-pub use pawk_semantics::Left;
+pub use pawk_store::Left;
 pub use records::run_records;
 pub use whole::{make_ready, run_after_begin, run_after_records, run_begin, run_program};

@@ -7,7 +7,7 @@ ghost use Rattle.pawk_store.specs.Globals.{calls};
 ghost use Rattle.pawk_store.specs.Openings.{opened, pairs_of};
 ghost use Rattle.pawk_store.specs.RecordStates.{opening};
 ghost use Rattle.pawk_store.specs.StateViews.{state_of};
-ghost use Rattle.pawk_semantics.specs.Runs as spec;
+ghost use Rattle.pawk_store.specs.Runs as spec;
 ghost use Rattle.pawk_sequential.specs.RunEnds.{Answers, outcome_of};
 
 use crate::Job;

@@ -1,7 +1,7 @@
 //! What a run wrote.
 
 ghost use Rattle.std.specs.Prelude.{◌≡◌, IfOk};
-ghost use Rattle.pawk_semantics.specs.Outputs.{in_a_row};
+ghost use Rattle.pawk_store.specs.Outputs.{in_a_row};
 
 use std::alloc::{AllocError, Global};
 use std::marker::Model;
@@ -17,7 +17,7 @@ impl Model for Output {
 
     ghost Value = { List ℕ };
 
-    ghost use Rattle.pawk_semantics.specs.Outputs.{in_a_row};
+    ghost use Rattle.pawk_store.specs.Outputs.{in_a_row};
 
     ghost view = { λ o. in_a_row o.parts.items };
 }

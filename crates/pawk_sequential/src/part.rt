@@ -5,8 +5,8 @@ ghost use Rattle.pawk_code.specs.ProgramViews.{body_view, rule_view};
 ghost use Rattle.pawk_input.specs.Input.{item_of};
 ghost use Rattle.pawk_store.specs.StateViews.{state_of};
 ghost use Rattle.pawk_eval.specs.Contexts.{eres_of, functions_of};
-ghost use Rattle.pawk_semantics.specs.Records.{one_record, opening_moment, run_part};
-ghost use Rattle.pawk_semantics.specs.Records as spec;
+ghost use Rattle.pawk_store.specs.Records.{one_record, opening_moment, run_part};
+ghost use Rattle.pawk_store.specs.Records as spec;
 ghost use Rattle.pawk_runtime.specs.Moments.{moment};
 ghost use Rattle.pawk_sequential.specs.Ends.{EndsBy, end_view};
 
@@ -17,7 +17,7 @@ use pawk_code::statement::Statement;
 use pawk_eval::Context;
 use pawk_input::Item;
 use pawk_runtime::Run;
-use pawk_semantics::Left;
+use pawk_store::Left;
 use pawk_world::{Halt, World};
 use std::alloc::AllocError;
 

@@ -4,11 +4,11 @@ ghost use Rattle.std.specs.Prelude.{◌≡◌, ◌≤◌, ℕ, length, IfOk, OnO
 ghost use Rattle.pawk_code.specs.ProgramViews.{code_view};
 ghost use Rattle.pawk_input.specs.Input.{item_of};
 ghost use Rattle.pawk_input.specs.Walk.{items_left};
-ghost use Rattle.pawk_semantics.specs.Runs.{records_from};
-ghost use Rattle.pawk_semantics.specs.Runs as spec;
-ghost use Rattle.pawk_semantics.specs.LeftViews.{left_view};
-ghost use Rattle.pawk_semantics.specs.declared.left.Left.{Left};
-ghost use Rattle.pawk_semantics.specs.declared.left.Left.TheVariants.{Through};
+ghost use Rattle.pawk_store.specs.Runs.{records_from};
+ghost use Rattle.pawk_store.specs.Runs as spec;
+ghost use Rattle.pawk_store.specs.LeftViews.{left_view};
+ghost use Rattle.pawk_store.specs.declared.left.Left.{Left};
+ghost use Rattle.pawk_store.specs.declared.left.Left.TheVariants.{Through};
 ghost use Rattle.pawk_sequential.specs.Ends.{end_view};
 ghost use Rattle.pawk_sequential.specs.Ends as ends;
 ghost use Rattle.pawk_code.specs.Programs.{Code};
@@ -19,7 +19,7 @@ use crate::part::record;
 use pawk_input::{Item, Records};
 use pawk_prefilter::Passage;
 use pawk_runtime::Run;
-use pawk_semantics::Left;
+use pawk_store::Left;
 use pawk_world::World;
 use std::alloc::AllocError;
 

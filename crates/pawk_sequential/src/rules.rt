@@ -9,7 +9,7 @@ ghost use Rattle.pawk_eval.specs.Contexts.{eres_of, functions_of};
 ghost use Rattle.pawk_runtime.specs.Moments.{moment};
 ghost use Rattle.pawk_runtime.specs.Yields.{Yields};
 ghost use Rattle.pawk_sequential.specs.Ends.{EndsBy};
-ghost use Rattle.pawk_semantics.specs.Records.{holds, does, reads, begins, in_range, selects, rules_from, does_rule, actions};
+ghost use Rattle.pawk_store.specs.Records.{holds, does, reads, begins, in_range, selects, rules_from, does_rule, actions};
 
 use crate::limits::GREATEST_CALLS;
 use itoa::Buffer;

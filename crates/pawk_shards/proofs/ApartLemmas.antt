@@ -6,8 +6,8 @@ use Rattle.std.proofs.lemmas.List.Elements.{All-nil, All-cons}
 use Rattle.pawk_input.specs.Input.{Item}
 use Rattle.pawk_store.specs.Globals.{Globals, calls}
 use Rattle.pawk_store.specs.RecordStates.{RecordState}
-use Rattle.pawk_semantics.specs.Records.{Left, through, next_file, exit, fault, clash, End}
-use Rattle.pawk_semantics.specs.Steady.{AreSameButRecord, RecordsKeepLaw}
+use Rattle.pawk_store.specs.Records.{Left, through, next_file, exit, fault, clash, End}
+use Rattle.pawk_store.specs.Steady.{AreSameButRecord, RecordsKeepLaw}
 use Rattle.pawk_commute.specs.Settings.{PermitsFor, HasSlots}
 use Rattle.pawk_merge.proofs.LawLemmas.{join_holds}
 use Rattle.pawk_merge.proofs.SlotLemmas.{length-by_place}

@@ -3,9 +3,9 @@ use Rattle.std.proofs.Common.{◌≡◌, ℕ, ◌+◌, List, [], length, refl, a
 use Rattle.pawk_input.specs.Input.{Item}
 use Rattle.pawk_store.specs.Globals.{Globals, calls}
 use Rattle.pawk_store.specs.RecordStates.{RecordState}
-use Rattle.pawk_semantics.specs.Records.{through, End}
+use Rattle.pawk_store.specs.Records.{through, End}
 use Rattle.pawk_frozen.specs.Frozens.{blank_world, calls as chunk_calls}
-use Rattle.pawk_semantics.specs.Steady.{AreSameButRecord, status_after, state_after_records, RecordsKeepLaw}
+use Rattle.pawk_store.specs.Steady.{AreSameButRecord, status_after, state_after_records, RecordsKeepLaw}
 use Rattle.pawk_commute.specs.Settings.{PermitsFor}
 use Rattle.pawk_commute.proofs.OrderLemmas.{chunk_final}
 use Rattle.pawk_commute.proofs.TracedLemmas.{plain_final}

@@ -3,12 +3,12 @@ use Rattle.std.proofs.Common.{◌≡◌, ℕ, zero, suc, ◌+◌, ◌<◌, List,
 use Rattle.std.specs.Prelude.{All, MatchOption, MatchResult}
 use Rattle.pawk_input.specs.Input.{Item}
 use Rattle.pawk_store.specs.Globals.{Globals}
-use Rattle.pawk_semantics.specs.Records.{through, End}
+use Rattle.pawk_store.specs.Records.{through, End}
 use Rattle.pawk_merge.specs.Extents.{Extent, merge_far, answer_of, FarLaw}
 use Rattle.pawk_merge.specs.Merges.{Chunk, Stop, merge}
 use Rattle.pawk_merge_law.specs.Phases.{Phase, FaultsOrCreates}
 use Rattle.pawk_merge_law.specs.ChunkedRuns.{HasRecord, all_of}
-use Rattle.pawk_windows.specs.Extents.{FirstLaw}
+use Rattle.pawk_merge_law.specs.Extents.{FirstLaw}
 use Rattle.pawk_shards.specs.Apart.{HasCome, EndsSo, AreChunksButRecord, RanButRecord, ApartLaw, FarApartLaw}
 
 -- the first of chunks are the same

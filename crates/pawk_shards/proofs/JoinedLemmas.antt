@@ -7,14 +7,14 @@ use Rattle.std.proofs.lemmas.Option.{get_or_from_slice_get}
 use Rattle.std.specs.Prelude.{◌↔◌, ◌≤ℤ◌, ◌&&◌, slice_get}
 use Rattle.std.specs.Int.{int_min, int_max}
 use Rattle.std.specs.Option.{option_map}
-use Rattle.pawk_value.specs.Fault.{Fault}
+use Rattle.pawk_value.specs.declared.faults.Fault.{Fault}
 use Rattle.pawk_value.specs.Range.{FitsWord, in_range}
 use Rattle.pawk_value.specs.Value.{Val, Num, Uninit}
 use Rattle.pawk_value.specs.Conversion.{num_of}
 use Rattle.pawk_array.specs.Entries.{Rise, found, value_of}
 use Rattle.pawk_world.specs.Worlds.{Cell, scalar, element}
 use Rattle.pawk_store.specs.Globals.{Globals, array_at, value_at}
-use Rattle.pawk_semantics.specs.Records.{through, End}
+use Rattle.pawk_store.specs.Records.{through, End}
 use Rattle.pawk_frozen.specs.Marks.{Mark, blank, summed, last_put, created, Table, mark_at}
 use Rattle.pawk_commute.specs.Settings.{AreInOrder, HasSlots, FitSlots}
 use Rattle.pawk_commute.proofs.MergeLemmas.{range_from}
@@ -25,7 +25,7 @@ use Rattle.pawk_merge.specs.Tables.{scalar_mark, all_take, join_table}
 use Rattle.pawk_merge.proofs.LawLemmas.{join_holds, one_join_holds, takes_holds}
 use Rattle.pawk_merge.proofs.SlotLemmas.{get_or-by_place, length-by_place}
 use Rattle.pawk_merge_law.specs.Phases.{Phase, MayRun}
-use Rattle.pawk_windows.specs.Windows.{phase_at}
+use Rattle.pawk_merge_law.specs.Windows.{phase_at}
 use Rattle.pawk_shards.specs.Joined.{MarksComposeLaw, composed, IsBetween, AreComposed, TablesComposeLaw, AreNoted, joined_chunk}
 
 all_three : (a b c : Bool) → a ≡ true → b ≡ true → c ≡ true → (a && b && c) ≡ true

@@ -6,3 +6,4 @@ pub mod StepLemmas
 pub mod NumberLemmas
 pub mod NotedLemmas
 pub mod JoinedLemmas
+pub mod PartLemmas

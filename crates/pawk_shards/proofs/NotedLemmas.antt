@@ -8,8 +8,8 @@ use Rattle.std.specs.Option.{unwrap_or}
 use Rattle.std.specs.Str.{bytes_eq}
 use Rattle.std.specs.FinMap.Entries.{find, find-put}
 use Rattle.std.specs.Cmp.Lexicographic.{nat_list_cmp_total, texts_ties}
-use Rattle.pawk_value.specs.Fault.{Fault}
-use Rattle.pawk_value.specs.Fault.TheVariants as fault
+use Rattle.pawk_value.specs.declared.faults.Fault.{Fault}
+use Rattle.pawk_value.specs.declared.faults.Fault.TheVariants as fault
 use Rattle.pawk_value.specs.Value.{Val}
 use Rattle.pawk_keyed_map.specs.Keyed.{order}
 use Rattle.pawk_array.specs.Entries.{found}
@@ -23,9 +23,9 @@ use Rattle.pawk_admit.specs.declared.role.Role.TheVariants.{Fixed, Adder, Setter
 use Rattle.pawk_admit.specs.Roles.{role_of_scalar, role_of_array}
 use Rattle.pawk_frozen.specs.Marks.{Mark, blank, summed, last_put, created, with_amount, Marks, mark_found, put_mark, Table, blank_table, mark_at, with_mark}
 use Rattle.pawk_frozen.specs.Frozens.{Frozen, signed_amount, is_sum, kept_mark, with_sum, missing, found_or_missing, noted, blank_world, calls}
-use Rattle.pawk_semantics.specs.Records.{through, End}
-use Rattle.pawk_semantics.specs.Laws.{SameEnd, RecordsLaw}
-use Rattle.pawk_semantics.specs.Lockstep.{access_of, resource_of, refusal_of, SameAnswer, AreInLockstep, FirstGoesOn, SecondGoesOn}
+use Rattle.pawk_store.specs.Records.{through, End}
+use Rattle.pawk_store.specs.Laws.{SameEnd, RecordsLaw}
+use Rattle.pawk_store.specs.Lockstep.{access_of, resource_of, refusal_of, SameAnswer, AreInLockstep, FirstGoesOn, SecondGoesOn}
 use Rattle.pawk_commute.specs.Agreement.{Suits}
 use Rattle.pawk_commute.specs.Settings.{PermitsFor, role_of_cell}
 use Rattle.pawk_commute.proofs.CellLaws.{table_with}

@@ -7,10 +7,10 @@ use Rattle.pawk_world.specs.Worlds.{Calls}
 use Rattle.pawk_store.specs.Globals.{calls}
 use Rattle.pawk_frozen.specs.Frozens.{blank_world}
 use Rattle.pawk_frozen.specs.Frozens as frozen
-use Rattle.pawk_semantics.specs.Records.{Left, through, next_file, exit, fault, clash, End, run_part, one_record}
-use Rattle.pawk_semantics.specs.Runs.{after_leaving, records_from}
-use Rattle.pawk_semantics.specs.Laws.{RefusalsAreFinal, LeftBy}
-use Rattle.pawk_semantics.specs.Steady.{StaysInFile, RecordsKeepLaw}
+use Rattle.pawk_store.specs.Records.{Left, through, next_file, exit, fault, clash, End, run_part, one_record}
+use Rattle.pawk_store.specs.Runs.{after_leaving, records_from}
+use Rattle.pawk_store.specs.Laws.{RefusalsAreFinal, LeftBy}
+use Rattle.pawk_store.specs.Steady.{StaysInFile, RecordsKeepLaw}
 use Rattle.pawk_commute.specs.Settings.{PermitsFor}
 use Rattle.pawk_commute.specs.Traces.{traced}
 use Rattle.pawk_commute.proofs.OrderLemmas.{store_final, chunk_final}

@@ -4,7 +4,7 @@ use Rattle.std.specs.Prelude.{MatchResult, flat_map}
 use Rattle.std.proofs.lemmas.List.{append-nil}
 use Rattle.pawk_input.specs.Input.{Item}
 use Rattle.pawk_store.specs.Globals.{Globals}
-use Rattle.pawk_semantics.specs.Records.{through, End}
+use Rattle.pawk_store.specs.Records.{through, End}
 use Rattle.pawk_merge.specs.Merges.{Stop}
 use Rattle.pawk_merge_law.specs.Phases.{Phase, MayRun, opening, in_order, FaultsOrCreates}
 use Rattle.pawk_merge_law.specs.ChunkedRuns.{all_of}

@@ -5,9 +5,9 @@ use Rattle.pawk_input.specs.Input.{Item}
 use Rattle.pawk_store.specs.Globals.{Globals, calls}
 use Rattle.pawk_store.specs.RecordStates.{RecordState}
 use Rattle.pawk_admit.specs.Roles.{Roles}
-use Rattle.pawk_semantics.specs.Records.{Left, through, next_file, exit, fault, clash, End}
-use Rattle.pawk_semantics.specs.Runs.{records_from}
-use Rattle.pawk_semantics.specs.Steady.{AreSameButRecord, RecordsKeepLaw, onward, RecordsFollowLaw, ReadsAnewLaw}
+use Rattle.pawk_store.specs.Records.{Left, through, next_file, exit, fault, clash, End}
+use Rattle.pawk_store.specs.Runs.{records_from}
+use Rattle.pawk_store.specs.Steady.{AreSameButRecord, RecordsKeepLaw, onward, RecordsFollowLaw, ReadsAnewLaw}
 use Rattle.pawk_commute.specs.Settings.{PermitsFor}
 use Rattle.pawk_commute.specs.Traces.{Event, Traced, traced}
 use Rattle.pawk_commute.specs.TracedRuns.{TracedLaw}
@@ -16,7 +16,7 @@ use Rattle.pawk_commute.proofs.TracedLemmas.{plain_final}
 use Rattle.pawk_merge_law.specs.Phases.{Phase, MayRun, opening, in_order, traced_opening, in_order_traced, IsFault, CreatesElement, FaultsOrCreates}
 use Rattle.pawk_merge_law.specs.ChunkedRuns.{HasRecord}
 use Rattle.pawk_merge_law.proofs.OpeningLemmas.{steady}
-use Rattle.pawk_windows.specs.Windows.{phase_at, MayRunOnLaw, PartingLaw}
+use Rattle.pawk_merge_law.specs.Windows.{phase_at, MayRunOnLaw, PartingLaw}
 use Rattle.pawk_shards.specs.Apart.{HasCome, GoesOn}
 use Rattle.pawk_shards.proofs.EndLemmas.{ends_itself, come_through, come_ends, ends_so}
 

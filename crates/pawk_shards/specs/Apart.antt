@@ -4,14 +4,14 @@
 use Rattle.std.specs.Prelude.{◌≡◌, ◌↔◌, ℕ, ◌+◌, ◌<◌, List, [], ◌∷◌, ◌++◌, length, take, All, None, MatchOption, MatchResult, Ok}
 use Rattle.pawk_input.specs.Input.{Item}
 use Rattle.pawk_store.specs.Globals.{Globals, calls}
-use Rattle.pawk_semantics.specs.Records.{through, End}
-use Rattle.pawk_semantics.specs.Runs.{records_from}
-use Rattle.pawk_semantics.specs.Steady.{AreSameButRecord, status_after}
+use Rattle.pawk_store.specs.Records.{through, End}
+use Rattle.pawk_store.specs.Runs.{records_from}
+use Rattle.pawk_store.specs.Steady.{AreSameButRecord, status_after}
 use Rattle.pawk_merge.specs.Extents.{merge_far}
 use Rattle.pawk_merge.specs.Merges.{Chunk, merge}
 use Rattle.pawk_merge_law.specs.Phases.{Phase, MayRun, opening, in_order, FaultsOrCreates}
 use Rattle.pawk_merge_law.specs.ChunkedRuns.{IsTold, Ran, HasRecord, all_of}
-use Rattle.pawk_windows.specs.Windows.{phase_at}
+use Rattle.pawk_merge_law.specs.Windows.{phase_at}
 
 -- ---- how far a run has come
 

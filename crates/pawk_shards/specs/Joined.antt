@@ -5,8 +5,8 @@ use Rattle.pawk_value.specs.Value.{Val}
 use Rattle.pawk_input.specs.Input.{Item}
 use Rattle.pawk_world.specs.Worlds.{Cell}
 use Rattle.pawk_store.specs.Globals.{Globals}
-use Rattle.pawk_semantics.specs.Records.{through, End}
-use Rattle.pawk_semantics.specs.Lockstep.{Pair}
+use Rattle.pawk_store.specs.Records.{through, End}
+use Rattle.pawk_store.specs.Lockstep.{Pair}
 use Rattle.pawk_frozen.specs.Frozens.{Frozen, calls}
 use Rattle.pawk_frozen.specs.Marks.{Mark, blank, summed, last_put, created, Table, mark_at}
 use Rattle.pawk_admit.specs.declared.role.Role.{Role}

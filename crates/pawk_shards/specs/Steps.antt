@@ -3,12 +3,12 @@
 use Rattle.std.specs.Prelude.{◌≡◌, ℕ, ◌+◌, List, [], ◌∷◌, ◌++◌, length, flat_map, All, None, Ok, Err}
 use Rattle.pawk_input.specs.Input.{Item}
 use Rattle.pawk_store.specs.Globals.{Globals, calls}
-use Rattle.pawk_semantics.specs.Records.{through, End}
-use Rattle.pawk_semantics.specs.Runs.{records_from}
+use Rattle.pawk_store.specs.Records.{through, End}
+use Rattle.pawk_store.specs.Runs.{records_from}
 use Rattle.pawk_merge.specs.Merges.{Chunk, Stop, merge}
 use Rattle.pawk_merge_law.specs.Phases.{Phase, MayRun, opening, in_order, FaultsOrCreates}
 use Rattle.pawk_merge_law.specs.ChunkedRuns.{Ran, HasRecord, all_of}
-use Rattle.pawk_windows.specs.Windows.{phase_at}
+use Rattle.pawk_merge_law.specs.Windows.{phase_at}
 use Rattle.pawk_shards.specs.Apart.{HasCome, EndsSo, RanButRecord}
 
 -- a step: chunks that were run apart, with what they left; or records that are run in order

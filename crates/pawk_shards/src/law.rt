@@ -1,19 +1,17 @@
 // The laws.
 
-ghost use Rattle.pawk_shards.specs.Apart.{ApartLaw, FarApartLaw, InTurnLaw, LaterLaw, LeavesLaw};
-ghost use Rattle.pawk_shards.specs.Apart.{MayRunThereLaw, OneApartLaw, OpeningLaw, WholeLaw};
-ghost use Rattle.pawk_shards.specs.Joined.{ComposesLaw, MarksComposeLaw, NeighboursLaw};
-ghost use Rattle.pawk_shards.specs.Joined.{NotedAgainLaw, NotesLaw, TablesComposeLaw};
+ghost use Rattle.pawk_shards.specs.Apart.{ApartLaw, FarApartLaw, InTurnLaw, LaterLaw, LeavesLaw, MayRunThereLaw, OneApartLaw, OpeningLaw, WholeLaw};
+ghost use Rattle.pawk_shards.specs.Joined.{ComposesLaw, MarksComposeLaw, NeighboursLaw, NotedAgainLaw, NotesLaw, TablesComposeLaw};
 ghost use Rattle.pawk_shards.specs.Numbers.{RenumberedLaw, ShardFilesLaw};
-ghost use Rattle.pawk_shards.specs.Steps.{LastStepLaw, MoreStepsLaw, ShardsLaw, StepRecordsLaw};
-ghost use Rattle.pawk_shards.specs.Steps.{StepsLaw, StopLaw};
+ghost use Rattle.pawk_shards.specs.Parts.{PartApartLaw, PartsAsOneLaw, PartSaysLaw};
+ghost use Rattle.pawk_shards.specs.Steps.{LastStepLaw, MoreStepsLaw, ShardsLaw, StepRecordsLaw, StepsLaw, StopLaw};
 
 use pawk_commute::law::trace_changes_nothing;
-use pawk_merge_law::law::{OfChunk, Store, chunks_merge};
-use pawk_semantics::law::{
+use pawk_merge_law::merge_law::{OfChunk, Store, chunks_merge};
+use pawk_merge_law::window_law::{may_run_on, merges_far, parts_tell};
+use pawk_store::law::{
     Pairing, Policy, lockstep_records, reads_anew, records_follow, records_keep,
 };
-use pawk_windows::law::{may_run_on, merges_far, parts_tell};
 
 /// The globals of a run, and what a program may do there that runs in chunks.
 struct PlainStore;
@@ -140,4 +138,21 @@ pub fn neighbours_are_joined()
     records_go_on();
     records_keep::<PlainStore>();
     lockstep_records::<NotedChunk>();
+}
+
+/// A part of a table is of one chunk that was run apart, or of two parts, one after the other, whose tables were
+/// composed. Either way it is of records of which there is one and which are as many as it says, it notes what chunks
+/// of the run may note, and it is merged where a run has come as what a chunk left: then its records end so in order,
+/// or the merge stops, exactly where the records in order end in a fault or create an element of an array that is no
+/// reader array.
+///
+/// POSIX.1-2017, awk, "Overall Program Structure".
+pub fn parts_are_chunks()
+    ensures says { PartSaysLaw }
+    ensures as_one { PartsAsOneLaw }
+    ensures apart { PartApartLaw }
+{
+    chunks_merge_apart();
+    records_go_on();
+    neighbours_are_joined();
 }

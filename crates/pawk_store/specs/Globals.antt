@@ -1,6 +1,6 @@
 -- The globals of a run, by their slots, and what they answer.
 use Rattle.std.specs.Prelude.{ℕ, ℤ, List, [], Result, Ok, Err, slice_set, slice_index_or, is_some}
-use Rattle.pawk_value.specs.Fault.{Fault}
+use Rattle.pawk_value.specs.declared.faults.Fault.{Fault}
 use Rattle.pawk_value.specs.Value.{Val, Uninit, Num}
 use Rattle.pawk_value.specs.Conversion.{num_of}
 use Rattle.pawk_array.specs.Entries.{Entries, found, put, without, keys, value_of, touched}

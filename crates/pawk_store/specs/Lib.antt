@@ -1,3 +1,16 @@
+pub mod Parts
+pub mod Places
+pub mod Builtins
+pub mod Meaning
+pub mod Limits
+pub mod Records
+pub mod LeftViews
+pub mod Runs
+pub mod Lockstep
+pub mod Allows
+pub mod Laws
+pub mod Steady
+pub mod Outputs
 pub mod Globals
 pub mod Openings
 pub mod RecordStates

@@ -5,18 +5,18 @@ use Rattle.pawk_code.specs.Programs.{Code}
 use Rattle.pawk_input.specs.Input.{Item, file_items}
 use Rattle.pawk_store.specs.Globals.{Globals, calls}
 use Rattle.pawk_admit.specs.Roles.{Roles}
-use Rattle.pawk_semantics.specs.Records.{Left, through, fault, End}
-use Rattle.pawk_semantics.specs.Runs.{records_from}
-use Rattle.pawk_semantics.specs.LeftViews.{left_view}
-use Rattle.pawk_semantics.specs.Outputs.{in_a_row, with_output_before, OutputIsAppendedLaw}
+use Rattle.pawk_store.specs.Records.{Left, through, fault, End}
+use Rattle.pawk_store.specs.Runs.{records_from}
+use Rattle.pawk_store.specs.LeftViews.{left_view}
+use Rattle.pawk_store.specs.Outputs.{in_a_row, with_output_before, OutputIsAppendedLaw}
 use Rattle.pawk_merge_law.specs.Phases.{Phase, MayRun, in_order, FaultsOrCreates}
 use Rattle.pawk_merge_law.specs.ChunkedRuns.{HasRecord, all_of}
-use Rattle.pawk_windows.specs.Windows.{phase_at}
-use Rattle.pawk_windows.specs.Redone.{FaultOutputLaw}
+use Rattle.pawk_merge_law.specs.Windows.{phase_at}
+use Rattle.pawk_merge_law.specs.Redone.{FaultOutputLaw}
 use Rattle.pawk_flow.specs.Pieces.{RunsPiece, GoesInChunks, end_between, phase_between, piece_items, piece_records}
-use Rattle.pawk_flow.specs.declared.flow.Flow.{Flow}
-use Rattle.pawk_flow.specs.declared.piece.Piece.{Piece}
-use Rattle.pawk_flow.specs.declared.piece.PieceEnd.{PieceEnd}
+use Rattle.pawk_flow.specs.Flow.{Flow}
+use Rattle.pawk_flow.specs.Piece.{Piece}
+use Rattle.pawk_flow.specs.PieceEnd.{PieceEnd}
 use Rattle.pawk_shards.specs.Apart.{HasCome, GoesOn, InTurnLaw, LaterLaw}
 use Rattle.pawk_shards.specs.Told.{Tell, kept_records}
 use Rattle.pawk_tables.specs.Layout.{Section, kept}

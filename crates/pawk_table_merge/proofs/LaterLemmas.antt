@@ -3,16 +3,16 @@ use Rattle.std.proofs.Common.{◌≡◌, ℕ, ◌+◌, false, List, [], ◌∷�
 use Rattle.pawk_input.specs.Input.{Item}
 use Rattle.pawk_store.specs.RecordStates.{RecordState}
 use Rattle.pawk_frozen.specs.Frozens.{Frozen, blank_world, calls}
-use Rattle.pawk_semantics.specs.Records.{through, End}
-use Rattle.pawk_semantics.specs.Runs.{records_from}
-use Rattle.pawk_semantics.specs.Steady.{AreSameButRecord}
+use Rattle.pawk_store.specs.Records.{through, End}
+use Rattle.pawk_store.specs.Runs.{records_from}
+use Rattle.pawk_store.specs.Steady.{AreSameButRecord}
 use Rattle.pawk_frozen.specs.Marks.{Table}
 use Rattle.pawk_merge.specs.Merges.{Chunk}
 use Rattle.pawk_merge_law.specs.Phases.{Phase}
 use Rattle.pawk_merge_law.specs.ChunkedRuns.{IsTold, chunk_end, leavings}
 use Rattle.pawk_numbered.specs.Mentions.{reads_number}
 use Rattle.pawk_numbered.specs.Laws.{with_records_before, with_number, FromNoneLaw}
-use Rattle.pawk_shards.specs.Told.{Tell, IsPartOf}
+use Rattle.pawk_shards.specs.Told.{Origin, one_chunk, two_parts, part_chunk, Says, IsPartOf, Tell}
 use Rattle.pawk_tables.specs.Layout.{Section, file, part, kept}
 
 module _ (law : FromNoneLaw calls) (p : Phase) (blind : reads_number p.code ≡ false) where
@@ -45,11 +45,39 @@ module _ (law : FromNoneLaw calls) (p : Phase) (blind : reads_number p.code ≡ 
         ),
       )
 
+  -- What a part says after so many records, a part of some origin says after any number: of each chunk the record state changes.
+  says_later : (origin : Origin) (nr later : ℕ) (chunk : List Item) (count : ℕ) (output : List ℕ) (table : Table) → Says p origin nr chunk count output table → (other : Origin) × Says p other later chunk count output table
+  says_later (one_chunk state) nr later chunk count output table h =
+      let told = told_later nr later chunk (part_chunk state output table) h.told in
+      (one_chunk told.0, record { some = h.some; counted = h.counted; told = told.1 })
+  says_later (two_parts first second) nr later chunk count output table h =
+      let one = says_later first nr later h.first_items h.first_count h.first_output h.first_table h.first in
+      let two = says_later second (nr + h.first_count) (later + h.first_count) h.second_items h.second_count h.second_output h.second_table h.second in (
+        two_parts one.0 two.0,
+        record {
+          first_items = h.first_items;
+          first_count = h.first_count;
+          first_output = h.first_output;
+          first_table = h.first_table;
+          second_items = h.second_items;
+          second_count = h.second_count;
+          second_output = h.second_output;
+          second_table = h.second_table;
+          first = one.1;
+          second = two.1;
+          items = h.items;
+          counted = h.counted;
+          outputs = h.outputs;
+          composed = h.composed;
+          slots = h.slots;
+        },
+      )
+
   -- a part tells the same after any number of records
   part_later : (nr later : ℕ) (chunk : List Item) (count : ℕ) (output : List ℕ) (table : Table) → IsPartOf p nr chunk count output table → IsPartOf p later chunk count output table
   part_later nr later chunk count output table h =
-      let told = told_later nr later chunk (record { table = table; state = h.state; output = output; left = through }) h.told in
-      record { some = h.some; counted = h.counted; state = told.0; told = told.1 }
+      let said = says_later h.origin nr later chunk count output table h.says in
+      record { origin = said.0; says = said.1 }
 
   pub tell_later : (rs : List ℕ) (nr later : ℕ) (name : List ℕ) (sections : List Section) (chunks : List (List Item)) → Tell p rs nr name sections chunks → Tell p rs later name sections chunks
   tell_later rs nr later name [] [] h = tt

@@ -5,3 +5,4 @@ pub mod TableLemmas
 pub mod RunLemmas
 pub mod RefusalLemmas
 pub mod WholeLemmas
+pub mod CarryLemmas

@@ -4,20 +4,26 @@ use Rattle.std.specs.Prelude.{MatchResult}
 use Rattle.pawk_input.specs.Input.{Item}
 use Rattle.pawk_store.specs.Globals.{Globals}
 use Rattle.pawk_store.specs.RecordStates.{RecordState}
-use Rattle.pawk_semantics.specs.Records.{through, End}
-use Rattle.pawk_semantics.specs.Steady.{AreSameButRecord}
+use Rattle.pawk_store.specs.Records.{through, End}
+use Rattle.pawk_store.specs.Steady.{AreSameButRecord}
 use Rattle.pawk_frozen.specs.Marks.{Table}
 use Rattle.pawk_merge.specs.Merges.{Chunk, Stop, at_cell, with_chunk}
 use Rattle.pawk_merge.specs.Tables.{all_take}
-use Rattle.pawk_merge_law.specs.Phases.{Phase, MayRun, in_order, FaultsOrCreates}
+use Rattle.pawk_merge_law.specs.Phases.{Phase, MayRun, FaultsOrCreates}
 use Rattle.pawk_merge_law.specs.ChunkedRuns.{all_of}
-use Rattle.pawk_shards.specs.Apart.{HasCome, EndsSo, OneApartLaw, LaterLaw}
-use Rattle.pawk_shards.specs.Told.{Tell, IsPartOf}
+use Rattle.pawk_shards.specs.Apart.{HasCome, EndsSo, LaterLaw}
+use Rattle.pawk_shards.specs.Parts.{PartSaysLaw, PartApartLaw}
+use Rattle.pawk_shards.specs.Told.{Tell, IsPartOf, last_state, part_chunk}
 use Rattle.pawk_tables.specs.Layout.{Section, part}
-use Rattle.pawk_flow.specs.declared.flow.Flow.{Flow}
+use Rattle.pawk_flow.specs.Flow.{Flow}
 use Rattle.pawk_table_merge.specs.declared.section.Progress.{Progress}
 use Rattle.pawk_table_merge.specs.TableMerges.{end_at}
 use Rattle.pawk_table_merge.specs.Sections.{JoinsPart, IsIn, GoesTo}
+
+-- the laws of parts
+pub record PartLaws : Type 0 where
+  pub says : PartSaysLaw
+  pub apart : PartApartLaw
 
 -- ---- records in two parts
 
@@ -36,10 +42,10 @@ module _ (p : Phase) where
 
   -- ---- a part
 
-  module _ (may : MayRun p) (one : OneApartLaw) (items : List Item) (output : List ℕ) (flow : Flow) (come : HasCome p items (end_at flow output))
+  module _ (may : MayRun p) (law : PartLaws) (items : List Item) (output : List ℕ) (flow : Flow) (come : HasCome p items (end_at flow output))
       (c : List Item) (count : ℕ) (out : List ℕ) (table : Table) (told : IsPartOf p (p.state.nr + length items) c count out table) where
     abbrev chunk : Chunk
-    chunk = record { table = table; state = told.state; output = out; left = through }
+    chunk = part_chunk (last_state told.origin) out table
 
     abbrev all : List Item
     all = items ++ c
@@ -49,25 +55,25 @@ module _ (p : Phase) where
 
     -- what the merge of the part tells
     abbrev Met : Result (End Globals) Stop → Type 0
-    Met r = MatchResult r (λ f. (in_order p all ≡ f) × EndsSo p all f) (λ stop. FaultsOrCreates p all)
+    Met r = MatchResult r (EndsSo p all) (λ stop. FaultsOrCreates p all)
 
     abbrev merged : Bool → Result (End Globals) Stop
     merged takes = if takes then Ok (with_chunk chunk before) else Err at_cell
 
     met : (takes : Bool) → all_take table flow.globals ≡ takes → Met (merged takes)
-    met takes is = subst (λ b. Met (merged b)) is (one p may items before come c chunk told.some told.told)
+    met takes is = subst (λ b. Met (merged b)) is (law.apart p may items before come c count out table told)
 
     pub part_stops : all_take table flow.globals ≡ false → FaultsOrCreates p all
     part_stops is = met false is
 
     module _ (new : Flow) (takes : all_take table flow.globals ≡ true) (joins : JoinsPart count table flow new) where
       come_chunk : HasCome p all (with_chunk chunk before)
-      come_chunk = (met true takes).1.goes_on refl
+      come_chunk = (met true takes).goes_on refl
 
       number : flow.state.nr + count ≡ p.state.nr + length all
       number =
           let n = number_come items before come in
-          let k = told.counted in
+          let k = (law.says p may (p.state.nr + length items) c count out table told).1 in
           omega (arith, n, k, length-append items c)
 
       same_state : AreSameButRecord (record p.state { nr = p.state.nr + length all }) new.state
@@ -91,7 +97,7 @@ module _ (p : Phase) where
 
 -- ---- the section of a part
 
-module _ (p : Phase) (may : MayRun p) (one : OneApartLaw) (rs : List ℕ) (items : List Item) (output : List ℕ) (old : Progress) (is_in : IsIn p items output old)
+module _ (p : Phase) (may : MayRun p) (law : PartLaws) (rs : List ℕ) (items : List Item) (output : List ℕ) (old : Progress) (is_in : IsIn p items output old)
     (count : ℕ) (out : List ℕ) (table : Table) (ss : List Section) where
   abbrev Tells : List (List Item) → Type 0
   Tells chunks = Tell p rs (p.state.nr + length items) old.name.now (part count out table ∷ ss) chunks
@@ -99,7 +105,7 @@ module _ (p : Phase) (may : MayRun p) (one : OneApartLaw) (rs : List ℕ) (items
   pub part_section_stops : LaterLaw → all_take table old.flow.globals ≡ false → (chunks : List (List Item)) → Tells chunks → FaultsOrCreates p (items ++ all_of chunks)
   part_section_stops later is [] told = absurd told
   part_section_stops later is (c ∷ cs) told =
-      stays_bad p may later items c cs (part_stops p may one items output old.flow is_in.come c count out table told.0 is)
+      stays_bad p may later items c cs (part_stops p may law items output old.flow is_in.come c count out table told.0 is)
 
   pub part_section_goes : (new : Progress) → all_take table old.flow.globals ≡ true → JoinsPart count table old.flow new.flow → new.name ≡ old.name → new.has_record ≡ false →
       (chunks : List (List Item)) → Tells chunks → GoesTo p rs items (output ++ out) new ss chunks
@@ -107,14 +113,14 @@ module _ (p : Phase) (may : MayRun p) (one : OneApartLaw) (rs : List ℕ) (items
   part_section_goes new takes joins name none (c ∷ cs) told =
       let all = items ++ c in
       let here = told.0 in
-      let number : p.state.nr + length items + count ≡ p.state.nr + length all = let k = here.counted in omega (arith, k, length-append items c) in
+      let number : p.state.nr + length items + count ≡ p.state.nr + length all = let k = (law.says p may (p.state.nr + length items) c count out table here).1 in omega (arith, k, length-append items c) in
       let others : Tell p rs (p.state.nr + length items + count) old.name.now ss cs = told.1 in
       record {
         done = all;
         more = cs;
         parts = chunk_first items c cs;
         is_in = record {
-          come = part_comes p may one items output old.flow is_in.come c count out table here new.flow takes joins;
+          come = part_comes p may law items output old.flow is_in.come c count out table here new.flow takes joins;
           exact = λ h. let bad : true ≡ false = sym h ∙ none in absurd cc;
         };
         told = subst (λ T. T) (λ j. Tell p rs (number j) ((sym name) j).now ss cs) others;

@@ -5,13 +5,13 @@ use Rattle.std.specs.Io.KnownBytes.{Keeps}
 use Rattle.pawk_code.specs.ProgramViews.{code_view}
 use Rattle.pawk_input.specs.Input.{Item}
 use Rattle.pawk_store.specs.Globals.{Globals, calls}
-use Rattle.pawk_semantics.specs.Records.{Left, through, next_file, exit, fault, clash, End}
-use Rattle.pawk_semantics.specs.Runs.{records_from}
-use Rattle.pawk_semantics.specs.Outputs.{with_output_before, OutputIsAppendedLaw}
+use Rattle.pawk_store.specs.Records.{Left, through, next_file, exit, fault, clash, End}
+use Rattle.pawk_store.specs.Runs.{records_from}
+use Rattle.pawk_store.specs.Outputs.{with_output_before, OutputIsAppendedLaw, in_a_row}
 use Rattle.pawk_merge_law.specs.Phases.{Phase, MayRun, opening, in_order}
 use Rattle.pawk_merge_law.specs.ChunkedRuns.{all_of}
-use Rattle.pawk_windows.specs.Pieces.{Progress as Place, PiecesLaw, progress_after, if_open}
-use Rattle.pawk_flow.specs.declared.flow.Flow.{Flow}
+use Rattle.pawk_merge_law.specs.Pieces.{Progress as Place, PiecesLaw, progress_after, if_open}
+use Rattle.pawk_flow.specs.Flow.{Flow}
 use Rattle.pawk_shards.specs.Apart.{HasCome}
 use Rattle.pawk_par.specs.Streams.{WhyUnwritten}
 use Rattle.pawk_par.specs.declared.refusal.StreamRefusal.{StreamRefusal}
@@ -19,11 +19,9 @@ use Rattle.pawk_par.specs.declared.refusal.StreamRefusal.TheVariants as refusal
 use Rattle.pawk_admit.specs.Roles.{roles_view}
 use Rattle.pawk_frozen.specs.Marks.{Table}
 use Rattle.pawk_merge.specs.Tables.{all_take}
-use Rattle.pawk_semantics.specs.Outputs.{in_a_row}
 use Rattle.pawk_flow.specs.Pieces.{RunsPiece, piece_items}
-use Rattle.pawk_flow.specs.declared.piece.Piece.{Piece}
-use Rattle.pawk_flow.specs.declared.piece.PieceEnd.{PieceEnd}
-use Rattle.pawk_shards.specs.Apart.{OneApartLaw}
+use Rattle.pawk_flow.specs.Piece.{Piece}
+use Rattle.pawk_flow.specs.PieceEnd.{PieceEnd}
 use Rattle.pawk_shards.specs.Told.{Tell, kept_records}
 use Rattle.pawk_tables.specs.Layout.{Section, part, kept}
 use Rattle.pawk_tables.specs.Reading.{IsInFront, section}
@@ -32,7 +30,7 @@ use Rattle.pawk_table_merge.specs.declared.section.Setting.{Setting}
 use Rattle.pawk_table_merge.specs.declared.section.Progress.{Progress}
 use Rattle.pawk_table_merge.specs.TableMerges.{end_at, IsBeginning, WroteSome}
 use Rattle.pawk_table_merge.specs.Sections.{phase_of, JoinsPart, IsIn, MergesSome, RefusesSection, RefusesSections}
-use Rattle.pawk_table_merge.proofs.PartLemmas.{chunk_first, part_comes}
+use Rattle.pawk_table_merge.proofs.PartLemmas.{PartLaws, chunk_first, part_comes}
 use Rattle.pawk_table_merge.proofs.KeptLemmas.{all_end}
 use Rattle.pawk_table_merge.proofs.KeptLemmas as kept_lemmas
 use Rattle.pawk_table_merge.proofs.TableLemmas.{OneInFront, after_first}
@@ -133,9 +131,9 @@ section_unwritten law s t taken now_taken old keeps = record {
 }
 
 -- A part that was joined was written in part.
-pub part_refused : Laws → OneApartLaw → (s : Setting) (taken now_taken : Option (List ℕ)) (old : Progress) (new : Flow) (count : ℕ) (out : List ℕ) (table : Table) →
+pub part_refused : Laws → PartLaws → (s : Setting) (taken now_taken : Option (List ℕ)) (old : Progress) (new : Flow) (count : ℕ) (out : List ℕ) (table : Table) →
     all_take table old.flow.globals ≡ true → JoinsPart count table old.flow new → WroteSome taken now_taken out → RefusesSection s (part count out table) taken now_taken old
-part_refused law one s taken now_taken old new count out table takes joins some = record {
+part_refused law parts s taken now_taken old new count out table takes joins some = record {
   wrote = some.wrote;
   appends = some.appends;
   is = λ b may items output is_in ss chunks told. writes b may items output is_in ss chunks told;
@@ -147,7 +145,7 @@ part_refused law one s taken now_taken old new count out table takes joins some 
     writes b may items output is_in ss [] told = absurd told
     writes b may items output is_in ss (c ∷ cs) told =
         let p = phase_of s b in
-        let come = part_comes p may one items output old.flow is_in.come c count out table told.0 new takes joins in
+        let come = part_comes p may parts items output old.flow is_in.come c count out table told.0 new takes joins in
         let all : (in_order p (items ++ c)).output ≡ output ++ out ++ [] = sym (ap (λ (e : End Globals). e.output) come.ends) ∙ sym (append-nil (output ++ out)) in
         chunk_written law p items c cs output out some.wrote ([], all) some.is
 

@@ -11,17 +11,17 @@ use Rattle.pawk_store.specs.Globals.{Globals, calls}
 use Rattle.pawk_admit.specs.Roles.{roles_view}
 use Rattle.pawk_admit.specs.declared.reason.Reason.{Reason}
 use Rattle.pawk_admit.specs.declared.role.Roles.{Roles as CodeRoles}
-use Rattle.pawk_semantics.specs.Records.{Left, through, next_file, exit, fault, clash, End}
-use Rattle.pawk_semantics.specs.Runs.{Finish, records_from, after_records}
-use Rattle.pawk_semantics.specs.LeftViews.{left_view}
-use Rattle.pawk_semantics.specs.Outputs.{finish_with_output_before, OutputStaysLaw}
+use Rattle.pawk_store.specs.Records.{Left, through, next_file, exit, fault, clash, End}
+use Rattle.pawk_store.specs.Runs.{Finish, records_from, after_records}
+use Rattle.pawk_store.specs.LeftViews.{left_view}
+use Rattle.pawk_store.specs.Outputs.{finish_with_output_before, OutputStaysLaw}
 use Rattle.pawk_merge_law.specs.Phases.{Phase, MayRun, in_order}
 use Rattle.pawk_merge_law.specs.ChunkedRuns.{all_of}
-use Rattle.pawk_windows.specs.Flows.{Pairs, plain_turn, FilesFollowLaw}
+use Rattle.pawk_merge_law.specs.Flows.{Pairs, plain_turn, FilesFollowLaw}
 use Rattle.pawk_flow.specs.Begins.{AreRolesFrom}
 use Rattle.pawk_flow.specs.Operands.{Operands, assigned, rest_over, run_over, AssignedLaw}
 use Rattle.pawk_flow.specs.Pieces.{end_between, phase_between}
-use Rattle.pawk_flow.specs.declared.flow.Flow.{Flow}
+use Rattle.pawk_flow.specs.Flow.{Flow}
 use Rattle.pawk_numbered.specs.Mentions.{reads_number}
 use Rattle.pawk_shards.specs.Apart.{OpeningLaw, LaterLaw}
 use Rattle.pawk_shards.specs.Numbers.{AreSameButNumbers, RenumberedLaw, ShardFilesLaw}

@@ -3,7 +3,7 @@ use Rattle.std.proofs.Common.{◌≡◌, ℕ, ◌+◌, ◌-◌, Bool, true, fals
 use Rattle.std.proofs.KnownBytes.{Appends-nil, Appends-trans}
 use Rattle.pawk_input.specs.Input.{Item}
 use Rattle.pawk_store.specs.Globals.{Globals}
-use Rattle.pawk_semantics.specs.Records.{End}
+use Rattle.pawk_store.specs.Records.{End}
 use Rattle.pawk_merge_law.specs.Phases.{Phase}
 use Rattle.pawk_merge_law.specs.ChunkedRuns.{all_of}
 use Rattle.pawk_numbered.specs.Mentions.{reads_number}
@@ -13,7 +13,7 @@ use Rattle.pawk_tables.specs.Layout.{Section}
 use Rattle.pawk_tables.specs.Reading.{AreInTurn, IsInFront, section, records}
 use Rattle.pawk_tables.specs.Reading as reading
 use Rattle.pawk_tables.specs.declared.section.Shape.{Shape}
-use Rattle.pawk_flow.specs.declared.flow.Flow.{Flow}
+use Rattle.pawk_flow.specs.Flow.{Flow}
 use Rattle.pawk_table_merge.specs.declared.merging.TableEnd.{TableEnd}
 use Rattle.pawk_table_merge.specs.declared.merging.TableEnd.TheVariants.{Through, Ended, Stopped}
 use Rattle.pawk_table_merge.specs.declared.section.Setting.{Setting}

@@ -4,7 +4,7 @@ use Rattle.std.specs.Prelude.{MatchResult}
 use Rattle.pawk_input.specs.Input.{Item}
 use Rattle.pawk_store.specs.Globals.{Globals}
 use Rattle.pawk_frozen.specs.Frozens.{calls as chunk_calls}
-use Rattle.pawk_semantics.specs.Records.{Left, through, next_file, exit, fault, clash, End}
+use Rattle.pawk_store.specs.Records.{Left, through, next_file, exit, fault, clash, End}
 use Rattle.pawk_merge.specs.Merges.{Chunk, Stop, at_cell, after_leaving, merge, with_chunk}
 use Rattle.pawk_merge.specs.Tables.{all_take}
 use Rattle.pawk_merge_law.specs.Phases.{Phase, MayRun, opening, in_order, FaultsOrCreates}

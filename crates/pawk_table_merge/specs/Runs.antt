@@ -5,13 +5,13 @@ use Rattle.pawk_code.specs.Programs.{Code}
 use Rattle.pawk_input.specs.Input.{File, Item, items}
 use Rattle.pawk_store.specs.Globals.{calls}
 use Rattle.pawk_admit.specs.Roles.{roles_view}
-use Rattle.pawk_semantics.specs.Records.{Left, through}
-use Rattle.pawk_semantics.specs.Runs.{after_records}
-use Rattle.pawk_semantics.specs.LeftViews.{left_view}
+use Rattle.pawk_store.specs.Records.{Left, through}
+use Rattle.pawk_store.specs.Runs.{after_records}
+use Rattle.pawk_store.specs.LeftViews.{left_view}
 use Rattle.pawk_merge_law.specs.Phases.{Phase}
 use Rattle.pawk_merge.specs.Merges.{Chunk}
 use Rattle.pawk_merge_law.specs.ChunkedRuns.{IsTold, all_of}
-use Rattle.pawk_windows.specs.Flows.{Pairs, plain_turn}
+use Rattle.pawk_merge_law.specs.Flows.{Pairs, plain_turn}
 use Rattle.pawk_flow.specs.Operands.{run_over}
 use Rattle.pawk_flow.specs.Pieces.{end_between}
 use Rattle.pawk_shards.specs.Numbers.{AreSameButNumbers}

@@ -7,13 +7,13 @@ use Rattle.pawk_store.specs.Globals.{Globals}
 use Rattle.pawk_admit.specs.Admission.{IsAdmissible, AreRoles}
 use Rattle.pawk_admit.specs.Reaches.{Occurs}
 use Rattle.pawk_admit.specs.Roles.{roles_view}
-use Rattle.pawk_semantics.specs.Records.{Left, through, fault, End}
-use Rattle.pawk_semantics.specs.LeftViews.{left_view}
+use Rattle.pawk_store.specs.Records.{Left, through, fault, End}
+use Rattle.pawk_store.specs.LeftViews.{left_view}
 use Rattle.pawk_frozen.specs.Marks.{Table}
 use Rattle.pawk_merge.specs.Tables.{join_table}
 use Rattle.pawk_merge_law.specs.Phases.{Phase, MayRun, in_order}
 use Rattle.pawk_merge_law.specs.ChunkedRuns.{all_of}
-use Rattle.pawk_flow.specs.declared.flow.Flow.{Flow}
+use Rattle.pawk_flow.specs.Flow.{Flow}
 use Rattle.pawk_shards.specs.Apart.{HasCome}
 use Rattle.pawk_shards.specs.Told.{Tell}
 use Rattle.pawk_tables.specs.Layout.{Section}
@@ -25,13 +25,17 @@ use Rattle.pawk_table_merge.specs.declared.merging.StopCause.{StopCause}
 use Rattle.pawk_table_merge.specs.declared.merging.StopCause.TheVariants as stops
 use Rattle.pawk_table_merge.specs.declared.section.Setting.{Setting}
 use Rattle.pawk_table_merge.specs.declared.section.Progress.{Progress}
-use Rattle.pawk_table_merge.specs.TableMerges.{phase_from, end_at, IsAt, IsCounted, IsWhole, LeavesSo, IsBeginning}
+use Rattle.pawk_table_merge.specs.TableMerges.{phase_from, MayGoOn, end_at, IsAt, IsCounted, IsWhole, LeavesSo, IsBeginning}
 
 -- records of the program may be run by it
 pub record IsUsable (s : Setting) : Type 0 where
   pub one_byte : length s.rs.now ≤ 1
   pub admissible : IsAdmissible (code_view s.job.code.now)
   pub roles : AreRoles (Occurs (code_view s.job.code.now)) (roles_view s.roles.now)
+
+-- where a run is known to be ready for records they may be run in chunks
+abbrev pub IsReady : Setting → Flow → Bool → Type 0
+IsReady s flow known = known ≡ true → MayGoOn (code_view s.job.code.now) (roles_view s.roles.now) flow
 
 -- the records after BEGIN, which ended so
 abbrev pub phase_of : Setting → End Globals → Phase

@@ -8,17 +8,17 @@ use Rattle.pawk_store.specs.Globals.{Globals}
 use Rattle.pawk_admit.specs.Admission.{IsAdmissible, AreRoles}
 use Rattle.pawk_admit.specs.Reaches.{Occurs}
 use Rattle.pawk_admit.specs.Roles.{Roles, roles_view}
-use Rattle.pawk_semantics.specs.Records.{End, through, fault}
-use Rattle.pawk_semantics.specs.Runs.{Finish}
-use Rattle.pawk_semantics.specs.LeftViews.{left_view}
+use Rattle.pawk_store.specs.Records.{End, through, fault}
+use Rattle.pawk_store.specs.Runs.{Finish}
+use Rattle.pawk_store.specs.LeftViews.{left_view}
 use Rattle.pawk_merge_law.specs.Phases.{Phase, MayRun, in_order, FaultsOrCreates}
 use Rattle.pawk_merge_law.specs.ChunkedRuns.{all_of}
 use Rattle.pawk_sequential.specs.RunEnds.{AreSpecials, ending_view}
 use Rattle.pawk_flow.specs.Begins.{IsStart}
-use Rattle.pawk_flow.specs.Pieces.{end_between}
-use Rattle.pawk_flow.specs.declared.begin.Start.{Start}
-use Rattle.pawk_flow.specs.declared.flow.Flow.{Flow}
-use Rattle.pawk_windows.specs.Flows.{Pairs, Turn}
+use Rattle.pawk_flow.specs.Pieces.{end_between, phase_between}
+use Rattle.pawk_flow.specs.Start.{Start}
+use Rattle.pawk_flow.specs.Flow.{Flow}
+use Rattle.pawk_merge_law.specs.Flows.{Pairs, Turn}
 use Rattle.pawk_flow.specs.Operands.{run_over}
 use Rattle.pawk_numbered.specs.Mentions.{reads_number}
 use Rattle.pawk_shards.specs.Apart.{HasCome}
@@ -36,12 +36,17 @@ use Rattle.pawk_table_merge.specs.declared.merging.StopCause.TheVariants as stop
 
 -- ---- where a run is
 
+-- the records that follow may be run in chunks, whatever the steps that each may take
+abbrev pub MayGoOn : Code → Roles → Flow → Type 0
+MayGoOn code roles flow = (budget : ℕ) → MayRun (phase_between code roles budget flow)
+
 -- a run over tables of this program: RS has at most one byte, and the records may be run in chunks, where they do this with each
--- global
+-- global; so may those that follow, where the run is known to be ready for them
 pub record IsMergeOf (code : Code) (m : Merging) : Type 0 where
   pub one_byte : length m.rs.items ≤ 1
   pub admissible : IsAdmissible code
   pub roles : AreRoles (Occurs code) (roles_view m.roles)
+  pub ready : m.is_ready ≡ true → MayGoOn code (roles_view m.roles) m.flow
 
 -- the records after BEGIN, which ended so
 abbrev pub phase_from : Code → Roles → ℕ → End Globals → Phase

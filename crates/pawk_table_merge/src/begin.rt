@@ -50,6 +50,7 @@ fn go_on<K: Sink>(
                 roles,
                 shape,
                 opened,
+                is_ready: true,
             })
         }
         Err(reason) => Err(MergeRefusal::NotAdmitted(reason)),

@@ -4,8 +4,8 @@ ghost use Rattle.std.specs.Prelude.{◌≡◌, IfOk, OnOk};
 ghost use Rattle.std.specs.Io.KnownBytes.{Appends};
 ghost use Rattle.pawk_code.specs.ProgramViews.{code_view};
 ghost use Rattle.pawk_store.specs.Globals.{calls};
-ghost use Rattle.pawk_semantics.specs.LeftViews.{left_view};
-ghost use Rattle.pawk_semantics.specs.Runs.{after_records};
+ghost use Rattle.pawk_store.specs.LeftViews.{left_view};
+ghost use Rattle.pawk_store.specs.Runs.{after_records};
 ghost use Rattle.pawk_flow.specs.Pieces.{end_between};
 ghost use Rattle.pawk_table_merge.specs.TableMerges.{Concludes};
 
@@ -14,8 +14,8 @@ use crate::refusal::MergeRefusal;
 use crate::write::write_parts;
 use pawk_device::Sink;
 use pawk_flow::finish_flow;
-use pawk_semantics::Left;
 use pawk_sequential::{Job, Outcome};
+use pawk_store::Left;
 
 /// Writes what a run has left to write, and gives the rest of what it leaves.
 pub(crate) fn conclude<K: Sink>(sink: &mut K, outcome: Outcome) -> Result<Conclusion, MergeRefusal>

@@ -4,11 +4,11 @@ ghost use Rattle.pawk_table_merge.specs.Later.{TellLaterLaw};
 ghost use Rattle.pawk_table_merge.specs.Runs.{TableRunLaw};
 
 use pawk_flow::assignments_follow;
-use pawk_merge_law::law::OfChunk;
+use pawk_merge_law::merge_law::OfChunk;
+use pawk_merge_law::window_law::files_follow;
 use pawk_numbered::law::records_may_be_numbered_from_none;
-use pawk_semantics::law::{Policy, output_is_appended};
 use pawk_shards::law::{chunks_merge_apart, numbers_are_own, records_go_on, run_begins};
-use pawk_windows::law::files_follow;
+use pawk_store::law::{Policy, output_is_appended};
 
 /// The globals of a run.
 pub(crate) struct PlainStore;

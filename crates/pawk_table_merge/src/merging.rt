@@ -2,9 +2,8 @@
 
 use pawk_admit::Roles;
 use pawk_flow::Flow;
-use pawk_semantics::Left;
 use pawk_sequential::Ending;
-use pawk_store::{Globals, Specials};
+use pawk_store::{Globals, Left, Specials};
 use pawk_tables::Shape;
 use pawk_value::Fault;
 
@@ -21,6 +20,9 @@ pub struct Merging {
     pub shape: Shape,
     /// What `NR` was after BEGIN.
     pub opened: u64,
+    /// Whether it is known that records may be run in chunks from here; a part that is joined, and
+    /// records that are run, mostly leave it so.
+    pub is_ready: bool,
 }
 
 /// A run over tables after BEGIN.

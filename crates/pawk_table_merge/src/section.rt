@@ -1,16 +1,16 @@
 //! Sections of a table that are merged.
 
-ghost use Rattle.std.specs.Prelude.{◌≡◌, ◌-◌, true, IfErr, IfOk, OnOk};
+ghost use Rattle.std.specs.Prelude.{◌≡◌, ◌-◌, true, IfErr, IfOk, IsTrue, OnOk};
 ghost use Rattle.pawk_code.specs.ProgramViews.{code_view};
 ghost use Rattle.pawk_admit.specs.Roles.{roles_view};
 ghost use Rattle.pawk_merge.specs.Tables.{all_take};
 ghost use Rattle.pawk_merge.specs.Tables as tables;
-ghost use Rattle.pawk_semantics.specs.LeftViews.{left_view};
+ghost use Rattle.pawk_store.specs.LeftViews.{left_view};
 ghost use Rattle.pawk_flow.specs.Pieces.{GoesInChunks, RunsPiece};
 ghost use Rattle.pawk_tables.specs.Layout.{kept, part};
 ghost use Rattle.pawk_tables.specs.Views.{section_of};
-ghost use Rattle.pawk_table_merge.specs.Sections.{IsCauseOf, IsEndOf, IsUsable, JoinsPart};
-ghost use Rattle.pawk_table_merge.specs.Sections.{MergesSection, RefusesSection};
+ghost use Rattle.pawk_table_merge.specs.Sections.{IsCauseOf, IsEndOf, IsReady, IsUsable, JoinsPart, MergesSection, RefusesSection};
+ghost use Rattle.pawk_table_merge.specs.TableMerges.{MayGoOn};
 
 use crate::law::PlainStore;
 use crate::merging::{Stop, StopCause, TableEnd};
@@ -21,14 +21,13 @@ use pawk_device::Sink;
 use pawk_flow::{Flow, Piece, PieceEnd, run_piece_noting};
 use pawk_frozen::Table;
 use pawk_merge::{join_table, takes_table};
-use pawk_merge_law::may_run;
-use pawk_semantics::Left;
-use pawk_semantics::law::output_is_appended;
+use pawk_merge_law::window_law::{faults_follow, pieces_follow};
+use pawk_merge_law::{may_run, stays_ready};
 use pawk_sequential::Job;
-use pawk_shards::law::{chunks_merge_apart, records_go_on};
-use pawk_store::Globals;
+use pawk_shards::law::{parts_are_chunks, records_go_on};
+use pawk_store::law::output_is_appended;
+use pawk_store::{Globals, Left};
 use pawk_tables::Section;
-use pawk_windows::law::{faults_follow, pieces_follow};
 use std::alloc::AllocError;
 
 /// What stays the same from section to section.
@@ -52,6 +51,8 @@ pub(crate) struct Progress<'t> {
     pub name: &'t [u8],
     /// Whether the record, `FNR` and `FILENAME` are those of the last record: it was run here.
     pub has_record: bool,
+    /// Whether it is known that records may be run in chunks from here.
+    pub is_ready: bool,
 }
 
 /// How far the sections of a table are merged, and how its records were left, if no section after these is looked at.
@@ -100,12 +101,14 @@ fn merge_part<'t, K: Sink>(
     table: Table,
     sink: &mut K,
 ) -> Result<Step<'t>, MergeRefusal>
+    requires { IsReady setting progress.flow progress.is_ready }
     ensures merges { IfOk result (λ r. MergesSection setting.entry (part records output.now table)
         (K.taken sink.old) (K.taken sink.new) progress.entry r.0 r.1) }
+    ensures ready { IfOk result (λ r. IsReady setting.entry r.0.flow r.0.is_ready) }
     ensures refused { IfErr result (λ _. RefusesSection setting.entry (part records output.now table)
         (K.taken sink.old) (K.taken sink.new) progress.entry) }
 {
-    chunks_merge_apart();
+    parts_are_chunks();
     records_go_on();
     pieces_follow::<PlainStore>();
     output_is_appended::<PlainStore>();
@@ -113,6 +116,7 @@ fn merge_part<'t, K: Sink>(
         flow,
         name,
         has_record,
+        is_ready,
     } = progress;
     if !takes_table(&flow.globals, &table) {
         let stop = Stop {
@@ -123,9 +127,11 @@ fn merge_part<'t, K: Sink>(
             flow,
             name,
             has_record,
+            is_ready,
         };
         return Ok((progress, Some(TableEnd::Stopped(stop))));
     }
+    let is_ready = stays_ready(is_ready, setting.roles, &table);
     let mut flow = flow;
     take_part(&mut flow, records, table)?;
     write_bytes(sink, output)?;
@@ -133,8 +139,24 @@ fn merge_part<'t, K: Sink>(
         flow,
         name,
         has_record: false,
+        is_ready,
     };
     Ok((progress, None))
+}
+
+/// Whether records may be run in chunks where a run is; where that is known its globals are not
+/// read.
+fn may_go_on(setting: Setting<'_>, flow: &Flow, is_ready: bool) -> Result<bool, AllocError>
+    requires usable { IsUsable setting }
+    requires ready { IsReady setting flow.now is_ready }
+    ensures { IfOk result (λ may. IsTrue may → MayGoOn (code_view setting.entry.job.code.now)
+        (roles_view setting.entry.roles.now) flow.now) }
+{
+    if is_ready {
+        return Ok(true);
+    }
+    let may = may_run(setting.roles, &flow.globals)?;
+    Ok(may)
 }
 
 /// Runs records that are kept.
@@ -144,9 +166,11 @@ fn merge_part<'t, K: Sink>(
 fn run_kept(
     setting: Setting<'_>,
     flow: Flow,
+    is_ready: bool,
     piece: Piece<'_>,
 ) -> Result<(Flow, PieceEnd), MergeRefusal>
     requires usable { IsUsable setting }
+    requires ready { IsReady setting flow is_ready }
     requires rs { piece.rs.now ≡ setting.rs.now }
     ensures runs { IfOk result (λ r. RunsPiece (code_view setting.entry.job.code.now)
         setting.entry.job.budget piece.entry flow r.0 r.1) }
@@ -154,7 +178,7 @@ fn run_kept(
         (roles_view setting.entry.roles.now) setting.entry.job.budget piece.entry flow r.0
         r.1.is_stopped) }
 {
-    if !may_run(setting.roles, &flow.globals)? {
+    if !may_go_on(setting, &flow, is_ready)? {
         return Err(MergeRefusal::Damage);
     }
     Ok(run_piece_noting(setting.job, flow, setting.roles, piece)?)
@@ -197,9 +221,11 @@ fn merge_kept<'t, K: Sink>(
     bytes: &[u8],
     sink: &mut K,
 ) -> Result<Step<'t>, MergeRefusal>
-    requires { IsUsable setting }
+    requires usable { IsUsable setting }
+    requires ready { IsReady setting progress.flow progress.is_ready }
     ensures merges { IfOk result (λ r. MergesSection setting.entry (kept fnr bytes.now)
         (K.taken sink.old) (K.taken sink.new) progress.entry r.0 r.1) }
+    ensures ready { IfOk result (λ r. IsReady setting.entry r.0.flow r.0.is_ready) }
     ensures refused { IfErr result (λ _. RefusesSection setting.entry (kept fnr bytes.now)
         (K.taken sink.old) (K.taken sink.new) progress.entry) }
 {
@@ -211,6 +237,7 @@ fn merge_kept<'t, K: Sink>(
         flow,
         name,
         has_record: _,
+        is_ready,
     } = progress;
     let piece = Piece {
         rs: setting.rs,
@@ -218,7 +245,7 @@ fn merge_kept<'t, K: Sink>(
         fnr,
         bytes: Vec::from_slice(flow.alloc, bytes)?,
     };
-    let (flow, end) = run_kept(setting, flow, piece)?;
+    let (flow, end) = run_kept(setting, flow, is_ready, piece)?;
     let PieceEnd {
         outputs,
         left,
@@ -233,6 +260,7 @@ fn merge_kept<'t, K: Sink>(
         flow,
         name,
         has_record: true,
+        is_ready: !is_stopped,
     };
     Ok((progress, end))
 }
@@ -248,9 +276,11 @@ pub(crate) fn merge_section<'t, K: Sink>(
     section: Section<'t>,
     sink: &mut K,
 ) -> Result<Step<'t>, MergeRefusal>
-    requires { IsUsable setting }
+    requires usable { IsUsable setting }
+    requires ready { IsReady setting progress.flow progress.is_ready }
     ensures merges { IfOk result (λ r. MergesSection setting.entry (section_of section.entry)
         (K.taken sink.old) (K.taken sink.new) progress.entry r.0 r.1) }
+    ensures ready { IfOk result (λ r. IsReady setting.entry r.0.flow r.0.is_ready) }
     ensures refused { IfErr result (λ _. RefusesSection setting.entry (section_of section.entry)
         (K.taken sink.old) (K.taken sink.new) progress.entry) }
 {
@@ -260,6 +290,7 @@ pub(crate) fn merge_section<'t, K: Sink>(
                 flow: progress.flow,
                 name,
                 has_record: progress.has_record,
+                is_ready: progress.is_ready,
             };
             Ok((progress, None))
         }

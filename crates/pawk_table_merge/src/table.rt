@@ -3,7 +3,7 @@
 ghost use Rattle.std.specs.Prelude.{◌≡◌, ◌-◌, true, IfErr, IfOk, IsTrue, OnOk};
 ghost use Rattle.pawk_code.specs.ProgramViews.{code_view};
 ghost use Rattle.pawk_numbered.specs.Mentions as numbered;
-ghost use Rattle.pawk_table_merge.specs.Sections.{IsUsable, MergesSections, RefusesSections};
+ghost use Rattle.pawk_table_merge.specs.Sections.{IsReady, IsUsable, MergesSections, RefusesSections};
 ghost use Rattle.pawk_table_merge.specs.TableMerges.{AreAlike, IsMergeOf, MergesTable, RefusesTable};
 
 use crate::law::{PlainStore, sections_tell_later};
@@ -12,12 +12,12 @@ use crate::refusal::MergeRefusal;
 use crate::section::{Progress, Setting, merge_section, records_in};
 use pawk_device::Sink;
 use pawk_flow::Flow;
+use pawk_merge_law::window_law::pieces_follow;
 use pawk_numbered::reads_number;
-use pawk_semantics::law::output_is_appended;
 use pawk_sequential::Job;
+use pawk_store::law::output_is_appended;
 use pawk_tables::laws::fronts_are_single;
 use pawk_tables::{ReadSection, Shape, read_section};
-use pawk_windows::law::pieces_follow;
 
 /// Refuses a table whose records come after so many, by its own word, where another number has come and the program
 /// reads `NR`.
@@ -39,19 +39,23 @@ fn may_end(setting: Setting<'_>, progress: &Progress<'_>, records: u64) -> bool
     progress.has_record && records_in(setting, &progress.flow) == records
 }
 
-/// Merges the sections of a table, and gives the run after them.
+/// Merges the sections of a table, and gives the run after them, and whether it is known to be ready
+/// for records, as it may be before them.
 ///
 /// The refusals are those of [`merge_table`], without `Before`.
 fn merge_sections<K: Sink>(
     setting: Setting<'_>,
     flow: Flow,
+    is_ready: bool,
     shape: Shape,
     sections: &[u8],
     sink: &mut K,
-) -> Result<(Flow, TableEnd), MergeRefusal>
-    requires { IsUsable setting }
+) -> Result<(Flow, bool, TableEnd), MergeRefusal>
+    requires usable { IsUsable setting }
+    requires ready { IsReady setting flow is_ready }
     ensures merges { IfOk result (λ r. MergesSections setting.entry shape sections.now
-        (K.taken sink.old) (K.taken sink.new) flow r.0 r.1) }
+        (K.taken sink.old) (K.taken sink.new) flow r.0 r.2) }
+    ensures ready { IfOk result (λ r. IsReady setting.entry r.0 r.1) }
     ensures refused { IfErr result (λ _. RefusesSections setting.entry shape sections.now
         (K.taken sink.old) (K.taken sink.new) flow) }
 {
@@ -63,6 +67,7 @@ fn merge_sections<K: Sink>(
         flow,
         name: &[],
         has_record: true,
+        is_ready,
     };
     let mut rest = sections;
     for _ in 0..sections.len() {
@@ -71,14 +76,14 @@ fn merge_sections<K: Sink>(
             ReadSection::Section(section) => {
                 let (next, end) = merge_section(setting, progress, section, sink)?;
                 if let Some(end) = end {
-                    return Ok((next.flow, end));
+                    return Ok((next.flow, next.is_ready, end));
                 }
                 progress = next;
                 rest = after;
             }
             ReadSection::Records(records) => {
                 if may_end(setting, &progress, records) {
-                    return Ok((progress.flow, TableEnd::Through));
+                    return Ok((progress.flow, progress.is_ready, TableEnd::Through));
                 }
                 return Err(MergeRefusal::Damage);
             }
@@ -124,6 +129,7 @@ pub fn merge_table<K: Sink>(
         roles,
         shape,
         opened,
+        is_ready,
     } = merging;
     let come = flow.state.count();
     check_before(job, before, come.saturating_sub(opened))?;
@@ -133,13 +139,14 @@ pub fn merge_table<K: Sink>(
         roles: &roles,
         come,
     };
-    let (flow, end) = merge_sections(setting, flow, shape, sections, sink)?;
+    let (flow, is_ready, end) = merge_sections(setting, flow, is_ready, shape, sections, sink)?;
     let merging = Merging {
         flow,
         rs,
         roles,
         shape,
         opened,
+        is_ready,
     };
     Ok((merging, end))
 }

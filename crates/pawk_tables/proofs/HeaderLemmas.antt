@@ -12,19 +12,19 @@ use Rattle.pawk_tables.specs.Layout.{Header, Pairs, assign_lines, place_lines, p
 use Rattle.pawk_tables.specs.Reading.{is_assign_line, BeginsLines, BeginsNoAssignment, HasNoLine, IsHeaderInFront}
 use Rattle.pawk_tables.proofs.Fronts.{after_line, back_lines, first_line, from_no_assignment, front_lines, kind_same, lines_in_turn, lines_same, one_line, tails_same}
 
--- ---- where the shard lies
+-- ---- where the shards lie
 
-pub place_first : (s q : List ℕ) (o : Option (ℕ × ℕ)) (n : ℕ) → BeginsLines s (place_lines o n) q → (l : Line) × (r : List ℕ) × BeginsLine s l r
+pub place_first : (s q : List ℕ) (o : Option (ℕ × ℕ × ℕ)) (n : ℕ) → BeginsLines s (place_lines o n) q → (l : Line) × (r : List ℕ) × BeginsLine s l r
 place_first s q None n h = (before n, all_bytes [] ++ q, first_line s q (before n) [] h)
-place_first s q (Some p) n h = (shard p.0 p.1, all_bytes (before n ∷ []) ++ q, first_line s q (shard p.0 p.1) (before n ∷ []) h)
+place_first s q (Some p) n h = (shard p.0 p.1 p.2, all_bytes (before n ∷ []) ++ q, first_line s q (shard p.0 p.1 p.2) (before n ∷ []) h)
 
-shard_is_not_before : (k j n : ℕ) → shard k j ≡ before n → ⊥
-shard_is_not_before k j n e = cc
+shard_is_not_before : (k j i n : ℕ) → shard k j i ≡ before n → ⊥
+shard_is_not_before k j i n e = cc
 
-pub place_none : (s r q : List ℕ) (k j : ℕ) (o : Option (ℕ × ℕ)) (n : ℕ) → BeginsLine s (shard k j) r → ((m : ℕ) (t : List ℕ) → ¬ BeginsLine r (before m) t) → BeginsLines s (place_lines o n) q → ⊥
-place_none s r q k j None n here none h = shard_is_not_before k j n (after_line s r q (shard k j) (before n) [] here h).line
-place_none s r q k j (Some p) n here none h =
-    let a = after_line s r q (shard k j) (shard p.0 p.1) (before n ∷ []) here h in
+pub place_none : (s r q : List ℕ) (k j i : ℕ) (o : Option (ℕ × ℕ × ℕ)) (n : ℕ) → BeginsLine s (shard k j i) r → ((m : ℕ) (t : List ℕ) → ¬ BeginsLine r (before m) t) → BeginsLines s (place_lines o n) q → ⊥
+place_none s r q k j i None n here none h = shard_is_not_before k j i n (after_line s r q (shard k j i) (before n) [] here h).line
+place_none s r q k j i (Some p) n here none h =
+    let a = after_line s r q (shard k j i) (shard p.0 p.1 p.2) (before n ∷ []) here h in
     none n (all_bytes [] ++ q) (first_line r q (before n) [] a.others)
 
 -- ---- assignments
@@ -75,10 +75,10 @@ pub record IsInSteps (s : List ℕ) (h : Header) (q : List ℕ) : Type 0 where
   pub first : BeginsLines after_place (assign_lines h.first) q
   pub next : BeginsNoAssignment q
 
--- the line that says where the shard lies is no assignment
-place_other : (s q : List ℕ) (o : Option (ℕ × ℕ)) (n : ℕ) → BeginsLines s (place_lines o n) q → BeginsNoAssignment s
+-- the line that says where the shards lie is no assignment
+place_other : (s q : List ℕ) (o : Option (ℕ × ℕ × ℕ)) (n : ℕ) → BeginsLines s (place_lines o n) q → BeginsNoAssignment s
 place_other s q None n h = record { line = before n; rest = all_bytes [] ++ q; begins = first_line s q (before n) [] h; other = refl }
-place_other s q (Some p) n h = record { line = shard p.0 p.1; rest = all_bytes (before n ∷ []) ++ q; begins = first_line s q (shard p.0 p.1) (before n ∷ []) h; other = refl }
+place_other s q (Some p) n h = record { line = shard p.0 p.1 p.2; rest = all_bytes (before n ∷ []) ++ q; begins = first_line s q (shard p.0 p.1 p.2) (before n ∷ []) h; other = refl }
 
 pub to_steps : (s q : List ℕ) (h : Header) → IsHeaderInFront s h q → IsInSteps s h q
 to_steps s q h k =
@@ -129,27 +129,28 @@ program_same s r q t u n m h k =
     let numbers : budget n ≡ budget m = cc in
     record { text = cc; budget = cc; left = same.left }
 
-pub record IsSamePlace (o p : Option (ℕ × ℕ)) (n m : ℕ) (r q : List ℕ) : Type 0 where
+pub record IsSamePlace (o p : Option (ℕ × ℕ × ℕ)) (n m : ℕ) (r q : List ℕ) : Type 0 where
   pub shard : o ≡ p
   pub before : n ≡ m
   pub left : r ≡ q
 
-pub place_same : (s r q : List ℕ) (o p : Option (ℕ × ℕ)) (n m : ℕ) → BeginsLines s (place_lines o n) r → BeginsLines s (place_lines p m) q → IsSamePlace o p n m r q
+pub place_same : (s r q : List ℕ) (o p : Option (ℕ × ℕ × ℕ)) (n m : ℕ) → BeginsLines s (place_lines o n) r → BeginsLines s (place_lines p m) q → IsSamePlace o p n m r q
 place_same s r q None None n m h k =
     let same = lines_same s r q (before n ∷ []) (before m ∷ []) refl h k in
     let lines : before n ∷ [] ≡ before m ∷ [] = same.lines in
     record { shard = refl; before = cc; left = same.left }
 place_same s r q None (Some p) n m h k =
-    absurd (shard_is_not_before p.0 p.1 n (after_line s (all_bytes (before m ∷ []) ++ q) r (shard p.0 p.1) (before n) [] (first_line s q (shard p.0 p.1) (before m ∷ []) k) h).line)
+    absurd (shard_is_not_before p.0 p.1 p.2 n (after_line s (all_bytes (before m ∷ []) ++ q) r (shard p.0 p.1 p.2) (before n) [] (first_line s q (shard p.0 p.1 p.2) (before m ∷ []) k) h).line)
 place_same s r q (Some o) None n m h k =
-    absurd (shard_is_not_before o.0 o.1 m (after_line s (all_bytes (before n ∷ []) ++ r) q (shard o.0 o.1) (before m) [] (first_line s r (shard o.0 o.1) (before n ∷ []) h) k).line)
-place_same s r q (Some (i, j)) (Some (k, l)) n m h g =
-    let same = lines_same s r q (shard i j ∷ before n ∷ []) (shard k l ∷ before m ∷ []) refl h g in
-    let lines : shard i j ∷ before n ∷ [] ≡ shard k l ∷ before m ∷ [] = same.lines in
+    absurd (shard_is_not_before o.0 o.1 o.2 m (after_line s (all_bytes (before n ∷ []) ++ r) q (shard o.0 o.1 o.2) (before m) [] (first_line s r (shard o.0 o.1 o.2) (before n ∷ []) h) k).line)
+place_same s r q (Some (i, j, d)) (Some (k, l, e)) n m h g =
+    let same = lines_same s r q (shard i j d ∷ before n ∷ []) (shard k l e ∷ before m ∷ []) refl h g in
+    let lines : shard i j d ∷ before n ∷ [] ≡ shard k l e ∷ before m ∷ [] = same.lines in
     let first : i ≡ k = cc in
     let second : j ≡ l = cc in
-    let pairs : ◌≡◌ {A = ℕ × ℕ} (i, j) (k, l) = rw (first, second) refl in
-    record { shard = ap Some pairs; before = cc; left = same.left }
+    let third : d ≡ e = cc in
+    let triples : ◌≡◌ {A = ℕ × ℕ × ℕ} (i, j, d) (k, l, e) = rw (first, second, third) refl in
+    record { shard = ap Some triples; before = cc; left = same.left }
 
 are_assignments : (ps : Pairs) → All (λ l. IsTrue (is_assign_line l)) (assign_lines ps)
 are_assignments [] = All-nil (λ l. IsTrue (is_assign_line l))
@@ -182,10 +183,10 @@ pub record IsSameHeader (h k : Header) (r q : List ℕ) : Type 0 where
   pub header : h ≡ k
   pub left : r ≡ q
 
-abbrev header_with : List ℕ → ℕ → Pairs → Option (ℕ × ℕ) → ℕ → Pairs → Header
+abbrev header_with : List ℕ → ℕ → Pairs → Option (ℕ × ℕ × ℕ) → ℕ → Pairs → Header
 header_with t n ps o m os = record { program = t; budget = n; assignments = ps; shard = o; before = m; first = os }
 
-parts_same : (t u : List ℕ) (n m : ℕ) (ps qs : Pairs) (o p : Option (ℕ × ℕ)) (i j : ℕ) (fs gs : Pairs) → t ≡ u → n ≡ m → ps ≡ qs → o ≡ p → i ≡ j → fs ≡ gs → header_with t n ps o i fs ≡ header_with u m qs p j gs
+parts_same : (t u : List ℕ) (n m : ℕ) (ps qs : Pairs) (o p : Option (ℕ × ℕ × ℕ)) (i j : ℕ) (fs gs : Pairs) → t ≡ u → n ≡ m → ps ≡ qs → o ≡ p → i ≡ j → fs ≡ gs → header_with t n ps o i fs ≡ header_with u m qs p j gs
 parts_same t u n m ps qs o p i j fs gs a b c d e f = rw (a, b, c, d, e, f) refl
 
 pub header_same : (s r q : List ℕ) (h k : Header) → IsHeaderInFront s h r → IsHeaderInFront s k q → IsSameHeader h k r q

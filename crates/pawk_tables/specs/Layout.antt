@@ -4,7 +4,7 @@
 --   program TEXT           the text of the program
 --   budget N               the steps that each part of the run may take
 --   assign NAME VALUE      any number: what is assigned before BEGIN
---   shard K OF             at most one: the number of the shard, and of how many
+--   shard K L OF           at most one: the numbers of the first and the last shard, and of how many
 --   before N               how many records the shards before this one have
 --   assign NAME VALUE      any number: what is assigned after BEGIN, before the first file
 --
@@ -36,8 +36,8 @@ pub record Header : Type 0 where
   pub budget : ℕ
   -- what is assigned before BEGIN
   pub assignments : Pairs
-  -- the number of the shard, and of how many, where it is one of several
-  pub shard : Option (ℕ × ℕ)
+  -- the numbers of the first and the last shard, and of how many, where they are some of several
+  pub shard : Option (ℕ × ℕ × ℕ)
   -- how many records the shards before this one have
   pub before : ℕ
   -- what is assigned after BEGIN, before the first file
@@ -46,16 +46,16 @@ pub record Header : Type 0 where
 abbrev pub assign_lines : Pairs → List Line
 assign_lines pairs = map (λ p. lines.assign p.0 p.1) pairs
 
-abbrev pub shard_lines : Option (ℕ × ℕ) → List Line
+abbrev pub shard_lines : Option (ℕ × ℕ × ℕ) → List Line
 shard_lines None = []
-shard_lines (Some p) = lines.shard p.0 p.1 ∷ []
+shard_lines (Some p) = lines.shard p.0 p.1 p.2 ∷ []
 
 -- the format, the program and its budget
 abbrev pub program_lines : List ℕ → ℕ → List Line
 program_lines program budget = lines.format 1 ∷ lines.program program ∷ lines.budget budget ∷ []
 
--- where the shard lies
-abbrev pub place_lines : Option (ℕ × ℕ) → ℕ → List Line
+-- where the shards lie
+abbrev pub place_lines : Option (ℕ × ℕ × ℕ) → ℕ → List Line
 place_lines shard before = shard_lines shard ++ lines.before before ∷ []
 
 abbrev pub header_lines : Header → List Line

@@ -8,9 +8,9 @@ use Rattle.pawk_tables.specs.declared.section.Section.{Section as LentSection}
 use Rattle.pawk_tables.specs.declared.section.Section.TheVariants as lent
 use Rattle.pawk_tables.specs.Layout.{Header, Section, file, part, kept}
 
-abbrev pub shard_of : Option Shard → Option (ℕ × ℕ)
+abbrev pub shard_of : Option Shard → Option (ℕ × ℕ × ℕ)
 shard_of None = None
-shard_of (Some s) = Some (s.number, s.of)
+shard_of (Some s) = Some (s.first, s.last, s.of)
 
 abbrev pub header_of : Lent → Header
 header_of h = record {

@@ -21,11 +21,13 @@ use std::alloc::{AllocError, Global};
 /// The number of the format.
 const FORMAT: u64 = 1;
 
-/// Which shard of how many a table is of.
+/// Which shards of how many a table is of: a first one, a last one and all between them. One shard is both.
 #[derive(Clone, Copy)]
 pub struct Shard {
-    /// The number of the shard.
-    pub number: u64,
+    /// The number of the first shard.
+    pub first: u64,
+    /// The number of the last shard.
+    pub last: u64,
     /// How many shards there are.
     pub of: u64,
 }
@@ -39,9 +41,9 @@ pub struct Header<'a> {
     pub budget: u64,
     /// What is assigned before BEGIN, in this order.
     pub assignments: &'a [Assignment],
-    /// Which shard the table is of, where the input is cut into several.
+    /// Which shards the table is of, where the input is cut into several.
     pub shard: Option<Shard>,
-    /// How many records the shards before this one have.
+    /// How many records the shards before these have.
     pub before: u64,
     /// What is assigned after BEGIN and before the first file, in this order.
     pub first: &'a [Assignment],
@@ -56,9 +58,9 @@ pub struct ReadHeader<'a> {
     pub budget: u64,
     /// What is assigned before BEGIN, in this order.
     pub assignments: Vec<Assignment>,
-    /// Which shard the table is of, where the input is cut into several.
+    /// Which shards the table is of, where the input is cut into several.
     pub shard: Option<Shard>,
-    /// How many records the shards before this one have.
+    /// How many records the shards before these have.
     pub before: u64,
     /// What is assigned after BEGIN and before the first file, in this order.
     pub first: Vec<Assignment>,
@@ -93,15 +95,15 @@ fn push_program(out: &mut Vec<u8>, program: &[u8], budget: u64) -> Result<(), Al
     push_line(out, Line::Budget(budget))
 }
 
-/// Writes where the shard lies.
+/// Writes where the shards lie.
 fn push_place(out: &mut Vec<u8>, shard: Option<Shard>, before: u64) -> Result<(), AllocError>
     ensures written { OnOk result (out.new.items
         ≡ out.old.items ++ all_bytes (place_lines (shard_of shard) before)) }
     ensures lines { OnOk result (All IsLine (place_lines (shard_of shard) before)) }
     ensures kept { take (length out.old.items) out.new.items ≡ out.old.items }
 {
-    if let Some(Shard { number, of }) = shard {
-        push_line(out, Line::Shard { number, of })?;
+    if let Some(Shard { first, last, of }) = shard {
+        push_line(out, Line::Shard { first, last, of })?;
     }
     push_line(out, Line::Before(before))
 }
@@ -161,7 +163,7 @@ fn read_budget(bytes: &[u8]) -> Result<(u64, &[u8]), Damage>
     }
 }
 
-/// How many records come before the shard, and what follows the line that says so.
+/// How many records come before the shards, and what follows the line that says so.
 fn read_before(bytes: &[u8]) -> Result<(u64, &[u8]), Damage>
     ensures { MatchResult result
         (λ found. BeginsLine bytes.now (lines.before found.0) found.1.now)
@@ -186,17 +188,17 @@ fn read_program(bytes: &[u8]) -> Result<(&[u8], u64, &[u8]), Damage>
     Ok((program, budget, rest))
 }
 
-/// Where the shard lies, and what follows the lines that say so.
+/// Where the shards lie, and what follows the lines that say so.
 fn read_place(bytes: &[u8]) -> Result<(Option<Shard>, u64, &[u8]), Damage>
     ensures { MatchResult result
         (λ found. BeginsLines bytes.now (place_lines (shard_of found.0) found.1) found.2.now)
-        (λ _. (shard : Option (ℕ × ℕ)) (before : ℕ) (rest : List ℕ) →
+        (λ _. (shard : Option (ℕ × ℕ × ℕ)) (before : ℕ) (rest : List ℕ) →
         ¬ BeginsLines bytes.now (place_lines shard before) rest) }
 {
     match next_line(bytes)? {
-        (Line::Shard { number, of }, rest) => {
+        (Line::Shard { first, last, of }, rest) => {
             let (before, rest) = read_before(rest)?;
-            Ok((Some(Shard { number, of }), before, rest))
+            Ok((Some(Shard { first, last, of }), before, rest))
         }
         (Line::Before(before), rest) => Ok((None, before, rest)),
         _ => Err(Damage),

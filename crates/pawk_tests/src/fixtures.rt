@@ -1,9 +1,9 @@
 //! What several tests need. Each function has one owned value at most where it can return early, and ends with it.
 
 ghost use Rattle.std.specs.Prelude.{◌≤◌, [], ◌∷◌, IfOk};
-ghost use Rattle.pawk_chunks.specs.Task.{IsCrew};
+ghost use Rattle.pawk_board.specs.Limits.{IsCrew};
 ghost use Rattle.pawk_input.specs.Input.{IsReady};
-ghost use Rattle.pawk_threads.specs.Cuttings.{IsSized};
+ghost use Rattle.pawk_routes.specs.Cuttings.{IsSized};
 
 use pawk_code::program::Code;
 use pawk_input::Input;

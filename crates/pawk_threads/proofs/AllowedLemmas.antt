@@ -1,14 +1,14 @@
 -- The globals of a run answer no request with a clash, so that none is disallowed.
 use Rattle.std.proofs.Common.{◌≢◌, ◌∙◌, ℤ, Result, Ok, Err, ap}
-use Rattle.pawk_value.specs.Fault.{Fault}
+use Rattle.pawk_value.specs.declared.faults.Fault.{Fault}
 use Rattle.pawk_value.specs.Conversion.{num_of}
 use Rattle.pawk_world.specs.Sums.{arith_by, op_of}
 use Rattle.pawk_world.specs.Worlds.{Request, Cell}
 use Rattle.pawk_world.specs.Worlds as request
 use Rattle.pawk_store.specs.Globals.{Globals, calls, value_at, with_sum}
-use Rattle.pawk_semantics.specs.Lockstep.{refusal_of}
-use Rattle.pawk_semantics.specs.Laws.{IsNoClash}
-use Rattle.pawk_semantics.specs.Runs.{Finish, disallowed}
+use Rattle.pawk_store.specs.Lockstep.{refusal_of}
+use Rattle.pawk_store.specs.Laws.{IsNoClash}
+use Rattle.pawk_store.specs.Runs.{Finish, disallowed}
 use Rattle.pawk_sequential.specs.RunEnds.{Answers, ending_view}
 use Rattle.pawk_sequential.specs.declared.ending.Ending.TheVariants.{Disallowed}
 use Rattle.pawk_sequential.specs.declared.outcome.Outcome.{Outcome}

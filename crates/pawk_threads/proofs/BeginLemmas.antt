@@ -4,19 +4,18 @@ use Rattle.pawk_world.specs.Halts.{Halt}
 use Rattle.pawk_world.specs.Halts as halt
 use Rattle.pawk_world.specs.Worlds.{Answer, Calls}
 use Rattle.pawk_world.specs.Worlds as world
-use Rattle.pawk_store.specs.RecordStates.{RecordState}
+use Rattle.pawk_store.specs.RecordStates.{RecordState, opening}
 use Rattle.pawk_code.specs.Programs.{Code}
-use Rattle.pawk_semantics.specs.Parts.{Outcome, gives, halts}
-use Rattle.pawk_semantics.specs.Records.{End, end_of, run_part, opening_moment, actions}
-use Rattle.pawk_semantics.specs.Lockstep.{Pair, record_state_of, refusal_of, SameAnswer, AreInLockstep, RefusesIn, GoesOn}
+use Rattle.pawk_store.specs.Parts.{Outcome, gives, halts}
+use Rattle.pawk_store.specs.Records.{End, end_of, run_part, opening_moment, actions}
+use Rattle.pawk_store.specs.Lockstep.{Pair, record_state_of, refusal_of, SameAnswer, AreInLockstep, RefusesIn, GoesOn}
 use Rattle.pawk_store.specs.Globals.{Globals, calls}
 use Rattle.pawk_store.specs.Openings.{opened}
-use Rattle.pawk_store.specs.RecordStates.{opening}
-use Rattle.pawk_threads.specs.Routes.{begin_end}
-use Rattle.pawk_semantics.proofs.Later.{Order}
-use Rattle.pawk_semantics.proofs.Going.{Track}
-use Rattle.pawk_semantics.proofs.InRecords.{goes_actions}
-use Rattle.pawk_semantics.proofs.Everything.{everything, any_code}
+use Rattle.pawk_routes.specs.Routes.{begin_end}
+use Rattle.pawk_store.proofs.Later.{Order}
+use Rattle.pawk_store.proofs.Going.{Track}
+use Rattle.pawk_store.proofs.InRecords.{goes_actions}
+use Rattle.pawk_store.proofs.Everything.{everything, any_code}
 
 -- the same NR
 abbrev nr_order : Order everything

@@ -9,8 +9,8 @@ use Rattle.pawk_input.specs.declared.cutting.Chunk.{Chunk}
 use Rattle.pawk_admit.specs.Admission.{IsAdmissible, AreRoles}
 use Rattle.pawk_admit.specs.Reaches.{Occurs}
 use Rattle.pawk_admit.specs.Roles.{Roles}
-use Rattle.pawk_semantics.specs.Records.{End, Left}
-use Rattle.pawk_semantics.specs.Runs.{records_from, after_records, records_by_rs}
+use Rattle.pawk_store.specs.Records.{End, Left}
+use Rattle.pawk_store.specs.Runs.{records_from, after_records, records_by_rs}
 use Rattle.pawk_merge.specs.Merges.{Stop, at_cell, at_fault, at_clash, merge, before_chunks}
 use Rattle.pawk_merge.specs.MergeViews.{chunk_of, stop_of}
 use Rattle.pawk_merge.specs.declared.chunk_result.ChunkResult.{ChunkResult}
@@ -20,10 +20,10 @@ use Rattle.pawk_merge_law.specs.Chunks.{Opening, chunk_end, AreResults}
 use Rattle.pawk_merge_law.specs.Ready.{MayRunFrom}
 use Rattle.pawk_merge_law.specs.Phases.{Phase, FaultsOrCreates, in_order}
 use Rattle.pawk_merge_law.specs.Gathered.{after_output, ResultsLaw}
-use Rattle.pawk_threads.specs.declared.report.Refusal.TheVariants as refusal
-use Rattle.pawk_threads.specs.Prologue.{IsTaken}
-use Rattle.pawk_threads.specs.Routes.{phase_after}
-use Rattle.pawk_threads.proofs.EndLemmas.{phase_of_end, by_taken}
+use Rattle.pawk_routes.specs.declared.report.Refusal.TheVariants as refusal
+use Rattle.pawk_routes.specs.Prologue.{IsTaken}
+use Rattle.pawk_routes.specs.Routes.{phase_after}
+use Rattle.pawk_routes.proofs.EndLemmas.{phase_of_end, by_taken}
 
 -- a refused allocation is no refusal for a cutting
 pub no_cutting : refusal.Memory ≡ refusal.Cutting → ⊥

@@ -5,10 +5,10 @@ use Rattle.std.specs.declared.alloc.Global.{Global}
 use Rattle.std.proofs.lemmas.List.{append-nil}
 use Rattle.pawk_code.specs.Programs.{Code}
 use Rattle.pawk_store.specs.Globals.{Globals, calls}
-use Rattle.pawk_semantics.specs.Outputs.{in_a_row, finish_with_output_before}
-use Rattle.pawk_semantics.specs.Records.{Left, End}
-use Rattle.pawk_semantics.specs.Runs.{Finish, after_records}
-use Rattle.pawk_semantics.proofs.Framing.{after_records_append}
+use Rattle.pawk_store.specs.Outputs.{in_a_row, finish_with_output_before}
+use Rattle.pawk_store.specs.Records.{Left, End}
+use Rattle.pawk_store.specs.Runs.{Finish, after_records}
+use Rattle.pawk_store.proofs.Framing.{after_records_append}
 use Rattle.pawk_merge.proofs.MergeLemmas.{in_a_row-push}
 
 -- what the parts of an output are together

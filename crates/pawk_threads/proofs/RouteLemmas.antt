@@ -14,15 +14,15 @@ use Rattle.pawk_admit.specs.declared.reason.Reason.TheVariants as reason
 use Rattle.pawk_admit.specs.Admission.{IsRole, IsReader, IsAdmissible, IsAnswer, IsFirst, AreRoles}
 use Rattle.pawk_admit.specs.Reaches.{Occurs}
 use Rattle.pawk_admit.specs.Roles.{Roles, role_of_array}
-use Rattle.pawk_semantics.specs.Records.{End}
-use Rattle.pawk_semantics.specs.Runs.{Finish, after_begin, records_by_rs, ends_from, reads_records, take_separator}
+use Rattle.pawk_store.specs.Records.{End}
+use Rattle.pawk_store.specs.Runs.{Finish, after_begin, records_by_rs, ends_from, reads_records, take_separator}
 use Rattle.pawk_merge_law.specs.Phases.{FaultsOrCreates}
 use Rattle.pawk_sequential.specs.RunEnds.{Answers}
 use Rattle.pawk_sequential.specs.declared.outcome.Outcome.{Outcome}
-use Rattle.pawk_threads.specs.Prologue.{Goes}
-use Rattle.pawk_threads.specs.Routes.{HasRecords, IsRedone, phase_after, separator_of}
-use Rattle.pawk_threads.specs.declared.report.Route.TheVariants.{Parallel}
-use Rattle.pawk_threads.proofs.EndLemmas.{chosen}
+use Rattle.pawk_routes.specs.Prologue.{Goes}
+use Rattle.pawk_routes.specs.Routes.{HasRecords, IsRedone, phase_after, separator_of}
+use Rattle.pawk_routes.specs.declared.report.Route.TheVariants.{Parallel}
+use Rattle.pawk_routes.proofs.EndLemmas.{chosen}
 
 -- a reader array has no other role
 only_reader : (Stands : Occurrence → Type 0) (name : GlobalName) (role : Role) → IsReader Stands name → IsRole Stands role name → role ≡ Reader

@@ -1,15 +1,12 @@
 //! Laws of whole runs.
 
-ghost use Rattle.std.specs.Prelude.{◌≢◌, ◌≤◌, ℕ, List, length};
+ghost use Rattle.std.specs.Prelude.{◌≢◌, ℕ, List};
 ghost use Rattle.pawk_code.specs.Programs.{Code};
 ghost use Rattle.pawk_input.specs.Input.{File};
-ghost use Rattle.pawk_input.specs.Limits.{most_chunks};
-ghost use Rattle.pawk_semantics.specs.Runs.{disallowed};
-ghost use Rattle.pawk_threads.specs.Cuttings.{IsRefused};
-ghost use Rattle.pawk_threads.specs.Routes.{whole_run};
-ghost use Rattle.pawk_threads.specs.declared.cutting.Cutting.TheVariants as cutting;
+ghost use Rattle.pawk_store.specs.Runs.{disallowed};
+ghost use Rattle.pawk_routes.specs.Routes.{whole_run};
 
-use pawk_semantics::law::{Policy, never_disallows};
+use pawk_store::law::{Policy, never_disallows};
 
 /// The globals of a run, which allow all that is asked of them.
 struct PlainStore;
@@ -34,10 +31,3 @@ pub(crate) fn never_disallowed()
 {
     never_disallows::<PlainStore>();
 }
-
-/// There is a plan by at least a size wherever there are no more files than there may be chunks. A law,
-/// which takes and leaves nothing.
-pub fn at_least_law()
-    ensures { (rs : List ℕ) (files : List File) (bytes : ℕ) → length files ≤ most_chunks
-        → ¬ IsRefused rs files (cutting.AtLeast bytes) }
-{}

@@ -4,15 +4,15 @@ ghost use Rattle.std.specs.Prelude.{◌≡◌, ◌↔◌, ◌++◌, IfOk, IsTrue
 ghost use Rattle.pawk_code.specs.ProgramViews.{code_view};
 ghost use Rattle.pawk_store.specs.Globals.{calls};
 ghost use Rattle.pawk_store.specs.StateViews.{state_of};
-ghost use Rattle.pawk_semantics.specs.LeftViews.{left_view};
-ghost use Rattle.pawk_semantics.specs.Runs.{after_records};
-ghost use Rattle.pawk_semantics.specs.Outputs.{in_a_row};
+ghost use Rattle.pawk_store.specs.LeftViews.{left_view};
+ghost use Rattle.pawk_store.specs.Runs.{after_records};
+ghost use Rattle.pawk_store.specs.Outputs.{in_a_row};
 ghost use Rattle.pawk_merge.specs.MergeViews as merges;
 ghost use Rattle.pawk_sequential.specs.RunEnds.{Answers, Finishes};
 ghost use Rattle.pawk_merge_law.specs.Gathered.{after_output};
 
-use crate::prologue::Prologue;
 use pawk_merge::{JoinStop, Merged};
+use pawk_routes::Prologue;
 use pawk_sequential::{Finish, Job, Outcome, Output, Run, run_after_records};
 use pawk_store::Globals;
 use std::alloc::{AllocError, Global};

@@ -1,1 +1,12 @@
-pub use Rattle.pawk_scalar.proofs.RangeLemmas
+pub mod RangeLemmas
+pub mod NumeralLemmas
+pub mod LookLemmas
+pub mod ArithmeticLemmas
+pub mod ComparisonLemmas
+pub mod ArithmeticLawLemmas
+pub mod FormatLemmas
+pub mod FormatLawLemmas
+pub mod PieceLemmas
+pub mod CapLemmas
+pub mod DirectiveLawLemmas
+pub mod TemplateLemmas

@@ -1,6 +1,6 @@
 -- Values whose bytes lie in a buffer.
 use Rattle.std.specs.Prelude.{ℕ, List, length, drop}
-use Rattle.pawk_scalar.specs.Value.{Val, Uninit, Num, Text, Maybe}
+use Rattle.pawk_value.specs.Value.{Val, Uninit, Num, Text, Maybe}
 use Rattle.pawk_value.specs.declared.held.Held.{Held}
 use Rattle.pawk_value.specs.declared.held.Held.TheVariants as held
 

@@ -1,9 +1,9 @@
 //! Copies of values.
 
 ghost use Rattle.std.specs.Prelude.{◌≡◌, ◌<◌, length, IfOk, OnErr, is_ok, if◌then◌else◌};
-ghost use Rattle.pawk_scalar.specs.Value.{shown, lent_value, bytes_of};
+ghost use Rattle.pawk_value.specs.Value.{shown, lent_value, bytes_of};
 
-use pawk_scalar::{Value, ValueRef, lend};
+use crate::{Value, ValueRef, lend};
 use std::alloc::{AllocError, Global};
 use std::mem;
 

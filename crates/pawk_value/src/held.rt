@@ -1,10 +1,10 @@
 //! Values whose bytes lie in a buffer.
 
 ghost use Rattle.std.specs.Prelude.{◌≡◌, ◌++◌, ◌+◌, ◌<◌, length, vec_len, vec_capacity, drop, OnOk, OnErr, IfOk};
-ghost use Rattle.pawk_scalar.specs.Value.{bytes_of, lent_value};
+ghost use Rattle.pawk_value.specs.Value.{bytes_of, lent_value};
 ghost use Rattle.pawk_value.specs.Held.{added, held_value};
 
-use pawk_scalar::ValueRef;
+use crate::ValueRef;
 use std::alloc::AllocError;
 
 /// A value whose bytes, if it has some, lie in a buffer that its owner lent.

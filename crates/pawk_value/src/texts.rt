@@ -1,11 +1,11 @@
 //! The text of a value, in memory.
 
 ghost use Rattle.std.specs.Prelude.{◌≡◌, ◌++◌, ◌+◌, ◌<◌, length, vec_len, vec_capacity, IfOk, OnErr, is_ok, if◌then◌else◌};
-ghost use Rattle.pawk_scalar.specs.Value.{shown, lent_value};
-ghost use Rattle.pawk_scalar.specs.Conversion.{text_of};
+ghost use Rattle.pawk_value.specs.Value.{shown, lent_value};
+ghost use Rattle.pawk_value.specs.Conversion.{text_of};
 
+use crate::{Value, ValueRef, lend, text_in};
 use itoa::Buffer;
-use pawk_scalar::{Value, ValueRef, lend, text_in};
 use std::alloc::{AllocError, Global};
 
 /// Appends the text of a value. Memory is refused only where the capacity of `out` is too small, and after

@@ -70,3 +70,14 @@ ComesNext old new before after =
     IfSome old (λ was. IfSome new (λ is.
     records_by after.rs (before.tail ++ was)
     ≡ records_by after.rs after.whole ++ records_by after.rs (after.tail ++ is)))
+
+-- a window with these whole records
+abbrev pub with_records : Contents → List ℕ → Contents
+with_records w records = record { rs = w.rs; size = w.size; room = w.room; whole = records; tail = w.tail; ended = w.ended }
+
+-- The next records of a source, and what they leave in a window.
+pub record Comes (left now_left : Option (List ℕ)) (before after : Contents) (records : List ℕ) : Type 0 where
+  pub bytes : HaveCome left now_left before (with_records after records)
+  pub whole : HoldsRecords (with_records after records)
+  pub end : HasEnded now_left (with_records after records)
+  pub same : after.rs ≡ before.rs

@@ -5,7 +5,7 @@ ghost use Rattle.std.specs.Io.KnownBytes.{Keeps};
 ghost use Rattle.pawk_records.specs.Separator.{rs_of};
 ghost use Rattle.pawk_window.specs.Cuts.{NoneEnds, MayCut};
 ghost use Rattle.pawk_device.specs.Device.{CountsFailure};
-ghost use Rattle.pawk_window.specs.Windows.{ComesNext, HasCome, HaveCome, HasEnded, HoldsRecords, empty_window, forgotten};
+ghost use Rattle.pawk_window.specs.Windows.{Comes, ComesNext, HasCome, HaveCome, HasEnded, HoldsRecords, empty_window, forgotten};
 ghost use Rattle.pawk_window.specs.declared.window.FillError.TheVariants as at;
 
 use crate::buffer::{
@@ -244,5 +244,22 @@ impl Window {
             }
         }
         Err(FillError::Failed)
+    }
+
+    /// Reads the next whole records of a source, after what is in the window, and takes them out: at least one, or what is left at
+    /// the end. They come in this buffer, which what it had is lost of.
+    ///
+    /// `Memory` comes where memory was refused, `Failed` where a read failed.
+    pub fn next_records<S: Source>(
+        &mut self,
+        buffer: Vec<u8>,
+        source: &mut S,
+    ) -> Result<Vec<u8>, FillError>
+        ensures come { IfOk result (λ records. Comes (S.left source.old) (S.left source.new)
+            self.old self.new records.items) }
+    {
+        let small = self.take_records(buffer)?;
+        self.fill_records(source)?;
+        Ok(self.take_records(small)?)
     }
 }

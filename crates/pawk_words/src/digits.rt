@@ -11,6 +11,9 @@ use crate::limits::SIZE_LIMIT;
 /// The size that stands for all sizes above the limit.
 const PAST_LIMIT: u128 = SIZE_LIMIT + 1;
 
+/// The greatest number with which another digit is read in 64 bits.
+const GREATEST_SMALL: u64 = 1_000_000_000_000_000_000;
+
 /// The digits in front of bytes.
 #[derive(Clone, Copy)]
 pub struct Digits {
@@ -29,8 +32,8 @@ fn with_digit(size: u128, digit: u8) -> u128
     (10 * size + u128::from(digit.saturating_sub(b'0'))).min(PAST_LIMIT)
 }
 
-/// The decimal digits in front of the bytes and the number that they write, in one pass.
-fn leading_digits(bytes: &[u8]) -> Digits
+/// The decimal digits in front of the bytes, of which there may be many, and the number that they write.
+fn many_digits(bytes: &[u8]) -> Digits
     ensures count { result.count ≡ prefix_len is_ascii_digit bytes.now }
     ensures within { result.count ≤ length bytes.now }
     ensures size { result.size ≡ min (digits_value (take result.count bytes.now)) PAST_LIMIT }
@@ -43,6 +46,28 @@ fn leading_digits(bytes: &[u8]) -> Digits
         size = with_digit(size, *byte);
     }
     let count = bytes.len();
+    Digits { count, size }
+}
+
+/// The decimal digits in front of the bytes and the number that they write, in one pass as long as 64 bits have room for
+/// the number.
+fn leading_digits(bytes: &[u8]) -> Digits
+    ensures count { result.count ≡ prefix_len is_ascii_digit bytes.now }
+    ensures within { result.count ≤ length bytes.now }
+    ensures size { result.size ≡ min (digits_value (take result.count bytes.now)) PAST_LIMIT }
+{
+    let mut size: u64 = 0;
+    for (i, byte) in bytes.iter().enumerate() {
+        if !byte.is_ascii_digit() {
+            let size = u128::from(size);
+            return Digits { count: i, size };
+        }
+        if size > GREATEST_SMALL {
+            return many_digits(bytes);
+        }
+        size = 10 * size + u64::from(byte.saturating_sub(b'0'));
+    }
+    let (count, size) = (bytes.len(), u128::from(size));
     Digits { count, size }
 }
 

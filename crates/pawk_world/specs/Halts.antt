@@ -1,8 +1,8 @@
 -- Why a run halts.
 use Rattle.std.specs.Prelude.{ℕ, Option, Some, None}
-use Rattle.pawk_value.specs.Fault.{Fault}
-use Rattle.pawk_scalar.specs.declared.faults.Stop.{Stop}
-use Rattle.pawk_scalar.specs.declared.faults.Stop.TheVariants as stop
+use Rattle.pawk_value.specs.declared.faults.Fault.{Fault}
+use Rattle.pawk_value.specs.declared.faults.Stop.{Stop}
+use Rattle.pawk_value.specs.declared.faults.Stop.TheVariants as stop
 use Rattle.pawk_world.specs.declared.halt.Halt.{Halt as Code}
 use Rattle.pawk_world.specs.declared.halt.Halt.TheVariants as code
 

@@ -1,9 +1,9 @@
 -- Operations on numbers whose conversion may have faulted.
 use Rattle.std.specs.Prelude.{ℤ, Result, Ok, Err}
-use Rattle.pawk_value.specs.Fault.{Fault}
+use Rattle.pawk_value.specs.declared.faults.Fault.{Fault}
 use Rattle.pawk_value.specs.Arithmetic.{arith}
-use Rattle.pawk_scalar.specs.declared.arithmetic.Op.{Op}
-use Rattle.pawk_scalar.specs.declared.arithmetic.Op.TheVariants.{Add, Subtract}
+use Rattle.pawk_value.specs.declared.arithmetic.Op.{Op}
+use Rattle.pawk_value.specs.declared.arithmetic.Op.TheVariants.{Add, Subtract}
 use Rattle.pawk_code.specs.declared.word.Sign.{Sign}
 use Rattle.pawk_code.specs.declared.word.Sign.TheVariants.{Plus, Minus}
 

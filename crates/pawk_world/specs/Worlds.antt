@@ -1,6 +1,6 @@
 -- What a run asks of the globals, and what a world is.
 use Rattle.std.specs.Prelude.{ℕ, ℤ, Bool, List, Result}
-use Rattle.pawk_value.specs.Fault.{Fault}
+use Rattle.pawk_value.specs.declared.faults.Fault.{Fault}
 use Rattle.pawk_value.specs.Value.{Val}
 use Rattle.pawk_code.specs.declared.word.Sign.{Sign}
 use Rattle.pawk_world.specs.Halts.{Halt}

@@ -1,16 +1,16 @@
 use Rattle.std.proofs.Common.{◌≡◌, ◌+◌, ◌-◌, ◌<◌, ◌≤◌, ◌∙◌, List, ℕ, suc, [], ◌∷◌, drop, drop-cons, length, Result, Ok, Err, Some, rules, arith, ap, sym, refl, Vec, Global, add-one}
 use Rattle.std.proofs.lemmas.Grind.{common_steps}
-use Rattle.pawk_value.specs.Fault.{Fault}
+use Rattle.pawk_value.specs.declared.faults.Fault.{Fault}
 use Rattle.pawk_world.specs.Halts.{Halt, halt_of, fault}
 use Rattle.pawk_store.specs.StateViews.{state_of}
 use Rattle.pawk_code.specs.Expressions.{exprs, arguments}
 use Rattle.pawk_code.specs.ExpressionViews.{view, views, argument_view, argument_views, format_view, numeric_view, place_view, test_view, textual_view}
 use Rattle.pawk_code.specs.StatementViews.{seen, simple_view, stmt_view}
 use Rattle.pawk_code.specs.ProgramViews.{function_view}
-use Rattle.pawk_semantics.specs.Builtins.{within_limit}
-use Rattle.pawk_semantics.specs.Parts.{gives, halts, then_do, Entry, entry_of, settle}
-use Rattle.pawk_semantics.specs.Meaning.{eval, execs, texts_of, values_of, arguments_of, suffixed, joined_texts, while_loop, visit_keys, for_keys, test_or_true, act_or_none}
-use Rattle.pawk_semantics.specs.Places.{variable_aim}
+use Rattle.pawk_store.specs.Builtins.{within_limit}
+use Rattle.pawk_store.specs.Parts.{gives, halts, then_do, Entry, entry_of, settle}
+use Rattle.pawk_store.specs.Meaning.{eval, execs, texts_of, values_of, arguments_of, suffixed, joined_texts, while_loop, visit_keys, for_keys, test_or_true, act_or_none}
+use Rattle.pawk_store.specs.Places.{variable_aim}
 use Rattle.pawk_runtime.specs.declared.run.Parameter.{Parameter}
 use Rattle.pawk_runtime.specs.Moments.{holds_of, moment}
 use Rattle.pawk_eval.specs.Contexts.{functions_of, eres_in, enter_in, last_view}

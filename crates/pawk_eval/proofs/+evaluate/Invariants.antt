@@ -2,8 +2,8 @@ use Rattle.std.proofs.Common.{◌≡◌, ◌≤◌, ℕ, ◌+◌, [], drop, take
 use Rattle.pawk_code.specs.Expressions.{exprs, arguments}
 use Rattle.pawk_code.specs.ExpressionViews.{view, views, argument_view, argument_views, fields_view, format_view, function_view, numeric_view, pattern_view, place_view, test_view, textual_view}
 use Rattle.pawk_code.specs.StatementViews.{seen, simple_view, stmt_view}
-use Rattle.pawk_semantics.specs.Meaning.{texts_of, values_of, arguments_of, suffixed, joined_texts, execs, turns, while_loop, visit_keys, for_keys, act_or_none, test_or_true}
-use Rattle.pawk_semantics.specs.Places.{variable_aim}
+use Rattle.pawk_store.specs.Meaning.{texts_of, values_of, arguments_of, suffixed, joined_texts, execs, turns, while_loop, visit_keys, for_keys, act_or_none, test_or_true}
+use Rattle.pawk_store.specs.Places.{variable_aim}
 use Rattle.pawk_runtime.specs.Moments.{holds_of, moment}
 use Rattle.pawk_eval.specs.Contexts.{functions_of, eres_in, enter_in, last_view}
 use Rattle.pawk_eval.specs.Contexts as contexts

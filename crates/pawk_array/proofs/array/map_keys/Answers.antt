@@ -8,7 +8,7 @@ use Rattle.pawk_keyed_map.specs.declared.key.Key.{Key}
 use Rattle.pawk_array.specs.ArrayViews.{entries_of}
 use Rattle.pawk_array.specs.Walks.{AreKeysOf}
 use Rattle.pawk_array.proofs.KeysLemmas.{pair_keys}
-use Rattle.pawk_scalar.specs.declared.values.Value.{Value}
+use Rattle.pawk_value.specs.declared.values.Value.{Value}
 use Rattle.pawk_array.proofs.array.map_keys.Goals as goal
 
 pub loop-place-preserved : goal.loop-place-preserved

@@ -2,7 +2,7 @@ use Rattle.std.proofs.Common.{subst, sym, map}
 use Rattle.pawk_value.specs.Value.{lent_value}
 use Rattle.pawk_code.specs.declared.expression.Format.{Format}
 use Rattle.pawk_code.specs.ExpressionViews.{format_view}
-use Rattle.pawk_semantics.specs.Builtins.{formatted_text}
+use Rattle.pawk_store.specs.Builtins.{formatted_text}
 use Rattle.pawk_builtins.specs.FormatViews.{format_text}
 use Rattle.pawk_builtins.specs.Settles.{Settles}
 use Rattle.pawk_builtins.proofs.FormatLemmas.{template_settles, format_settles}

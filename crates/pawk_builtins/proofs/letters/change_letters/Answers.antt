@@ -2,7 +2,7 @@ use Rattle.std.proofs.Common.{get_or, length, ◌<◌, ap, ◌∙◌, arith}
 use Rattle.std.specs.Prelude.{slice_set}
 use Rattle.std.proofs.lemmas.List.{get_or_default}
 use Rattle.std.proofs.lemmas.List.Edits.{map_over_more}
-use Rattle.pawk_semantics.specs.Builtins.{letter_in}
+use Rattle.pawk_store.specs.Builtins.{letter_in}
 use Rattle.pawk_builtins.proofs.letters.change_letters.Goals as goal
 
 pub loop-byte-preserved : goal.loop-byte-preserved

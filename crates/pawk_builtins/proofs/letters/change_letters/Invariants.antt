@@ -1,5 +1,5 @@
 use Rattle.std.proofs.Common.{◌≡◌, ◌++◌, map, take, drop}
-use Rattle.pawk_semantics.specs.Builtins.{letter_in}
+use Rattle.pawk_store.specs.Builtins.{letter_in}
 use Rattle.pawk_builtins.proofs.letters.change_letters.Given as goal
 
 abbrev pub invariant-loop-byte : goal.invariant-loop-byte

@@ -3,7 +3,7 @@ use Rattle.std.proofs.lemmas.List.{take_rest}
 use Rattle.pawk_ere.specs.Answers.{AreMissesFor, IsFor}
 use Rattle.pawk_code.specs.declared.word.ReplacedMatches.TheVariants.{All}
 use Rattle.pawk_value.specs.Limits.{length_limit}
-use Rattle.pawk_semantics.specs.Builtins.{replaced, replacement}
+use Rattle.pawk_store.specs.Builtins.{replaced, replacement}
 use Rattle.pawk_builtins.specs.ReplaceWalks.{IsAhead, IsNextReplaced}
 use Rattle.pawk_builtins.proofs.LongLemmas.{is_meant, both, longer}
 use Rattle.pawk_builtins.proofs.ReplaceLemmas.{laid_step, laid_all, count_more, count_within}

@@ -2,7 +2,7 @@ use Rattle.std.proofs.Common.{◌≡◌, ◌≤◌, length}
 use Rattle.pawk_ere_syntax.specs.Pattern.{Pattern}
 use Rattle.pawk_ere.specs.Answers.{AreMissesFor, IsFor}
 use Rattle.pawk_code.specs.declared.word.ReplacedMatches.TheVariants.{All}
-use Rattle.pawk_semantics.specs.Builtins.{replaced}
+use Rattle.pawk_store.specs.Builtins.{replaced}
 use Rattle.pawk_builtins.specs.ReplaceWalks.{replaced_after, left_after, IsLaidOut}
 use Rattle.pawk_builtins.proofs.replace.replace_all.Given as goal
 

@@ -1,5 +1,5 @@
 use Rattle.std.proofs.Common.{◌≡◌, ◌++◌, length}
-use Rattle.pawk_semantics.specs.Builtins.{replacement}
+use Rattle.pawk_store.specs.Builtins.{replacement}
 use Rattle.pawk_builtins.proofs.replacement.push_replacement.Given as goal
 
 abbrev pub invariant-loop-out : goal.invariant-loop-out

@@ -7,7 +7,7 @@ use Rattle.pawk_board.specs.History.{Lawful}
 use Rattle.pawk_board.specs.Views.{SeatView, fresh}
 use Rattle.pawk_board.proofs.Keyed.{kept_below, in_order}
 use Rattle.pawk_board.proofs.Weights.{Weighs}
-use Rattle.pawk_chunks.specs.Chunks.{AreResults}
+use Rattle.pawk_merge_law.specs.Chunks.{AreResults}
 use Rattle.pawk_chunks.specs.Worker.{Numbered, IsResultOf, numbers}
 use Rattle.pawk_chunks.specs.Shifts.{Worked, results_of, limit_of}
 use Rattle.pawk_chunks.specs.Task.{end_in}

@@ -1,6 +1,6 @@
 use Rattle.pawk_store.specs.Globals as globals
 use Rattle.pawk_frozen.specs.Frozens as frozen
-use Rattle.pawk_semantics.specs.Runs.{records_from}
+use Rattle.pawk_store.specs.Runs.{records_from}
 use Rattle.pawk_commute.specs.Traces.{traced}
 use Rattle.pawk_commute.specs.Commutation.{store_opening, chunk_opening}
 use Rattle.pawk_commute.proofs.AnswerLemmas.{in_lockstep}

@@ -1,6 +1,6 @@
 use Rattle.pawk_store.specs.Globals.{calls}
-use Rattle.pawk_semantics.specs.Runs.{records_from}
-use Rattle.pawk_semantics.proofs.Everything.{any_code}
+use Rattle.pawk_store.specs.Runs.{records_from}
+use Rattle.pawk_store.proofs.Everything.{any_code}
 use Rattle.pawk_commute.specs.Traces.{traced}
 use Rattle.pawk_commute.specs.TracedRuns.{plain}
 use Rattle.pawk_commute.proofs.OrderLemmas.{store_final}

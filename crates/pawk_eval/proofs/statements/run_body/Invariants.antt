@@ -1,6 +1,6 @@
 use Rattle.std.proofs.Common.{◌≡◌, ◌≤◌, ◌-◌, drop, length}
 use Rattle.pawk_code.specs.StatementViews.{seen}
-use Rattle.pawk_semantics.specs.Meaning.{execs}
+use Rattle.pawk_store.specs.Meaning.{execs}
 use Rattle.pawk_runtime.specs.Moments.{moment}
 use Rattle.pawk_eval.specs.Contexts.{eres_in, enter_in}
 use Rattle.pawk_eval.proofs.statements.run_body.Given as goal

@@ -1,6 +1,6 @@
 use Rattle.std.proofs.Common.{refl}
 use Rattle.pawk_code.specs.ProgramViews.{code_view}
-use Rattle.pawk_semantics.specs.LeftViews.{left_view}
+use Rattle.pawk_store.specs.LeftViews.{left_view}
 use Rattle.pawk_store.specs.Openings.{pairs_of}
 use Rattle.pawk_feeds.specs.declared.stream.Stream.{Stream}
 use Rattle.pawk_feeds.proofs.StreamLemmas.{if_err}

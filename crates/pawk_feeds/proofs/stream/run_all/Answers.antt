@@ -1,10 +1,11 @@
 use Rattle.std.proofs.Common.{[], ◌<◌, ◌+◌, refl, sym, ◌∙◌, arith}
 use Rattle.std.proofs.lemmas.List.{drop-set-lt}
-use Rattle.pawk_semantics.specs.LeftViews.{left_view}
+use Rattle.pawk_store.specs.LeftViews.{left_view}
 use Rattle.pawk_feeds.specs.declared.stream.Stream.{Stream}
 use Rattle.pawk_feeds.specs.Streams.{course_of}
 use Rattle.pawk_feeds.proofs.StreamLemmas.{if_err}
-use Rattle.pawk_feeds.proofs.TurnsLemmas.{drop_past, with_globals, is_after, ready_after, over_none, feeds_go, feeds_end, feeds_refuse, feeds_stay, feeds_all}
+use Rattle.pawk_window.proofs.PlaceLemmas.{drop_past}
+use Rattle.pawk_feeds.proofs.TurnsLemmas.{with_globals, is_after, ready_after, over_none, feeds_go, feeds_end, feeds_refuse, feeds_stay, feeds_all}
 use Rattle.pawk_feeds.proofs.stream.run_all.Goals as goal
 
 pub loop-feed-init : goal.loop-feed-init

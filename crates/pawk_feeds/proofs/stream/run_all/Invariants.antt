@@ -1,5 +1,5 @@
 use Rattle.std.proofs.Common.{◌≡◌, List, take, drop}
-use Rattle.pawk_windows.specs.Flows.{Turn}
+use Rattle.pawk_merge_law.specs.Flows.{Turn}
 use Rattle.pawk_feeds.specs.Feeds.{AreTurnsOf}
 use Rattle.pawk_feeds.specs.Streams.{IsReady, RunsOver, course_of}
 use Rattle.pawk_feeds.proofs.stream.run_all.Given as goal

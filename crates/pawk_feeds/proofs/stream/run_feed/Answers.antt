@@ -1,8 +1,8 @@
 use Rattle.std.proofs.Common.{ℕ, Vec, ap, refl, sym, subst, ◌∙◌}
 use Rattle.std.specs.declared.alloc.Global.{Global}
-use Rattle.pawk_semantics.specs.LeftViews.{left_view}
-use Rattle.pawk_semantics.specs.declared.left.Left.{Left as CodeLeft}
-use Rattle.pawk_semantics.specs.Records.{through}
+use Rattle.pawk_store.specs.LeftViews.{left_view}
+use Rattle.pawk_store.specs.declared.left.Left.{Left as CodeLeft}
+use Rattle.pawk_store.specs.Records.{through}
 use Rattle.pawk_window.specs.Windows.{Contents}
 use Rattle.pawk_feeds.specs.declared.stream.Stream.{Stream}
 use Rattle.pawk_feeds.specs.Streams.{Course, course_of, RunsOn, RefusesIn}

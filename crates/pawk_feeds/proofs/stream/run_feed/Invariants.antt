@@ -1,5 +1,5 @@
 use Rattle.std.proofs.Common.{◌≡◌, false}
-use Rattle.pawk_semantics.specs.Records.{through}
+use Rattle.pawk_store.specs.Records.{through}
 use Rattle.pawk_feeds.specs.Streams.{IsReady, RunsOn, course_of}
 use Rattle.pawk_feeds.proofs.stream.run_feed.Given as goal
 

@@ -1,7 +1,8 @@
 use Rattle.std.proofs.Common.{refl, ◌∙◌}
-use Rattle.pawk_flow.specs.declared.piece.Piece.{Piece}
+use Rattle.pawk_flow.specs.Piece.{Piece}
 use Rattle.pawk_feeds.specs.declared.stream.Stream.{Stream}
-use Rattle.pawk_feeds.specs.Streams.{Course, course_of, with_records}
+use Rattle.pawk_window.specs.Windows.{with_records}
+use Rattle.pawk_feeds.specs.Streams.{Course, course_of}
 use Rattle.pawk_feeds.proofs.StreamLemmas.{if_err, refuses_unwritten, piece_refuses, piece_runs}
 use Rattle.pawk_feeds.proofs.stream.step.Goals as goal
 

@@ -1,4 +1,4 @@
-use Rattle.pawk_semantics.specs.Outputs.{in_a_row}
+use Rattle.pawk_store.specs.Outputs.{in_a_row}
 use Rattle.pawk_feeds.proofs.StreamLemmas.{if_err, wrote_some}
 use Rattle.pawk_feeds.proofs.write.write_on.Goals as goal
 

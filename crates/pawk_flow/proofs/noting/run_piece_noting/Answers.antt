@@ -1,11 +1,11 @@
 use Rattle.std.proofs.Common.{◌∙◌, Bool, refl}
 use Rattle.pawk_code.specs.ProgramViews.{code_view}
 use Rattle.pawk_admit.specs.Roles.{roles_view}
-use Rattle.pawk_semantics.specs.LeftViews.{left_view}
+use Rattle.pawk_store.specs.LeftViews.{left_view}
 use Rattle.pawk_merge_law.specs.Phases.{CreatesElement, IsFault}
-use Rattle.pawk_flow.specs.Pieces.{phase_between}
-use Rattle.pawk_flow.specs.declared.flow.Flow.{Flow}
-use Rattle.pawk_flow.specs.declared.piece.PieceEnd.{PieceEnd}
+use Rattle.pawk_pieces.specs.Pieces.{phase_between}
+use Rattle.pawk_pieces.specs.declared.flow.Flow.{Flow}
+use Rattle.pawk_pieces.specs.declared.piece.PieceEnd.{PieceEnd}
 use Rattle.pawk_flow.proofs.NotingLemmas.{Tests, by_first, by_second, goes, plain_ends}
 use Rattle.pawk_flow.proofs.noting.run_piece_noting.Goals as goal
 use Rattle.pawk_flow.proofs.noting.run_piece_noting.Goals.{then-is_fault, else-is_fault}

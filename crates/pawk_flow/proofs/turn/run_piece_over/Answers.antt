@@ -1,10 +1,10 @@
 use Rattle.std.proofs.Common.{◌≡◌, ◌∙◌, ◌<◌, inr, subst, sym}
 use Rattle.pawk_code.specs.ProgramViews.{code_view}
 use Rattle.pawk_input.specs.Input.{files_of}
-use Rattle.pawk_semantics.specs.Records.{through}
-use Rattle.pawk_semantics.specs.declared.left.Left.TheVariants.{Through}
-use Rattle.pawk_sequential.specs.Ends.{end_view}
-use Rattle.pawk_flow.specs.Pieces.{passed_end}
+use Rattle.pawk_store.specs.Records.{through}
+use Rattle.pawk_store.specs.declared.left.Left.TheVariants.{Through}
+use Rattle.pawk_pieces.specs.Ends.{end_view}
+use Rattle.pawk_pieces.specs.Pieces.{passed_end}
 use Rattle.pawk_flow.specs.Stages.{flow_end}
 use Rattle.pawk_flow.proofs.PieceLemmas.{begins_at, counted, passed, same_end}
 use Rattle.pawk_flow.proofs.turn.run_piece_over.Goals as goal

@@ -1,8 +1,9 @@
 use Rattle.std.proofs.Common.{◌∙◌, ap, sym, subst}
 use Rattle.pawk_store.specs.RecordStates.{RecordState}
-use Rattle.pawk_semantics.specs.Outputs.{in_a_row}
-use Rattle.pawk_semantics.specs.LeftViews.{left_view}
-use Rattle.pawk_flow.specs.Stages.{WentFar, items_in, phase_in}
+use Rattle.pawk_store.specs.Outputs.{in_a_row}
+use Rattle.pawk_store.specs.LeftViews.{left_view}
+use Rattle.pawk_chunks.specs.Task.{items_in}
+use Rattle.pawk_flow.specs.Stages.{WentFar, phase_in}
 use Rattle.pawk_flow.proofs.FarLemmas.{far, left_out, went}
 use Rattle.pawk_flow.proofs.window.run_in_chunks.Goals as goal
 

@@ -1,10 +1,10 @@
 use Rattle.std.proofs.Common.{◌≡◌, ◌∙◌, ◌++◌, Vec, Global, ℕ, ap, sym, refl, not, true}
 use Rattle.pawk_code.specs.ProgramViews.{code_view}
 use Rattle.pawk_store.specs.StateViews.{state_of}
-use Rattle.pawk_semantics.specs.Outputs.{in_a_row}
-use Rattle.pawk_semantics.specs.LeftViews.{left_view}
+use Rattle.pawk_store.specs.Outputs.{in_a_row}
+use Rattle.pawk_store.specs.LeftViews.{left_view}
 use Rattle.pawk_merge.proofs.MergeLemmas.{in_a_row-push}
-use Rattle.pawk_threads.specs.Prologue.{end_of}
+use Rattle.pawk_routes.specs.Prologue.{end_of}
 use Rattle.pawk_flow.proofs.FarLemmas.{goes_on}
 use Rattle.pawk_flow.proofs.window.run_on.Goals as goal
 

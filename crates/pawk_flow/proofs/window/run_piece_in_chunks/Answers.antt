@@ -6,12 +6,13 @@ use Rattle.pawk_admit.specs.Roles.{roles_view}
 use Rattle.std.specs.List.{flat_map}
 use Rattle.pawk_input.specs.Plan.{chunk_items}
 use Rattle.pawk_store.specs.Globals.{Globals}
-use Rattle.pawk_semantics.specs.Records.{End}
+use Rattle.pawk_store.specs.Records.{End}
 use Rattle.pawk_merge_law.specs.Phases.{MayRun}
-use Rattle.pawk_threads.specs.Prologue.{end_of}
-use Rattle.pawk_flow.specs.Pieces.{end_between}
+use Rattle.pawk_routes.specs.Prologue.{end_of}
+use Rattle.pawk_pieces.specs.Pieces.{end_between}
 use Rattle.pawk_flow.specs.Stages.{flow_end}
-use Rattle.pawk_flow.proofs.PieceLemmas.{goes, numbered_on, order_at, runs, same_phase}
+use Rattle.pawk_pieces.proofs.NumberedLemmas.{numbered_on}
+use Rattle.pawk_flow.proofs.PieceLemmas.{goes, order_at, runs, same_phase}
 use Rattle.pawk_flow.proofs.window.run_piece_in_chunks.Goals as goal
 
 pub run_in_chunks-requires-clause-chunked : goal.run_in_chunks-requires-clause-chunked

@@ -1,4 +1,3 @@
-use Rattle.std.proofs.Common.{take, ◌-◌}
 use Rattle.pawk_records.specs.Separator.{rs_of}
 use Rattle.pawk_map.proofs.SayLemmas.{cut_bytes}
 use Rattle.pawk_map.proofs.cut.begin_of_last.Goals as goal

@@ -1,5 +1,4 @@
-use Rattle.std.proofs.Common.{◌≡◌, ◌∙◌, ◌-◌, List, ℕ, length, take, drop, ap, sym, subst}
-use Rattle.pawk_records.specs.Records.{records_by}
+use Rattle.std.proofs.Common.{◌∙◌, ◌-◌, length, take, drop, ap, subst}
 use Rattle.pawk_records.specs.Separator.{rs_of}
 use Rattle.pawk_map.specs.Sections.{Parts}
 use Rattle.pawk_map.proofs.SayLemmas.{cut_two}

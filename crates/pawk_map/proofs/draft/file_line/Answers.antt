@@ -1,4 +1,4 @@
-use Rattle.std.proofs.Common.{◌≡◌, ◌∙◌, ◌++◌, [], ℕ, List, Vec, Global, ap, sym, subst, rules}
+use Rattle.std.proofs.Common.{◌≡◌, ◌∙◌, ◌++◌, [], ℕ, Vec, Global, ap, sym, subst, rules}
 use Rattle.pawk_lines.specs.Lines.{line_bytes}
 use Rattle.pawk_lines.specs.Lines as lines
 use Rattle.pawk_map.specs.Maps.{IsFront}

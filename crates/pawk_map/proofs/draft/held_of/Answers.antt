@@ -1,4 +1,4 @@
-use Rattle.std.proofs.Common.{ℕ, List, Some, refl, sym, subst}
+use Rattle.std.proofs.Common.{Some, refl, sym, subst}
 use Rattle.pawk_map.specs.Maps.{IsHeld}
 use Rattle.pawk_map.specs.declared.draft.Course.{Course}
 use Rattle.pawk_map.specs.declared.draft.Held.{Held}

@@ -1,8 +1,7 @@
-use Rattle.std.proofs.Common.{◌≡◌, ◌∙◌, Option, Some, None, IfOk, ap, refl, sym, subst}
-use Rattle.pawk_map.specs.Maps.{Ground, Tells, held_items}
+use Rattle.std.proofs.Common.{Option, sym, subst}
+use Rattle.pawk_map.specs.Maps.{Tells, held_items}
 use Rattle.pawk_map.specs.declared.draft.Course.TheVariants.{On}
 use Rattle.pawk_map.specs.declared.draft.Held.{Held}
-use Rattle.pawk_map.specs.declared.draft.Progress.{Progress}
 use Rattle.pawk_map.proofs.MapLemmas.{tells_none}
 use Rattle.pawk_map.proofs.draft.keep_held.Goals as goal
 

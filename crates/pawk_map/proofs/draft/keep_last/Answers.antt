@@ -1,4 +1,4 @@
-use Rattle.std.proofs.Common.{◌≡◌, ◌∙◌, ◌++◌, ◌∷◌, [], ℕ, List, Vec, Global, Option, Result, IfOk, length, ap, refl, sym, subst}
+use Rattle.std.proofs.Common.{◌≡◌, ◌∙◌, ◌++◌, ◌∷◌, [], ℕ, List, length, ap, refl, sym, subst}
 use Rattle.pawk_lines.specs.Lines as lines
 use Rattle.pawk_lines.specs.Lines.{line_bytes}
 use Rattle.pawk_records.specs.Records.{records_by}

@@ -1,4 +1,4 @@
-use Rattle.std.proofs.Common.{◌≡◌, ◌+◌, ℕ, List, Option, sym, subst, rules, arith}
+use Rattle.std.proofs.Common.{◌≡◌, ◌+◌, subst, rules}
 use Rattle.pawk_map.specs.Maps.{IsFront, Writes}
 use Rattle.pawk_map.specs.declared.draft.Progress.{Progress}
 use Rattle.pawk_map.proofs.SayLemmas.{goes_under}

@@ -1,4 +1,4 @@
-use Rattle.std.proofs.Common.{◌≡◌, ◌∙◌, ◌++◌, ◌∷◌, [], ℕ, List, Vec, Global, Option, None, ap, refl, sym, subst}
+use Rattle.std.proofs.Common.{◌≡◌, ◌∙◌, ◌++◌, ◌∷◌, [], ℕ, Vec, Global, Option, ap, refl, sym, subst}
 use Rattle.std.specs.Prelude.{MatchOption}
 use Rattle.pawk_lines.specs.Lines as lines
 use Rattle.pawk_lines.specs.Lines.{line_bytes}

@@ -1,4 +1,4 @@
-use Rattle.std.proofs.Common.{◌≡◌, ◌∙◌, ◌-◌, ◌++◌, ℕ, List, length, ap, sym, subst}
+use Rattle.std.proofs.Common.{◌≡◌, ◌∙◌, ◌-◌, ◌++◌, List, length, ap, sym, subst}
 use Rattle.std.specs.Prelude.{All}
 use Rattle.pawk_lines.specs.Lines.{Line, IsLine}
 use Rattle.pawk_parts.specs.Parts.{all_bytes}

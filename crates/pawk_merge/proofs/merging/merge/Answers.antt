@@ -2,10 +2,10 @@ use Rattle.std.proofs.Common.{◌≡◌, ◌∷◌, true, false, Ok, map, refl, 
 use Rattle.std.specs.Vec.Iter.{into_iter_items}
 use Rattle.pawk_store.specs.Globals.{Globals}
 use Rattle.pawk_store.specs.StateViews.{state_of}
-use Rattle.pawk_semantics.specs.LeftViews.{left_view}
-use Rattle.pawk_semantics.specs.Records.{End}
+use Rattle.pawk_store.specs.LeftViews.{left_view}
+use Rattle.pawk_store.specs.Records.{End}
 use Rattle.pawk_merge.specs.Merges.{before_chunks, merge}
-use Rattle.pawk_semantics.specs.Outputs.{in_a_row}
+use Rattle.pawk_store.specs.Outputs.{in_a_row}
 use Rattle.pawk_merge.specs.MergeViews.{chunk_of, Continues}
 use Rattle.pawk_merge.proofs.MergeLemmas.{goes_on, ends, stops, stops_merge, same_end, no_items}
 use Rattle.pawk_merge.proofs.merging.merge.Goals as goal

@@ -1,8 +1,8 @@
 use Rattle.std.proofs.Common.{◌≡◌, length, map}
 use Rattle.std.specs.Vec.Iter.{into_iter_items, into_iter_len}
 use Rattle.pawk_store.specs.StateViews.{state_of}
-use Rattle.pawk_semantics.specs.LeftViews.{left_view}
-use Rattle.pawk_semantics.specs.Outputs.{in_a_row}
+use Rattle.pawk_store.specs.LeftViews.{left_view}
+use Rattle.pawk_store.specs.Outputs.{in_a_row}
 use Rattle.pawk_merge.specs.Merges.{before_chunks, merge}
 use Rattle.pawk_merge.specs.MergeViews.{chunk_of}
 use Rattle.pawk_merge.proofs.merging.merge.Given as goal

@@ -5,7 +5,7 @@ use Rattle.std.proofs.lemmas.List.{append-nil}
 use Rattle.std.proofs.lemmas.List.Folds.{flat_map-map}
 use Rattle.pawk_input.specs.Input.{Item}
 use Rattle.pawk_input.specs.Plan.{chunk_items}
-use Rattle.pawk_semantics.specs.Records.{through}
+use Rattle.pawk_store.specs.Records.{through}
 use Rattle.pawk_merge.specs.Merges.{before_chunks, merge}
 use Rattle.pawk_merge.specs.MergeViews.{chunk_of}
 use Rattle.pawk_merge_law.specs.Phases.{in_order, opening, FaultsOrCreates}

@@ -1,5 +1,5 @@
 use Rattle.std.proofs.Common.{◌≡◌, length, take}
-use Rattle.pawk_semantics.specs.Outputs.{in_a_row}
+use Rattle.pawk_store.specs.Outputs.{in_a_row}
 use Rattle.pawk_par.proofs.writing.size_of_all.Given as goal
 
 abbrev pub invariant-loop-part : goal.invariant-loop-part

@@ -1,6 +1,6 @@
 use Rattle.std.proofs.Common.{◌≡◌, ℕ, ◌+◌, ◌<◌, List, ◌++◌, length, take, drop, ap, subst, ◌∙◌, arith, length-append}
 use Rattle.std.specs.Io.KnownBytes.{Appends}
-use Rattle.pawk_semantics.specs.Outputs.{in_a_row}
+use Rattle.pawk_store.specs.Outputs.{in_a_row}
 use Rattle.pawk_device.proofs.TransferLemmas.{Appends-more}
 use Rattle.pawk_par.proofs.WritingLemmas.{take-into, take-whole, drop-past}
 use Rattle.pawk_par.proofs.writing.write_parts.Goals as goal

@@ -16,4 +16,4 @@ returns-in_ok-push_line-in-Some-clause-written c n slot array none =
     let after : Mark → Noted = λ w. record n { table = with_mark (cell.element slot key) w n.table } in
     let is_line : IsLine (lines.element key m) = (search rules, lent.0) in
     appends_line c.args.out.now.items c.push_line.new.out.items (lines.element key m) n (after (mark_view c.args.mark.now))
-    c.in_ok-push_line-in-Some.ensures.written is_line refl (element_said slot key m n array none ∙ ap (λ w. Some (after w)) lent.1)
+    c.in_ok-push_line-in-Some.ensures.written is_line refl (element_said slot key m n array lent.1 none ∙ ap (λ w. Some (after w)) lent.2)

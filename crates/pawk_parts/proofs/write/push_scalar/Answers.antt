@@ -16,4 +16,4 @@ returns-in_ok-push_line-clause-written c n within none =
     let after : Mark → Noted = λ w. record n { table = with_mark (cell.scalar slot) w n.table } in
     let is_line : IsLine (lines.scalar slot m) = (omega arith, lent.0) in
     appends_line c.args.out.now.items c.push_line.new.out.items (lines.scalar slot m) n (after (mark_view c.args.mark.now))
-    c.in_ok-push_line.ensures.written is_line refl (scalar_said slot m n within none ∙ ap (λ w. Some (after w)) lent.1)
+    c.in_ok-push_line.ensures.written is_line refl (scalar_said slot m n within lent.1 none ∙ ap (λ w. Some (after w)) lent.2)

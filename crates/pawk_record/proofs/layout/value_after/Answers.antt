@@ -1,5 +1,5 @@
 use Rattle.std.proofs.Common.{ap, sym, ◌∙◌, arith, Some}
-use Rattle.pawk_scalar.specs.Value.{lent_value}
+use Rattle.pawk_value.specs.Value.{lent_value}
 use Rattle.pawk_record.specs.Lines.{values}
 use Rattle.pawk_record.proofs.LineLemmas.{length-values, with_value_other, with_value_same}
 use Rattle.pawk_record.proofs.layout.value_after.Goals as goal

@@ -4,8 +4,8 @@ use Rattle.pawk_value.specs.Limits.{length_limit}
 use Rattle.pawk_value.specs.Value.{Val}
 use Rattle.pawk_code.specs.Expressions.{exprs}
 use Rattle.pawk_code.specs.ExpressionViews.{views}
-use Rattle.pawk_semantics.specs.Meaning.{suffixed}
-use Rattle.pawk_semantics.specs.Parts.{Hold, Part}
+use Rattle.pawk_store.specs.Meaning.{suffixed}
+use Rattle.pawk_store.specs.Parts.{Hold, Part}
 use Rattle.pawk_runtime.specs.Moments.{moment}
 use Rattle.pawk_runtime.proofs.Appending.{suffixed_next}
 use Rattle.pawk_runtime.proofs.append.push_after.Goals as goal

@@ -1,7 +1,7 @@
 use Rattle.std.proofs.Common.{ap, sym, ◌∙◌}
 use Rattle.pawk_value.specs.Value.{Uninit}
 use Rattle.pawk_builtins.specs.Pieces.{pieces_in}
-use Rattle.pawk_semantics.specs.Parts.{gives}
+use Rattle.pawk_store.specs.Parts.{gives}
 use Rattle.pawk_runtime.specs.Moments.{moment}
 use Rattle.pawk_runtime.proofs.Filling.{fill_nothing, fill_yields, fill_local}
 use Rattle.pawk_runtime.proofs.arrays.fill_array.Goals as goal

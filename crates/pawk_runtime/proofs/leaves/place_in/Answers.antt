@@ -1,5 +1,5 @@
 use Rattle.std.proofs.Common.{ℕ, suc, ◌+◌, ◌<◌, List, [], ◌∷◌, length, arith, rules, if◌then◌else◌, Bool, true, false}
-use Rattle.pawk_semantics.specs.Builtins.{index, index_from, begins_with}
+use Rattle.pawk_store.specs.Builtins.{index, index_from, begins_with}
 use Rattle.pawk_runtime.proofs.leaves.place_in.Goals as goal
 
 -- the place is one of the text

@@ -1,11 +1,11 @@
 use Rattle.std.proofs.Common.{◌≡◌, ◌<◌, ℕ, ℤ, List, refl, Result, Ok, Err}
-use Rattle.pawk_value.specs.Fault.{Fault}
+use Rattle.pawk_value.specs.declared.faults.Fault.{Fault}
 use Rattle.pawk_value.specs.Held.{added, held_value}
 use Rattle.pawk_value.specs.Conversion.{text_of}
 use Rattle.pawk_world.specs.declared.halt.Halt.{Halt as Code}
-use Rattle.pawk_semantics.specs.Builtins.{Replaced, replaced_by}
-use Rattle.pawk_semantics.specs.Meaning.{put_replaced}
-use Rattle.pawk_semantics.specs.Parts.{Moment, Part, bind, settle}
+use Rattle.pawk_store.specs.Builtins.{Replaced, replaced_by}
+use Rattle.pawk_store.specs.Meaning.{put_replaced}
+use Rattle.pawk_store.specs.Parts.{Moment, Part, bind, settle}
 use Rattle.pawk_builtins.specs.Replaces.{Left}
 use Rattle.pawk_builtins.specs.ExpressionViews.{expression_of}
 use Rattle.pawk_runtime.specs.Moments.{aim_view, moment}

@@ -3,9 +3,9 @@ use Rattle.std.proofs.lemmas.List.{length-append}
 use Rattle.pawk_value.specs.Value.{Val}
 use Rattle.pawk_code.specs.Expressions.{exprs}
 use Rattle.pawk_code.specs.ExpressionViews.{views}
-use Rattle.pawk_semantics.specs.Builtins.{joined_by}
-use Rattle.pawk_semantics.specs.Parts.{Hold, Moment, Part}
-use Rattle.pawk_semantics.specs.Meaning.{texts_of}
+use Rattle.pawk_store.specs.Builtins.{joined_by}
+use Rattle.pawk_store.specs.Parts.{Hold, Moment, Part}
+use Rattle.pawk_store.specs.Meaning.{texts_of}
 use Rattle.pawk_runtime.specs.Plain.{between}
 use Rattle.pawk_runtime.proofs.Pushing.{joined_more, texts_next}
 use Rattle.pawk_runtime.proofs.plain.push_all.Goals as goal

@@ -2,9 +2,9 @@ use Rattle.std.proofs.Common.{◌≡◌, ◌≤◌, ℕ, List, [], drop, length}
 use Rattle.pawk_value.specs.Value.{Val}
 use Rattle.pawk_code.specs.Expressions.{exprs}
 use Rattle.pawk_code.specs.ExpressionViews.{views}
-use Rattle.pawk_semantics.specs.Builtins.{joined_by}
-use Rattle.pawk_semantics.specs.Parts.{Hold, Part}
-use Rattle.pawk_semantics.specs.Meaning.{texts_of}
+use Rattle.pawk_store.specs.Builtins.{joined_by}
+use Rattle.pawk_store.specs.Parts.{Hold, Part}
+use Rattle.pawk_store.specs.Meaning.{texts_of}
 use Rattle.pawk_runtime.specs.Moments.{moment}
 use Rattle.pawk_runtime.proofs.plain.push_all.Given as goal
 

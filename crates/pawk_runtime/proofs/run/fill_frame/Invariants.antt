@@ -1,5 +1,5 @@
 use Rattle.std.proofs.Common.{◌≡◌, drop}
-use Rattle.pawk_semantics.specs.Parts.{entry_of, with_locals}
+use Rattle.pawk_store.specs.Parts.{entry_of, with_locals}
 use Rattle.pawk_runtime.specs.Moments.{holds_of}
 use Rattle.pawk_runtime.proofs.run.fill_frame.Given as goal
 

@@ -1,5 +1,5 @@
 use Rattle.std.proofs.Common.{◌≡◌, ◌++◌, drop}
-use Rattle.pawk_semantics.specs.Builtins.{joined_by, joined_after}
+use Rattle.pawk_store.specs.Builtins.{joined_by, joined_after}
 use Rattle.pawk_runtime.proofs.scalars.push_joined.Given as goal
 
 abbrev pub invariant-loop-number : goal.invariant-loop-number

@@ -6,8 +6,8 @@ use Rattle.pawk_store.specs.Globals.{Globals, calls}
 use Rattle.pawk_store.specs.Openings.{opened, pairs_of, texts_of}
 use Rattle.pawk_store.specs.RecordStates.{opening}
 use Rattle.pawk_store.specs.StateViews.{state_of}
-use Rattle.pawk_semantics.specs.Runs.{Finish}
-use Rattle.pawk_semantics.specs.Runs as spec
+use Rattle.pawk_store.specs.Runs.{Finish}
+use Rattle.pawk_store.specs.Runs as spec
 use Rattle.pawk_sequential.specs.RunEnds.{Finishes}
 use Rattle.pawk_sequential.proofs.FinishLemmas.{answers}
 use Rattle.pawk_sequential.proofs.outcome.run_one.Goals as goal

@@ -1,8 +1,8 @@
 use Rattle.std.proofs.Common.{◌≡◌, ◌∙◌, ap, sym, rules}
 use Rattle.pawk_code.specs.ProgramViews.{code_view}
 use Rattle.pawk_input.specs.Input.{item_of}
-use Rattle.pawk_semantics.specs.Records.{one_record, run_part}
-use Rattle.pawk_semantics.specs.Runs.{records_from}
+use Rattle.pawk_store.specs.Records.{one_record, run_part}
+use Rattle.pawk_store.specs.Runs.{records_from}
 use Rattle.pawk_sequential.specs.Ends.{end_view}
 use Rattle.pawk_sequential.proofs.RunLemmas.{last_record, next_record}
 use Rattle.pawk_sequential.proofs.records.run_each.Goals as goal

@@ -1,8 +1,8 @@
 use Rattle.std.proofs.Common.{◌≡◌, None}
 use Rattle.pawk_code.specs.ProgramViews.{code_view}
 use Rattle.pawk_input.specs.Walk.{items_left}
-use Rattle.pawk_semantics.specs.Runs.{records_from}
-use Rattle.pawk_semantics.specs.declared.left.Left.TheVariants.{Through}
+use Rattle.pawk_store.specs.Runs.{records_from}
+use Rattle.pawk_store.specs.declared.left.Left.TheVariants.{Through}
 use Rattle.pawk_sequential.specs.Ends.{end_view}
 use Rattle.pawk_sequential.proofs.records.run_each.Given as goal
 

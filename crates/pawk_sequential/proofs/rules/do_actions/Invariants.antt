@@ -2,7 +2,7 @@ use Rattle.std.proofs.Common.{◌≡◌, drop, map}
 use Rattle.pawk_code.specs.ProgramViews.{body_view}
 use Rattle.pawk_eval.specs.Contexts.{eres_of, functions_of}
 use Rattle.pawk_runtime.specs.Moments.{moment}
-use Rattle.pawk_semantics.specs.Records.{actions}
+use Rattle.pawk_store.specs.Records.{actions}
 use Rattle.pawk_sequential.proofs.rules.do_actions.Given as goal
 
 -- the actions that are left do what all of them do

@@ -2,7 +2,7 @@ use Rattle.std.proofs.Common.{◌≡◌, drop, map}
 use Rattle.pawk_code.specs.ProgramViews.{rule_view}
 use Rattle.pawk_eval.specs.Contexts.{eres_of, functions_of}
 use Rattle.pawk_runtime.specs.Moments.{moment}
-use Rattle.pawk_semantics.specs.Records.{rules_from}
+use Rattle.pawk_store.specs.Records.{rules_from}
 use Rattle.pawk_sequential.proofs.rules.do_rules.Given as goal
 
 -- the rules that are left do what all of them do

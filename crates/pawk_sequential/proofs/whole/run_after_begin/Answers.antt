@@ -1,8 +1,8 @@
 use Rattle.std.proofs.Common.{ap}
 use Rattle.pawk_code.specs.ProgramViews.{code_view}
 use Rattle.pawk_input.specs.Input.{files_of}
-use Rattle.pawk_semantics.specs.LeftViews.{left_view}
-use Rattle.pawk_semantics.specs.Runs.{after_begin}
+use Rattle.pawk_store.specs.LeftViews.{left_view}
+use Rattle.pawk_store.specs.Runs.{after_begin}
 use Rattle.pawk_sequential.specs.declared.ending.Ending.TheVariants as ending
 use Rattle.pawk_sequential.specs.declared.ending.Place.TheVariants as place
 use Rattle.pawk_sequential.specs.Ends.{end_view}

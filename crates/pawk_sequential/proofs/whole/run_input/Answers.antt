@@ -3,9 +3,9 @@ use Rattle.pawk_code.specs.ProgramViews.{code_view}
 use Rattle.pawk_input.specs.Input.{files_of, items}
 use Rattle.pawk_store.specs.Slots.{rs_slot}
 use Rattle.pawk_value.specs.Conversion.{text_of}
-use Rattle.pawk_value.specs.Fault.TheVariants as faults
-use Rattle.pawk_semantics.specs.Runs.{records_from}
-use Rattle.pawk_semantics.specs.declared.left.Left.TheVariants.{Through}
+use Rattle.pawk_value.specs.declared.faults.Fault.TheVariants as faults
+use Rattle.pawk_store.specs.Runs.{records_from}
+use Rattle.pawk_store.specs.declared.left.Left.TheVariants.{Through}
 use Rattle.pawk_sequential.specs.declared.ending.Ending.TheVariants as ending
 use Rattle.pawk_sequential.specs.declared.ending.Place.TheVariants as place
 use Rattle.pawk_sequential.specs.Ends.{end_view}

@@ -1,8 +1,8 @@
 use Rattle.std.proofs.Common.{◌∙◌, None, ap, sym}
 use Rattle.pawk_code.specs.ProgramViews.{code_view}
-use Rattle.pawk_semantics.specs.Records.{End}
-use Rattle.pawk_semantics.specs.Runs.{after_records, records_from}
-use Rattle.pawk_semantics.specs.declared.left.Left.TheVariants.{Through}
+use Rattle.pawk_store.specs.Records.{End}
+use Rattle.pawk_store.specs.Runs.{after_records, records_from}
+use Rattle.pawk_store.specs.declared.left.Left.TheVariants.{Through}
 use Rattle.pawk_sequential.specs.Ends.{end_view}
 use Rattle.pawk_sequential.proofs.FinishLemmas.{finishes}
 use Rattle.pawk_sequential.proofs.whole.run_mended.Goals as goal

@@ -1,15 +1,17 @@
 use Rattle.std.proofs.Common.{true, refl}
 use Rattle.std.proofs.KnownBytes.{Keeps-refl}
+use Rattle.std.specs.Prelude.{not}
 use Rattle.pawk_code.specs.ProgramViews.{code_view}
 use Rattle.pawk_admit.specs.Roles.{roles_view}
-use Rattle.pawk_semantics.specs.LeftViews.{left_view}
-use Rattle.pawk_semantics.specs.Outputs.{in_a_row}
-use Rattle.pawk_flow.specs.declared.piece.Piece.{Piece}
+use Rattle.pawk_store.specs.LeftViews.{left_view}
+use Rattle.pawk_store.specs.Outputs.{in_a_row}
+use Rattle.pawk_flow.specs.Piece.{Piece}
 use Rattle.pawk_tables.specs.Layout.{kept}
 use Rattle.pawk_table_merge.specs.declared.section.Progress.{Progress}
 use Rattle.pawk_table_merge.proofs.KeptLemmas.{Laws, kept_section, last_so}
 use Rattle.pawk_table_merge.proofs.RefusalLemmas.{if_err, section_unwritten, kept_refused}
 use Rattle.pawk_table_merge.proofs.RefusalLemmas as refusals
+use Rattle.pawk_table_merge.proofs.CarryLemmas.{kept_goes_on}
 use Rattle.pawk_table_merge.proofs.section.merge_kept.Goals as goal
 
 pub returns-clause-merges : goal.returns-clause-merges
@@ -17,7 +19,7 @@ returns-clause-merges g c =
     let s = c.args.setting in
     let old = c.args.progress in
     let x = c.in_ok-flow.end in
-    let new : Progress = record { flow = c.in_ok-flow.flow; name = old.name; has_record = true } in
+    let new : Progress = record { flow = c.in_ok-flow.flow; name = old.name; has_record = true; is_ready = not x.is_stopped } in
     let piece : Piece = record { rs = s.rs; name = old.name; fnr = c.args.fnr; bytes = c.in_ok-from_slice.field-0 } in
     let law : Laws = record {
       turn = c.records_go_on.ensures.turn;
@@ -33,6 +35,14 @@ returns-clause-merges g c =
           kept_section law (code_view s.job.code.now) (roles_view s.roles.now) s.job.budget b may s.rs.now items output old new is_in ss piece x c.in_ok-flow.ensures.runs
           c.args.fnr c.args.bytes.now refl refl refl c.in_ok-from_slice.ensures.items c.in_ok-flow.ensures.goes refl c.records_in.result c.end_of-end.result c.end_of-end.ensures chunks told;
     }
+
+pub returns-clause-ready : goal.returns-clause-ready
+returns-clause-ready g c = λ ready.
+    let s = c.args.setting in
+    let old = c.args.progress in
+    let x = c.in_ok-flow.end in
+    let piece : Piece = record { rs = s.rs; name = old.name; fnr = c.args.fnr; bytes = c.in_ok-from_slice.field-0 } in
+    kept_goes_on (code_view s.job.code.now) (roles_view s.roles.now) s.job.budget piece old.flow c.in_ok-flow.flow x.is_stopped c.in_ok-flow.ensures.goes ready
 
 pub returns-in_err-from_slice-clause-refused : goal.returns-in_err-from_slice-clause-refused
 returns-in_err-from_slice-clause-refused g c =

@@ -12,7 +12,7 @@ pub returns-in-File-clause-merges : goal.returns-in-File-clause-merges
 returns-in-File-clause-merges g c =
     let s = c.args.setting in
     let old = c.args.progress in
-    let new : Progress = record { flow = old.flow; name = c.in-File.name; has_record = old.has_record } in
+    let new : Progress = record { flow = old.flow; name = c.in-File.name; has_record = old.has_record; is_ready = old.is_ready } in
     record {
       wrote = [];
       appends = Appends-nil _;

@@ -31,6 +31,14 @@ returns-clause-merges g c =
           (subst (λ (r : List ℕ). Tell p r (p.state.nr + length items) [] sections chunks) (sym c.deref.ensures.value) here);
     }
 
+pub returns-clause-of : goal.returns-clause-of
+returns-clause-of g c = record {
+  one_byte = c.requires.one_byte;
+  admissible = c.requires.admissible;
+  roles = c.requires.roles;
+  ready = c.in_ok-flow.ensures.ready;
+}
+
 pub returns-in_err-check_before-clause-refused : goal.returns-in_err-check_before-clause-refused
 returns-in_err-check_before-clause-refused g c =
     let law : Laws = record { pieces = c.pieces_follow.ensures.pieces tt; output = c.output_is_appended.ensures.records tt } in

@@ -1,4 +1,4 @@
-use Rattle.pawk_semantics.specs.Outputs.{in_a_row}
+use Rattle.pawk_store.specs.Outputs.{in_a_row}
 use Rattle.pawk_table_merge.proofs.RefusalLemmas.{if_err, wrote_part}
 use Rattle.pawk_table_merge.proofs.write.write_parts.Goals as goal
 

@@ -6,7 +6,7 @@ use Rattle.pawk_store.specs.StateViews.{state_of}
 use Rattle.pawk_admit.specs.Roles.{roles_view}
 use Rattle.pawk_merge.specs.Merges.{merge, before_chunks}
 use Rattle.pawk_merge.specs.MergeViews.{chunk_of, end_view}
-use Rattle.pawk_threads.specs.Prologue.{end_of}
+use Rattle.pawk_routes.specs.Prologue.{end_of}
 use Rattle.pawk_threads.proofs.MergedLemmas.{law_of, merged, no_cutting, stopped, stop_told}
 use Rattle.pawk_threads.proofs.chunked.merge_plan.Goals as goal
 

@@ -6,8 +6,8 @@ use Rattle.pawk_admit.specs.Roles.{roles_view}
 use Rattle.pawk_merge.specs.declared.merging.Merged.{Merged}
 use Rattle.pawk_merge_law.specs.Phases.{FaultsOrCreates}
 use Rattle.pawk_sequential.specs.RunEnds.{Answers}
-use Rattle.pawk_threads.specs.Prologue.{IsMerged, end_of}
-use Rattle.pawk_threads.specs.Routes.{phase_after}
+use Rattle.pawk_routes.specs.Prologue.{IsMerged, end_of}
+use Rattle.pawk_routes.specs.Routes.{phase_after}
 use Rattle.pawk_threads.proofs.chunked.run_plan.Goals as goal
 
 pub returns-in_ok-go_on_merged-in-Some-clause-went : goal.returns-in_ok-go_on_merged-in-Some-clause-went

@@ -3,10 +3,10 @@ use Rattle.pawk_code.specs.ProgramViews.{code_view}
 use Rattle.pawk_store.specs.Globals.{Globals}
 use Rattle.pawk_store.specs.RecordStates.{special_value}
 use Rattle.pawk_store.specs.StateViews.{state_of}
-use Rattle.pawk_semantics.specs.LeftViews.{left_view}
-use Rattle.pawk_semantics.specs.Outputs.{in_a_row}
-use Rattle.pawk_semantics.specs.Records.{End}
-use Rattle.pawk_semantics.specs.Runs.{Finish}
+use Rattle.pawk_store.specs.LeftViews.{left_view}
+use Rattle.pawk_store.specs.Outputs.{in_a_row}
+use Rattle.pawk_store.specs.Records.{End}
+use Rattle.pawk_store.specs.Runs.{Finish}
 use Rattle.pawk_merge.specs.MergeViews as merges
 use Rattle.pawk_sequential.specs.RunEnds.{finish_view}
 use Rattle.pawk_merge_law.specs.Gathered.{after_output}

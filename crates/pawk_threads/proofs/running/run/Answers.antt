@@ -2,8 +2,8 @@ use Rattle.std.proofs.Common.{subst}
 use Rattle.pawk_code.specs.ProgramViews.{code_view}
 use Rattle.pawk_input.specs.Input.{files_of}
 use Rattle.pawk_store.specs.Openings.{pairs_of}
-use Rattle.pawk_threads.specs.Prologue.{Goes}
-use Rattle.pawk_threads.specs.Routes.{begin_end, whole_run}
+use Rattle.pawk_routes.specs.Prologue.{Goes}
+use Rattle.pawk_routes.specs.Routes.{begin_end, whole_run}
 use Rattle.pawk_threads.proofs.AllowedLemmas.{told}
 use Rattle.pawk_threads.proofs.running.run.Goals as goal
 

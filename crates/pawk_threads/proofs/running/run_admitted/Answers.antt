@@ -1,11 +1,11 @@
 use Rattle.std.proofs.Common.{◌≡◌, ◌≤◌, length, Some, None, ap, subst, ◌∙◌}
 use Rattle.pawk_code.specs.ProgramViews.{code_view}
 use Rattle.pawk_input.specs.Input.{files_of}
-use Rattle.pawk_semantics.specs.Runs.{take_separator}
+use Rattle.pawk_store.specs.Runs.{take_separator}
 use Rattle.pawk_admit.specs.Roles.{roles_view}
-use Rattle.pawk_threads.specs.Prologue.{Goes, end_of}
-use Rattle.pawk_threads.specs.Routes.{separator_of}
-use Rattle.pawk_threads.specs.declared.report.Route.TheVariants.{Parallel}
+use Rattle.pawk_routes.specs.Prologue.{Goes, end_of}
+use Rattle.pawk_routes.specs.Routes.{separator_of}
+use Rattle.pawk_routes.specs.declared.report.Route.TheVariants.{Parallel}
 use Rattle.pawk_threads.proofs.RouteLemmas.{goes_merged, goes_again}
 use Rattle.pawk_threads.proofs.running.run_admitted.Goals as goal
 

@@ -3,9 +3,9 @@ use Rattle.pawk_code.specs.ProgramViews.{code_view}
 use Rattle.pawk_input.specs.Input.{files_of}
 use Rattle.pawk_store.specs.Openings.{pairs_of}
 use Rattle.pawk_admit.specs.Reaches.{Occurs}
-use Rattle.pawk_threads.specs.Prologue.{Goes, end_of}
-use Rattle.pawk_threads.specs.Cuttings.{HasNoPlan}
-use Rattle.pawk_threads.specs.declared.report.Route.TheVariants.{NotAdmitted}
+use Rattle.pawk_routes.specs.Prologue.{Goes, end_of}
+use Rattle.pawk_routes.specs.Cuttings.{HasNoPlan}
+use Rattle.pawk_routes.specs.declared.report.Route.TheVariants.{NotAdmitted}
 use Rattle.pawk_threads.proofs.BeginLemmas.{none_read}
 use Rattle.pawk_threads.proofs.RouteLemmas.{first_reason}
 use Rattle.pawk_threads.proofs.running.run_once.Goals as goal

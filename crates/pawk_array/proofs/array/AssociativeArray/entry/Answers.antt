@@ -5,7 +5,7 @@ use Rattle.pawk_array.specs.Entries.{found, put, value_of}
 use Rattle.pawk_array.specs.ArrayViews.{entries_of}
 use Rattle.indexmap.specs.IndexMap.{set_value_at}
 use Rattle.pawk_keyed_map.proofs.PairsLemmas.{put_written, value_at, rise-seen_by, touched_seen}
-use Rattle.pawk_scalar.specs.declared.values.Value.TheVariants as value
+use Rattle.pawk_value.specs.declared.values.Value.TheVariants as value
 use Rattle.pawk_keyed_map.proofs.EntriesLemmas.{value_touched, put-put}
 use Rattle.pawk_array.proofs.PiecesLemmas.{seen_pairs}
 use Rattle.pawk_array.proofs.array.AssociativeArray.entry.Goals as goal

@@ -6,7 +6,7 @@ use Rattle.pawk_array.specs.Entries.{found, touched, value_of}
 use Rattle.pawk_array.specs.ArrayViews.{entries_of}
 use Rattle.pawk_array.specs.Pieces.{with_texts}
 use Rattle.pawk_keyed_map.proofs.PairsLemmas.{entry_at, touched_seen}
-use Rattle.pawk_scalar.specs.declared.values.Value.TheVariants as value
+use Rattle.pawk_value.specs.declared.values.Value.TheVariants as value
 use Rattle.pawk_keyed_map.proofs.EntriesLemmas.{value_touched, touched_found}
 use Rattle.pawk_array.proofs.PiecesLemmas.{found-piece, rise-seen, seen_pairs, seen_pieces, some_pieces}
 use Rattle.pawk_array.proofs.array.AssociativeArray.touch.Goals as goal

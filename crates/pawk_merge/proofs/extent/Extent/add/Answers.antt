@@ -1,5 +1,5 @@
 use Rattle.std.proofs.Common.{◌∷◌, [], length, refl, sym, ◌∙◌, ap, length-append}
-use Rattle.pawk_semantics.specs.LeftViews.{left_view}
+use Rattle.pawk_store.specs.LeftViews.{left_view}
 use Rattle.pawk_merge.specs.ExtentViews.{extent_view}
 use Rattle.pawk_merge.specs.MergeViews.{chunk_of}
 use Rattle.pawk_merge.specs.Tables.{all_take}

@@ -1,7 +1,7 @@
 use Rattle.std.proofs.Common.{◌≡◌, ◌∙◌, refl, sym, ap, subst, List, ℕ, Some, None, IfSome, Result, Ok, Err, OnOk, Vec, Global}
 use Rattle.std.specs.Option.{option_map}
 use Rattle.std.specs.declared.alloc.AllocError.{AllocError}
-use Rattle.pawk_semantics.specs.Runs.{records_from}
+use Rattle.pawk_store.specs.Runs.{records_from}
 use Rattle.pawk_prefilter.specs.Needs.{moved_on, any_resets}
 use Rattle.pawk_store.specs.StateViews.{state_of}
 use Rattle.pawk_prefilter.specs.Passages.{AreNeeded, Known, end_with}

@@ -2,9 +2,9 @@ use Rattle.std.proofs.Common.{◌≡◌, ◌∙◌, ◌+◌, ◌-◌, ◌<◌, �
 use Rattle.std.proofs.lemmas.Result.{on_ok_weaker}
 use Rattle.std.specs.Prelude.{IfErr, slice_get}
 use Rattle.pawk_fields.specs.FieldSeparator.{range_of}
-use Rattle.pawk_scalar.specs.Conversion.{text_of}
-use Rattle.pawk_scalar.specs.Value.{Val, lent_value}
-use Rattle.pawk_value.specs.Fault.TheVariants.{Length}
+use Rattle.pawk_value.specs.Conversion.{text_of}
+use Rattle.pawk_value.specs.Value.{Val, lent_value}
+use Rattle.pawk_value.specs.declared.faults.Fault.TheVariants.{Length}
 use Rattle.pawk_fields.specs.FieldsOf.{IfFault}
 use Rattle.pawk_record.specs.declared.layout.Layout.{Layout}
 use Rattle.pawk_record.specs.Lines.{Adds, IsLaidOut, Replaces, before_at, values_of}

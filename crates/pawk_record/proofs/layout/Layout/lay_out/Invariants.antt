@@ -1,6 +1,6 @@
 use Rattle.std.proofs.Common.{◌≤◌, length}
-use Rattle.pawk_scalar.specs.Limits.{length_limit}
-use Rattle.pawk_scalar.specs.Value.{lent_value}
+use Rattle.pawk_value.specs.Limits.{length_limit}
+use Rattle.pawk_value.specs.Value.{lent_value}
 use Rattle.pawk_record.specs.Lines.{IsLaidOutTo, values}
 use Rattle.pawk_record.specs.Records.{with_value}
 use Rattle.pawk_record.proofs.layout.Layout.lay_out.Given as goal

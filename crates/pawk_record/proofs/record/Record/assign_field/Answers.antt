@@ -1,9 +1,9 @@
 use Rattle.std.proofs.Common.{◌≡◌, ◌<◌, ◌≤◌, ◌++◌, ◌∙◌, true, false, ℕ, None, Some, Ok, Err, arith, ap, sym, refl, length, map, subst, Bool}
 use Rattle.std.proofs.lemmas.Result.{err_from_is_err_and}
 use Rattle.pawk_fields.specs.FieldSeparator.{range_of}
-use Rattle.pawk_scalar.specs.Value.{lent_value}
-use Rattle.pawk_value.specs.Fault.{Fault}
-use Rattle.pawk_value.specs.Fault.TheVariants.{Length}
+use Rattle.pawk_value.specs.Value.{lent_value}
+use Rattle.pawk_value.specs.declared.faults.Fault.{Fault}
+use Rattle.pawk_value.specs.declared.faults.Fault.TheVariants.{Length}
 use Rattle.pawk_record.specs.Lines.{IsJoined, IsLaidOut, line_of, values, values_of}
 use Rattle.pawk_record.specs.Records.{Record, SplitRecord, joined, with_field, with_value}
 use Rattle.pawk_record.specs.Splitting.{left}

@@ -1,0 +1,6 @@
+pub mod MarkLemmas
+pub mod KeyLemmas
+pub mod NotingLemmas
+pub mod SlotLemmas
+pub mod TableLemmas
+pub mod SumLemmas

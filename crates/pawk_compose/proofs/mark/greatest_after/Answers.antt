@@ -1,0 +1,32 @@
+use Rattle.std.proofs.Common.{◌≡◌, ◌+ℤ◌, true, false, sym, ◌∙◌, rules}
+use Rattle.std.specs.Int.{int_max, saturate_signed}
+use Rattle.std.proofs.lemmas.Int.{to_z-of_z}
+use mir.Syntax.{w128}
+use mir.Val.{SFits}
+use Rattle.pawk_frozen.specs.Frozens.{is_sum}
+use Rattle.pawk_compose.proofs.SumLemmas.{greatest_kept, greatest_lost}
+use Rattle.pawk_compose.proofs.mark.greatest_after.Goals as goal
+
+pub returns-then-is_sum-clause-some : goal.returns-then-is_sum-clause-some
+returns-then-is_sum-clause-some c =
+    let z = c.args.first +ℤ c.args.second in
+    let s = c.saturating_add.result in
+    let r = c.max-sum.result in
+    let s_fits : SFits w128 s = search rules in
+    let r_fits : SFits w128 r = search rules in
+    let left : s ≡ saturate_signed w128 z = rw (to_z-of_z w128 c.args.first c.ranges.first, to_z-of_z w128 c.args.second c.ranges.second) at c.saturating_add.ensures in
+    let is : r ≡ int_max c.args.greatest s = rw (to_z-of_z w128 c.args.greatest c.ranges.greatest, to_z-of_z w128 s s_fits) at c.max-sum.ensures.value in
+    let kept : is_sum r ≡ true = rw (to_z-of_z w128 r r_fits) at (sym c.is_sum.ensures ∙ c.if-is_sum.true) in
+    rw (to_z-of_z w128 r r_fits) (greatest_kept c.args.greatest z s r c.ranges.greatest left is kept)
+
+pub returns-else-is_sum-clause-none : goal.returns-else-is_sum-clause-none
+returns-else-is_sum-clause-none c =
+    let z = c.args.first +ℤ c.args.second in
+    let s = c.saturating_add.result in
+    let r = c.max-sum.result in
+    let s_fits : SFits w128 s = search rules in
+    let r_fits : SFits w128 r = search rules in
+    let left : s ≡ saturate_signed w128 z = rw (to_z-of_z w128 c.args.first c.ranges.first, to_z-of_z w128 c.args.second c.ranges.second) at c.saturating_add.ensures in
+    let is : r ≡ int_max c.args.greatest s = rw (to_z-of_z w128 c.args.greatest c.ranges.greatest, to_z-of_z w128 s s_fits) at c.max-sum.ensures.value in
+    let lost : is_sum r ≡ false = rw (to_z-of_z w128 r r_fits) at (sym c.is_sum.ensures ∙ c.if-is_sum.false) in
+    greatest_lost c.args.greatest z s r c.ranges.greatest left is lost

@@ -1,0 +1,2 @@
+pub mod Compositions
+pub mod Lending

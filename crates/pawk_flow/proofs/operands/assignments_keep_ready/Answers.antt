@@ -1,5 +1,0 @@
-use Rattle.pawk_flow.proofs.OperandLemmas.{keeps_ready}
-use Rattle.pawk_flow.proofs.operands.assignments_keep_ready.Goals as goal
-
-pub returns : goal.returns
-returns c = keeps_ready

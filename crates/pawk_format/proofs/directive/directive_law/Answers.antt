@@ -1,9 +1,0 @@
-use Rattle.pawk_format.proofs.DirectiveLawLemmas as lemmas
-use Rattle.pawk_format.proofs.directive.directive_law.Goals as goal
-
-pub returns : goal.returns
-returns c = record {
-  writes = lemmas.directive_law c.args.directive;
-  fails = lemmas.directive_faults c.args.directive;
-  idle = lemmas.zero_is_idle c.args.directive;
-}

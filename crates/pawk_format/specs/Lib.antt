@@ -1,6 +1,0 @@
-pub mod Format
-pub mod FormatViews
-pub mod FormatResults
-pub mod FormatLaw
-pub mod DirectiveLaw
-pub mod TemplateViews

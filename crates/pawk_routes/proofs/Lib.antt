@@ -1,0 +1,3 @@
+pub mod EndLemmas
+pub mod TotalLemmas
+pub mod SizedLemmas

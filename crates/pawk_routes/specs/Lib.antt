@@ -1,0 +1,4 @@
+pub mod Routes
+pub mod Cuttings
+pub mod Prologue
+pub use Rattle.pawk_board.specs.Limits

@@ -1,5 +1,0 @@
-use Rattle.std.proofs.Common.{rules}
-use Rattle.pawk_scalar.proofs.comparison.compare.Goals as goal
-
-pub returns : goal.returns
-returns c = search rules depth 3

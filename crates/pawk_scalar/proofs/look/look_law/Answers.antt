@@ -1,5 +1,0 @@
-use Rattle.pawk_scalar.proofs.LookLemmas as lemmas
-use Rattle.pawk_scalar.proofs.look.look_law.Goals as goal
-
-pub returns : goal.returns
-returns c = lemmas.look_law c.args.text.now

@@ -1,7 +1,0 @@
-use Rattle.std.proofs.Common.{◌≡◌, ℕ, ◌<◌, get_or, true, take, min}
-use Rattle.pawk_scalar.specs.Bytes.{is_digit}
-use Rattle.pawk_scalar.specs.Numeral.{digits_value}
-use Rattle.pawk_scalar.proofs.numeral.leading_digits.Given as goal
-
-abbrev pub invariant-loop-i : goal.invariant-loop-i
-invariant-loop-i l = ((k : ℕ) → k < l.i → is_digit (get_or l.text k 0) ≡ true) × (l.value ≡ min (digits_value (take l.i l.text)) 9223372036854775809)

@@ -1,5 +1,0 @@
-use Rattle.pawk_scalar.proofs.NumeralLemmas as lemmas
-use Rattle.pawk_scalar.proofs.numeral.numeral_law.Goals as goal
-
-pub returns : goal.returns
-returns c = lemmas.numeral_law c.args.text.now

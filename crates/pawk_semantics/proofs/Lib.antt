@@ -1,9 +1,0 @@
-pub mod Later
-pub mod Going
-pub mod InExpressions
-pub mod InStatements
-pub mod InRecords
-pub mod InRuns
-pub mod Alone
-pub mod Everything
-pub mod Framing

@@ -1,5 +1,0 @@
-use Rattle.pawk_store.proofs.ListingLawLemmas.{listing_holds}
-use Rattle.pawk_store.proofs.laws.listing_law.Goals as goal
-
-pub returns : goal.returns
-returns c = listing_holds

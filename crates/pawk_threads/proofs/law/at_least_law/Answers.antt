@@ -1,5 +1,0 @@
-use Rattle.pawk_threads.proofs.SizedLemmas.{is_planned}
-use Rattle.pawk_threads.proofs.law.at_least_law.Goals as goal
-
-pub returns : goal.returns
-returns c = is_planned
