@@ -76,9 +76,8 @@ beside-memory beside-pieces beside-crates:
 beside-shards:
 	@tests/shards quick
 
-# (it calls make itself)
 beside-release:
-	@env -u MAKEFLAGS -u MFLAGS tests/release
+	@tests/release
 
 release: toolchain
 	@release/make
